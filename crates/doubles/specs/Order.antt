@@ -1,0 +1,35 @@
+-- The terms in which the laws of doubles are stated. Each is a record of one test, so that a proof finds it by its name.
+-- Zeros of either sign are level, an infinity lies beyond every finite double, and a NaN stands in no relation.
+use mathlib.Core.Bool.{not}
+use lib.Dec.{T}
+use lib.Ieee.{Float, binary64, lt, le, fits, isNan}
+use lib.Ieee.Scale.{finite}
+
+infix 4 _≼_
+infix 4 _≺_
+infix 4 _≈_
+
+-- x <= y
+pub record _≼_ (x y : Float) : Type 0 where
+  pub holds : T (le x y)
+
+-- x < y
+pub record _≺_ (x y : Float) : Type 0 where
+  pub holds : T (lt x y)
+
+-- level: each is at most the other
+pub record _≈_ (x y : Float) : Type 0 where
+  pub below : x ≼ y
+  pub above : y ≼ x
+
+-- no NaN
+pub record Number (x : Float) : Type 0 where
+  pub holds : T (not (isNan x))
+
+-- neither a NaN nor an infinity
+pub record Finite (x : Float) : Type 0 where
+  pub holds : T (finite x)
+
+-- a double of the format binary64, written in the one way: what every parameter, constant and result of an operation is
+pub record Fits (x : Float) : Type 0 where
+  pub holds : T (fits binary64 x)
