@@ -41,7 +41,7 @@ both : (a b : Bool) → T a → T b → T (a && b)
 both true b s t = t
 both false b s t = s
 
-eq→eqb : (a b : ℕ) → a ≡ b → T (eqb a b)
+pub eq→eqb : (a b : ℕ) → a ≡ b → T (eqb a b)
 eq→eqb a b e = subst (λ (x : ℕ). T (eqb a x)) e (eqb-refl a)
 
 -- ---- a finite double as a signed fraction
