@@ -1,5 +1,5 @@
 -- Where an operation rounds nothing: a double is the rounding of its own value, adding or taking away a zero leaves it as it is,
--- and x / x is 1. And what follows for the order: x − y ≤ x ≤ x + y for y ≥ 0, x / z ≤ 1 for x ≤ z. Assumes nothing.
+-- and x / x is 1. Assumes nothing.
 use mathlib.Core.Path.{_≡_, refl, sym, ap, _∙_, subst}
 use mathlib.Core.Logic.{_⊎_, inl, inr}
 use mathlib.Core.Bool.{Bool, true, false, not, _&&_, _||_, Bool·beq, cond}
@@ -18,7 +18,7 @@ use lib.Ieee.Nearest.{div-same}
 use lib.Ieee.Scale.{finite, round-same}
 use borrow.Author.Tests.{le-ltb, lt-ltb}
 use Rattle.doubles.specs.Arithmetic.{_⊕_, _⊖_, _⊗_, _⊘_, whole}
-use Rattle.doubles.specs.Order.{_≼_, _≺_, _≈_, Number, Finite, Fits}
+use Rattle.doubles.specs.Order.{_≼_, _≺_, _≈_, Number, Finite, Fits, Zero, NonZero}
 use Rattle.doubles.proofs.Order.{positivePart, negativePart}
 use Rattle.doubles.proofs.Rounding.{Rounded, plus, minus, first-zero}
 use lib.Ieee.Positive.{den}
@@ -95,20 +95,13 @@ own-rounded (fin true m e) g f = minus (m * up e) (omega arith) (sym (round-own 
 
 -- ---- adding and taking away a zero
 
--- z is a zero of either sign
-pub record Zero (z : Float) : Type 0 where
-  pub holds : T (eq z (whole 0))
-
-pub record NonZero (x : Float) : Type 0 where
-  pub holds : T (not (eq x (whole 0)))
-
-digits-zero : (s : Bool) (m : ℕ) (e : ℤ) → T (eq (fin s m e) (whole 0)) → m ≡ 0
+pub digits-zero : (s : Bool) (m : ℕ) (e : ℤ) → T (eq (fin s m e) (whole 0)) → m ≡ 0
 unfolding eq whole
 digits-zero s m e h =
     first-zero m (up e) (up-pos e)
     (omega (arith, eqb→eq (m * up e * 1) (0 * 1 * down e) (and-l (eqb (m * up e * 1) (0 * 1 * down e)) (Bool·beq s false || eqb (m * up e * 1) 0) h)))
 
-zero-digits : (s : Bool) (e : ℤ) → T (eq (fin s 0 e) (whole 0))
+pub zero-digits : (s : Bool) (e : ℤ) → T (eq (fin s 0 e) (whole 0))
 unfolding eq whole
 zero-digits true e = rw (zero-mul (up e), zero-mul (down e)) tt
 zero-digits false e = rw (zero-mul (up e), zero-mul (down e)) tt
@@ -120,7 +113,7 @@ sum-zero false false a b c B A = rw (B, add-zero a)
 sum-zero true false a b c B A = rw (B, le-ltb a 0 zero-le, lt-ltb 0 a A, sub-zero a)
 sum-zero false true a b c B A = rw (B, le-ltb a 0 zero-le, sub-zero a)
 
-digits-pos : (s : Bool) (m : ℕ) (e : ℤ) → T (not (eq (fin s m e) (whole 0))) → 0 < m
+pub digits-pos : (s : Bool) (m : ℕ) (e : ℤ) → T (not (eq (fin s m e) (whole 0))) → 0 < m
 digits-pos s zero e h = absurd (T-not (eq (fin s 0 e) (whole 0)) h (zero-digits s e))
 digits-pos s (suc m) e h = omega arith
 
@@ -162,15 +155,13 @@ pub div-self : {x : Float} → Finite x → NonZero x → x ⊘ x ≡ whole 1
 unfolding div whole
 div-self {x} f n = go x (f .holds) (n .holds)
   where
-    quotient : (s : Bool) (a : ℕ) → 0 < a → round binary64 false a a ≡ whole 1
-    quotient s a A = round-same binary64 false a a 1 1 A (lit< tt) (omega arith)
-    pick : (b : Bool) (s : Bool) (m a : ℕ) → (T b → m ≡ 0) → 0 < m → 0 < a → cond b (cond (eqb m 0) nan (inf false)) (round binary64 false a a) ≡ whole 1
-    pick true s m a h M A = absurd (lt-irrefl 0 (omega (arith, h tt)))
-    pick false s m a h M A = quotient s a A
+    pick : (b : Bool) (m a : ℕ) → (T b → m ≡ 0) → 0 < m → 0 < a → cond b (cond (eqb m 0) nan (inf false)) (round binary64 false a a) ≡ whole 1
+    pick true m a h M A = absurd (lt-irrefl 0 (omega (arith, h tt)))
+    pick false m a h M A = round-same binary64 false a a 1 1 A (lit< tt) (omega arith)
     go : (x : Float) → T (finite x) → T (not (eq x (whole 0))) → x ⊘ x ≡ whole 1
     go nan f n = absurd f
     go (inf s) f n = absurd f
     go (fin true m e) f n =
-        pick (eqb m 0) true m (m * up e * down e) (eqb→eq m 0) (digits-pos true m e n) (mul-pos (mul-pos (digits-pos true m e n) (up-pos e)) (down-pos e))
+        pick (eqb m 0) m (m * up e * down e) (eqb→eq m 0) (digits-pos true m e n) (mul-pos (mul-pos (digits-pos true m e n) (up-pos e)) (down-pos e))
     go (fin false m e) f n =
-        pick (eqb m 0) false m (m * up e * down e) (eqb→eq m 0) (digits-pos false m e n) (mul-pos (mul-pos (digits-pos false m e n) (up-pos e)) (down-pos e))
+        pick (eqb m 0) m (m * up e * down e) (eqb→eq m 0) (digits-pos false m e n) (mul-pos (mul-pos (digits-pos false m e n) (up-pos e)) (down-pos e))

@@ -196,7 +196,7 @@ div-finite x x′ y f f′ g h =
     (div-rounds x y f g) (div-rounds x′ y f′ g)
     (div-sides (positivePart x) (negativePart x) (den x) (positivePart x′) (negativePart x′) (den x′) (positivePart y) (den y) (sides x x′ f f′ h))
 
-positive-of : (s : Bool) (m : ℕ) (e : ℤ) → T (lt (whole 0) (fin s m e)) → T (positive (fin s m e))
+pub positive-of : (s : Bool) (m : ℕ) (e : ℤ) → T (lt (whole 0) (fin s m e)) → T (positive (fin s m e))
 unfolding lt whole
 positive-of false m e h = lt→ltb 0 m (first-pos m (up e) (omega (arith, ltb→lt (0 * 1 * down e) (m * up e * 1) h)))
 positive-of true m e h = h

@@ -42,7 +42,7 @@ round-neg a c =
 
 -- ---- the order of roundings
 
-zero-round : (c : ℕ) → 0 < c → round binary64 false 0 c ≡ fin false 0 (pos 0)
+pub zero-round : (c : ℕ) → 0 < c → round binary64 false 0 c ≡ fin false 0 (pos 0)
 zero-round c C = round-same binary64 false 0 c 0 1 C (lit< tt) (omega arith) ∙ at-one
   where
     at-one : round binary64 false 0 1 ≡ fin false 0 (pos 0)

@@ -2,7 +2,8 @@
 -- Zeros of either sign are level, an infinity lies beyond every finite double, and a NaN stands in no relation.
 use mathlib.Core.Bool.{not}
 use lib.Dec.{T}
-use lib.Ieee.{Float, binary64, lt, le, fits, isNan}
+use lib.Ieee.{Float, binary64, lt, le, eq, fits, isNan}
+use Rattle.doubles.specs.Arithmetic.{whole}
 use lib.Ieee.Scale.{finite}
 
 infix 4 _≼_
@@ -33,3 +34,10 @@ pub record Finite (x : Float) : Type 0 where
 -- a double of the format binary64, written in the one way: what every parameter, constant and result of an operation is
 pub record Fits (x : Float) : Type 0 where
   pub holds : T (fits binary64 x)
+
+-- a zero of either sign
+pub record Zero (z : Float) : Type 0 where
+  pub holds : T (eq z (whole 0))
+
+pub record NonZero (x : Float) : Type 0 where
+  pub holds : T (not (eq x (whole 0)))
