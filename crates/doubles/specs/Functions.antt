@@ -1,5 +1,6 @@
 -- The functions on doubles that the engine's formulas use beside the four operations.
 use mathlib.Core.Bool.{true, false, cond}
+use mathlib.Core.List.{List, [], _∷_}
 use Prim.Native.Nat.{ℕ, suc, _+_, _-_, _/_, _^_}
 use lib.IntN.{pos, negsuc}
 use lib.Ieee.{Float, nan, inf, fin, binary64, mul, div, neg, lt, isNan}
@@ -49,3 +50,14 @@ toRadians degrees = degrees ⊗ (pi ⊘ whole 180)
 unfoldable pub toDegrees : Float → Float
 unfolding pi whole
 toDegrees radians = radians ⊗ (whole 180 ⊘ pi)
+
+-- The largest and the smallest of a first value and a list, as a loop over the list keeps them.
+unfoldable pub largestOf : Float → List Float → Float
+unfolding maxOf2
+largestOf first [] = first
+largestOf first (x ∷ xs) = largestOf (maxOf2 first x) xs
+
+unfoldable pub smallestOf : Float → List Float → Float
+unfolding minOf2
+smallestOf first [] = first
+smallestOf first (x ∷ xs) = smallestOf (minOf2 first x) xs
