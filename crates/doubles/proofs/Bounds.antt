@@ -62,6 +62,7 @@ div-number {x} {y} f g n = record { holds = go x y (f .holds) (g .holds) (n .hol
     pick : (b : Bool) (s : Bool) (a c : ℕ) (w : Float) → (T b → ⊥) → T (not (isNan (cond b w (round binary64 s a c))))
     pick true s a c w h = absurd (h tt)
     pick false s a c w h = round-number s a c
+
     go : (x y : Float) → T (finite x) → T (finite y) → T (not (eq y (whole 0))) → T (not (isNan (x ⊘ y)))
     go nan y f g n = absurd f
     go (inf s) y f g n = absurd f
@@ -143,6 +144,7 @@ zero-over {y} h = go y (h .holds)
     pick : (b : Bool) (a c : ℕ) (w : Float) → (T b → ⊥) → a ≡ 0 → 0 < c → cond b w (round binary64 false a c) ≡ whole 0
     pick true a c w h A C = absurd (h tt)
     pick false a c w h A C = rw A (zero-round c C)
+
     go : (y : Float) → T (lt (whole 0) y) → whole 0 ⊘ y ≡ whole 0
     go nan h = absurd h
     go (inf true) h = absurd h
@@ -219,6 +221,7 @@ sub-self {x} f = go x (f .holds)
     zeros s true a c h C = absurd (h tt)
     zeros true false a c h C = rw (native.Mathlib.Nat.sub-self a) (zero-round c C)
     zeros false false a c h C = rw (native.Mathlib.Nat.sub-self a) (zero-round c C)
+
     go : (x : Float) → T (finite x) → x ⊖ x ≡ whole 0
     go nan f = absurd f
     go (inf s) f = absurd f
@@ -255,7 +258,7 @@ sub-nonneg {x} {y} h n = go x y h n
 pub positive-nonzero : {y : Float} → whole 0 ≺ y → NonZero y
 unfolding le
 positive-nonzero {y} p = record {
-  holds = not-T (eq y (whole 0)) (λ e. lt-excludes p (record { holds = or-right (lt y (whole 0)) (eq y (whole 0)) e }))
+  holds = not-T (eq y (whole 0)) (λ e. lt-excludes p (record { holds = or-right (lt y (whole 0)) (eq y (whole 0)) e }));
 }
 
 pub div-le-one : {x z : Float} → whole 0 ≺ z → x ≼ z → Number (x ⊘ z) → x ⊘ z ≼ whole 1

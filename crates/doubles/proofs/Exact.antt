@@ -37,27 +37,37 @@ same-value (fin t m e) (fin u n d) s a c C f g h k = sym (ofBits-toBits binary64
     cross : m * up e * down d ≡ n * up d * down e
     cross = eq-of-mul-eq-mul-right c C (m * up e * down d) (n * up d * down e)
         (mul-right-comm (m * up e) (down d) c ∙ ap (λ (x : ℕ). x * down d) (h .1) ∙ mul-right-comm a (down e) (down d) ∙ ap (λ (x : ℕ). x * down e) (sym (k .1)) ∙ mul-right-comm (n * up d) c (down e))
+
     scaled : m * up e * 2 ^ 1074 / down e ≡ n * up d * 2 ^ 1074 / down d
     scaled = div-same (m * up e * 2 ^ 1074) (down e) (n * up d * 2 ^ 1074) (down d) (down-pos e) (down-pos d)
         (mul-right-comm (m * up e) (2 ^ 1074) (down d) ∙ ap (λ (x : ℕ). x * 2 ^ 1074) cross ∙ mul-right-comm (n * up d) (down e) (2 ^ 1074))
+
     written : Bool → ℕ → ℕ
     written b v = let k = size v - 53 in cond b (2 ^ 63) 0 + k * 2 ^ 52 + v / 2 ^ k
+
     bits : toBits binary64 (fin t m e) ≡ toBits binary64 (fin u n d)
     bits = ap (λ (b : Bool). written b (m * up e * 2 ^ 1074 / down e)) (h .0 ∙ sym (k .0)) ∙ ap (written u) scaled
 
 -- what `fits` says of a double that is not zero
-digits : (s : Bool) (m : ℕ) (e : ℤ) → T (fits binary64 (fin s (suc m) e)) → (suc m < 2 ^ 53) × (down e ≤ 2 ^ 1074) × (suc m * up e < 2 ^ 1024 * down e)
+pub record Digits (m : ℕ) (e : ℤ) : Type 0 where
+  pub is-odd : m % 2 ≡ 1
+  pub few : m < 2 ^ 53
+  pub fine : down e ≤ 2 ^ 1074
+  pub small : m * up e < 2 ^ 1024 * down e
+
+pub digits : (s : Bool) (m : ℕ) (e : ℤ) → T (fits binary64 (fin s (suc m) e)) → Digits (suc m) e
 unfolding fits
 digits s m e f =
     let a = eqb (suc m % 2) 1 in
     let b = ltb (suc m) (2 ^ 53) in
     let c = leb (down e) (2 ^ 1074) in
     let d = ltb (suc m * up e) (2 ^ 1024 * down e) in
-    (
-      ltb→lt (suc m) (2 ^ 53) (and-r a b (and-l (a && b) c (and-l (a && b && c) d f))),
-      leb→le (down e) (2 ^ 1074) (and-r (a && b) c (and-l (a && b && c) d f)),
-      ltb→lt (suc m * up e) (2 ^ 1024 * down e) (and-r (a && b && c) d f),
-    )
+    record {
+      is-odd = eqb→eq (suc m % 2) 1 (and-l a b (and-l (a && b) c (and-l (a && b && c) d f)));
+      few = ltb→lt (suc m) (2 ^ 53) (and-r a b (and-l (a && b) c (and-l (a && b && c) d f)));
+      fine = leb→le (down e) (2 ^ 1074) (and-r (a && b) c (and-l (a && b && c) d f));
+      small = ltb→lt (suc m * up e) (2 ^ 1024 * down e) (and-r (a && b && c) d f);
+    }
 
 -- 2 ^ k at most 2 ^ n only where k is at most n
 exponent-le : (k n : ℕ) → 2 ^ k ≤ 2 ^ n → k ≤ n
@@ -68,18 +78,18 @@ own-value s zero e f = round-exact binary64 s (0 * up e) (down e) 0 0 (down-pos 
 own-value s (suc m) (pos k) f =
     let d = digits s m (pos k) f in
     let n = suc m in
-    round-exact binary64 s (n * 2 ^ k) 1 n (k + 1074) (lit< tt) (d .0)
+    round-exact binary64 s (n * 2 ^ k) 1 n (k + 1074) (lit< tt) (d .few)
     (subst (λ (x : ℕ). x < 2 ^ 2098) (mul-assoc n (2 ^ k) (2 ^ 1074) ∙ ap (λ (x : ℕ). n * x) (sym (pow-add 2 k 1074)))
-    (subst (λ (x : ℕ). n * 2 ^ k * 2 ^ 1074 < x) (sym (pow-add 2 1024 1074)) (mul-lt-mul-of-pos-right (d .2) (pow-pos 1074))))
+    (subst (λ (x : ℕ). n * 2 ^ k * 2 ^ 1074 < x) (sym (pow-add 2 1024 1074)) (mul-lt-mul-of-pos-right (d .small) (pow-pos 1074))))
     (mul-assoc n (2 ^ k) (2 ^ 1074) ∙ ap (λ (x : ℕ). n * x) (sym (pow-add 2 k 1074)) ∙ sym (mul-one (n * 2 ^ (k + 1074))))
 own-value s (suc m) (negsuc k) f =
     let d = digits s m (negsuc k) f in
     let n = suc m in
-    let l : suc k ≤ 1074 = exponent-le (suc k) 1074 (d .1) in
+    let l : suc k ≤ 1074 = exponent-le (suc k) 1074 (d .fine) in
     let j = 1074 - suc k in
     let room : 53 + j ≤ 2098 = omega arith in
     let back : j + suc k ≡ 1074 = omega arith in
-    round-exact binary64 s (n * 1) (2 ^ suc k) n j (pow-pos (suc k)) (d .0) (lt-of-lt-of-le (shl-lt 53 j (d .0)) (pow-mono room))
+    round-exact binary64 s (n * 1) (2 ^ suc k) n j (pow-pos (suc k)) (d .few) (lt-of-lt-of-le (shl-lt 53 j (d .few)) (pow-mono room))
     (ap (λ (x : ℕ). x * 2 ^ 1074) (mul-one n) ∙ ap (λ (x : ℕ). n * 2 ^ x) (sym back) ∙ ap (λ (x : ℕ). n * x) (pow-add 2 j (suc k)) ∙ sym (mul-assoc n (2 ^ j) (2 ^ suc k)))
 
 -- x rounds to itself
@@ -158,6 +168,7 @@ div-self {x} f n = go x (f .holds) (n .holds)
     pick : (b : Bool) (m a : ℕ) → (T b → m ≡ 0) → 0 < m → 0 < a → cond b (cond (eqb m 0) nan (inf false)) (round binary64 false a a) ≡ whole 1
     pick true m a h M A = absurd (lt-irrefl 0 (omega (arith, h tt)))
     pick false m a h M A = round-same binary64 false a a 1 1 A (lit< tt) (omega arith)
+
     go : (x : Float) → T (finite x) → T (not (eq x (whole 0))) → x ⊘ x ≡ whole 1
     go nan f n = absurd f
     go (inf s) f n = absurd f

@@ -12,7 +12,6 @@ use Rattle.doubles.specs.Order.{_≼_, _≺_, _≈_, Number}
 use Rattle.doubles.proofs.Order.{le-refl, le-trans, lt→le, le-of-not-lt}
 
 infix 4 _≽_
-
 -- every member is a number
 abbrev pub Numbers : List Float → Type 0
 Numbers xs = (x : Float) → List·Memᴰ x xs → Number x
@@ -56,16 +55,21 @@ module _ (further : Float → Float → Type 0) (op : Float → Float → Float)
     where
       first-number : Number first
       first-number = n first (List·Memᴰ·head refl)
+
       y-number : Number y
       y-number = n y (List·Memᴰ·tail (List·Memᴰ·head refl))
+
       of-rest : (z : Float) → (z ≡ op first y) ⊎ List·Memᴰ z ys → Number z
       of-rest z (inl e) = rw e (picked-number first-number y-number)
       of-rest z (inr k) = n z (List·Memᴰ·tail (List·Memᴰ·tail k))
+
       rest : Numbers (op first y ∷ ys)
       rest z k = of-rest z (List·Memᴰ·cases-cons k)
+
       later : ((z : Float) → List·Memᴰ z (op first y ∷ ys) → further z (fold (op first y) ys)) → (x ≡ y) ⊎ List·Memᴰ x ys → further x (fold (op first y) ys)
       later bound (inl e) = rw e (𝓟 .transitive (𝓟 .past-right first-number y-number) (bound (op first y) (List·Memᴰ·head refl)))
       later bound (inr k) = bound x (List·Memᴰ·tail k)
+
       step : ((z : Float) → List·Memᴰ z (op first y ∷ ys) → further z (fold (op first y) ys)) → (x ≡ first) ⊎ List·Memᴰ x (y ∷ ys) → further x (fold (op first y) ys)
       step bound (inl e) = rw e (𝓟 .transitive (𝓟 .past-left first-number y-number) (bound (op first y) (List·Memᴰ·head refl)))
       step bound (inr k) = later bound (List·Memᴰ·cases-cons k)

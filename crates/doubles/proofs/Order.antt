@@ -65,7 +65,7 @@ leftSide x y = positivePart x * den y + negativePart y * den x
 abbrev pub rightSide : Float → Float → ℕ
 rightSide x y = positivePart y * den x + negativePart x * den y
 
-lt→cross : (x y : Float) → T (finite x) → T (finite y) → T (lt x y) → leftSide x y < rightSide x y
+pub lt→cross : (x y : Float) → T (finite x) → T (finite y) → T (lt x y) → leftSide x y < rightSide x y
 unfolding lt
 lt→cross nan y f g h = absurd f
 lt→cross (inf s) y f g h = absurd f
@@ -76,7 +76,7 @@ lt→cross (fin false m e) (fin true n d) f g h = absurd h
 lt→cross (fin true m e) (fin false n d) f g h = omega (arith, ltb→lt 0 (m * up e * down d + n * up d * down e) h)
 lt→cross (fin true m e) (fin true n d) f g h = omega (arith, ltb→lt (n * up d * down e) (m * up e * down d) h)
 
-cross→lt : (x y : Float) → T (finite x) → T (finite y) → leftSide x y < rightSide x y → T (lt x y)
+pub cross→lt : (x y : Float) → T (finite x) → T (finite y) → leftSide x y < rightSide x y → T (lt x y)
 unfolding lt
 cross→lt nan y f g h = absurd f
 cross→lt (inf s) y f g h = absurd f
@@ -87,7 +87,7 @@ cross→lt (fin false m e) (fin true n d) f g h = omega arith
 cross→lt (fin true m e) (fin false n d) f g h = lt→ltb 0 (m * up e * down d + n * up d * down e) (omega arith)
 cross→lt (fin true m e) (fin true n d) f g h = lt→ltb (n * up d * down e) (m * up e * down d) (omega arith)
 
-eq→cross : (x y : Float) → T (finite x) → T (finite y) → T (eq x y) → leftSide x y ≡ rightSide x y
+pub eq→cross : (x y : Float) → T (finite x) → T (finite y) → T (eq x y) → leftSide x y ≡ rightSide x y
 unfolding eq
 eq→cross nan y f g h = absurd f
 eq→cross (inf s) y f g h = absurd f
@@ -260,6 +260,7 @@ le-total {x} {y} m n = go x y (m .holds) (n .holds)
     by-sides : (x y : Float) → T (finite x) → T (finite y) → Dec (leftSide x y ≤ rightSide x y) → (x ≼ y) ⊎ (y ≼ x)
     by-sides x y f g (yes h) = inl (record { holds = sides→le x y f g h })
     by-sides x y f g (no h) = inr (record { holds = sides→le y x g f (omega arith) })
+
     go : (x y : Float) → T (not (isNan x)) → T (not (isNan y)) → (x ≼ y) ⊎ (y ≼ x)
     go nan y m n = absurd m
     go (inf s) nan m n = absurd n
@@ -345,12 +346,12 @@ lt-of-not-le {x} {y} m n e = record { holds = rw (lt-is m n, e) tt }
 
 pub le-lt-trans : {x y z : Float} → x ≼ y → y ≺ z → x ≺ z
 le-lt-trans {x} {y} {z} h k = record {
-  holds = not-le-lt x z (left-number h .holds) (right-number (lt→le k) .holds) (λ l. lt-not-le y z (k .holds) (le-trans-test z x y l (h .holds)))
+  holds = not-le-lt x z (left-number h .holds) (right-number (lt→le k) .holds) (λ l. lt-not-le y z (k .holds) (le-trans-test z x y l (h .holds)));
 }
 
 pub lt-le-trans : {x y z : Float} → x ≺ y → y ≼ z → x ≺ z
 lt-le-trans {x} {y} {z} h k = record {
-  holds = not-le-lt x z (left-number (lt→le h) .holds) (right-number k .holds) (λ l. lt-not-le x y (h .holds) (le-trans-test y z x (k .holds) l))
+  holds = not-le-lt x z (left-number (lt→le h) .holds) (right-number k .holds) (λ l. lt-not-le x y (h .holds) (le-trans-test y z x (k .holds) l));
 }
 
 -- ---- negation turns the order round
@@ -401,3 +402,21 @@ neg-turns (fin false m e) (fin false n d) h = sides→le (fin true n d) (fin tru
 
 pub neg-le : {x y : Float} → x ≼ y → neg y ≼ neg x
 neg-le {x} {y} h = record { holds = neg-turns x y (h .holds) }
+
+-- ---- only a NaN differs from itself
+
+pub equals-itself : (x : Float) → eq x x ≡ not (isNan x)
+unfolding eq isNan
+equals-itself nan = refl
+equals-itself (inf true) = refl
+equals-itself (inf false) = refl
+equals-itself (fin true m e) = go (eqb (m * up e * down e) (m * up e * down e)) (eqb-refl (m * up e * down e))
+  where
+    go : (b : Bool) → T b → b && true ≡ true
+    go true t = refl
+    go false t = absurd t
+equals-itself (fin false m e) = go (eqb (m * up e * down e) (m * up e * down e)) (eqb-refl (m * up e * down e))
+  where
+    go : (b : Bool) → T b → b && true ≡ true
+    go true t = refl
+    go false t = absurd t

@@ -50,7 +50,7 @@ zero-round c C = round-same binary64 false 0 c 0 1 C (lit< tt) (omega arith) ∙
 
 pub round-nonneg : (k c : ℕ) → 0 < c → fin false 0 (pos 0) ≼ round binary64 false k c
 round-nonneg k c C = record {
-  holds = subst (λ (x : Float). T (le x (round binary64 false k c))) (zero-round 1 (lit< tt)) (round-mono binary64 0 1 k c (lit< tt) C (omega arith))
+  holds = subst (λ (x : Float). T (le x (round binary64 false k c))) (zero-round 1 (lit< tt)) (round-mono binary64 0 1 k c (lit< tt) C (omega arith));
 }
 
 signs : (j c k d : ℕ) → 0 < c → 0 < d → round binary64 true j c ≼ round binary64 false k d
@@ -101,6 +101,7 @@ add-rounds (fin false m e) (fin true n d) f g = go (m * up e * down d) (n * up d
         → Rounded (cond t (round binary64 true (b - a) c) (round binary64 false (a - b) c)) p q c
     pick a b c p q P Q true h k = let l = h tt in minus (b - a) (omega arith) refl
     pick a b c p q P Q false h k = let l = k tt in plus (a - b) (omega arith) refl
+
     go : (a b c : ℕ) → m * up e * down d ≡ a → n * up d * down e ≡ b
         → Rounded (sum binary64 false a true b c) (m * up e * down d + 0 * down e) (0 * down d + n * up d * down e) c
     go a b c P Q = pick a b c (m * up e * down d + 0 * down e) (0 * down d + n * up d * down e) (omega arith) (omega arith) (ltb a b) (ltb→lt a b) (nltb→le a b)
@@ -111,6 +112,7 @@ add-rounds (fin true m e) (fin false n d) f g = go (m * up e * down d) (n * up d
     pick a b c p q P Q true u h k i j = let l = h tt in plus (b - a) (omega arith) refl
     pick a b c p q P Q false true h k i j = let l = k tt in minus (a - b) (omega arith) refl
     pick a b c p q P Q false false h k i j = let l = k tt in let r = j tt in plus (a - b) (omega arith) refl
+
     go : (a b c : ℕ) → m * up e * down d ≡ a → n * up d * down e ≡ b
         → Rounded (sum binary64 true a false b c) (0 * down d + n * up d * down e) (m * up e * down d + 0 * down e) c
     go a b c P Q =
@@ -119,7 +121,7 @@ add-rounds (fin true m e) (fin false n d) f g = go (m * up e * down d) (n * up d
 
 pub mul-rounds : (x y : Float) → T (finite x) → T (finite y)
     → Rounded (x ⊗ y) (positivePart x * positivePart y + negativePart x * negativePart y) (positivePart x * negativePart y + negativePart x * positivePart y)
-        (den x * den y)
+    (den x * den y)
 unfolding mul
 mul-rounds nan y f g = absurd f
 mul-rounds (inf s) y f g = absurd f

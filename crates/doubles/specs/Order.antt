@@ -9,7 +9,6 @@ use lib.Ieee.Scale.{finite}
 infix 4 _≼_
 infix 4 _≺_
 infix 4 _≈_
-
 -- x <= y
 pub record _≼_ (x y : Float) : Type 0 where
   pub holds : T (le x y)

@@ -1,6 +1,6 @@
 // Functions on doubles that the language has no operator for.
 ghost use mathlib.Core.Path.{_≡_};
-ghost use Rattle.doubles.specs.Functions.{minOf2, maxOf2, floatMin, floatMax, cubeOf, toRadians, toDegrees};
+ghost use Rattle.doubles.specs.Functions.{minOf2, maxOf2, floatMin, floatMax, floorOf, cubeOf, toRadians, toDegrees};
 
 const PI: f64 = 3.141592653589793;
 
@@ -16,6 +16,45 @@ pub fn max_of_2(first: f64, second: f64) -> f64
     ensures { λ r. ⌜ r ≡ maxOf2 first second ⌝ }
 {
     if first > second { first } else { second }
+}
+
+// The float method `min`: it drops a NaN, and is otherwise as min_of_2.
+pub fn float_min(x: f64, y: f64) -> f64
+    ensures { λ r. ⌜ r ≡ floatMin x y ⌝ }
+{
+    if x < y {
+        return x;
+    }
+    if y == y { y } else { x }
+}
+
+// The float method `max`: it drops a NaN, and is otherwise as max_of_2.
+pub fn float_max(x: f64, y: f64) -> f64
+    ensures { λ r. ⌜ r ≡ floatMax x y ⌝ }
+{
+    if x > y {
+        return x;
+    }
+    if y == y { y } else { x }
+}
+
+// The largest whole number that is not above x.
+pub fn floor(x: f64) -> f64
+    ensures { λ r. ⌜ r ≡ floorOf x ⌝ }
+{
+    // from 2^52 on every double is whole
+    if (0.0 < x) & (x < 4503599627370496.0) {
+        return std::num::truncating_f64_to_u64(x) as f64;
+    }
+    let y = -x;
+    if (0.0 < y) & (y < 4503599627370496.0) {
+        let n = std::num::truncating_f64_to_u64(y);
+        if n as f64 == y {
+            return x;
+        }
+        return -((n + 1) as f64);
+    }
+    x
 }
 
 // The power 3.
