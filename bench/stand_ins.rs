@@ -1,0 +1,189 @@
+//! Nanoseconds for each call of a stand-in: Rattle's, through the static library, beside the same
+//! formula in Rust.
+//!
+//! Both sides are called through a function pointer that the compiler cannot see through, on the
+//! same inputs, in turns; what is printed is the median of the rounds. So both pay one call, and
+//! a slow spell of the machine meets both.
+
+use std::hint::black_box;
+use std::time::Instant;
+
+#[path = "../oracle/probes.rs"]
+#[allow(dead_code)] // words and digits are not measured here
+mod probes;
+#[path = "../oracle/random.rs"]
+#[allow(dead_code)]
+mod random;
+#[path = "../oracle/stand_ins.rs"]
+#[allow(dead_code)]
+mod stand_ins;
+
+use probes::{OneDouble, SinCos, TwoDoubles, LIBRARY};
+use random::Random;
+
+/// Inputs in an array: few enough to stay in the nearest cache.
+const INPUTS: usize = 2048;
+/// Passes over the array in a round.
+const PASSES: usize = 8;
+/// Rounds for each side; odd, so that there is a middle one.
+const ROUNDS: usize = 51;
+
+// --- The Rust side: the same formulas, each behind a call ---
+
+macro_rules! behind_a_call {
+    ($($name:ident($($argument:ident),*))*) => {
+        mod rust {
+            $(
+                #[inline(never)]
+                pub extern "C" fn $name($($argument: f64),*) -> f64 {
+                    super::stand_ins::$name($($argument),*)
+                }
+            )*
+
+            #[inline(never)]
+            pub extern "C" fn sin_cos(a: f64) -> super::SinCos {
+                let (sin, cos) = super::stand_ins::sin_cos(a);
+                super::SinCos { sin, cos }
+            }
+        }
+    };
+}
+behind_a_call! {
+    min_of_2(a, b) max_of_2(a, b) float_min(a, b) float_max(a, b)
+    floor(x) cube(x) to_radians(x) to_degrees(x)
+    sqrt(x) sqrt_by_whole_numbers(x)
+    sin(a) cos(a) tan(a) asin(a) acos(a) pow_minus_1_253(u)
+}
+
+// --- Measuring ---
+
+type Both = unsafe extern "C" fn(f64) -> SinCos;
+
+/// One round of one side: nanoseconds for each call.
+///
+/// Each result goes to a place of its own, so that no call waits for the one before it; and the
+/// results are handed where the compiler must believe that they are used.
+fn round<I: Copy, R>(call: impl Fn(I) -> R, inputs: &[I], results: &mut Vec<R>) -> f64 {
+    let start = Instant::now();
+    for _ in 0..PASSES {
+        results.clear();
+        results.extend(inputs.iter().map(|&input| call(input)));
+        black_box(&mut *results);
+    }
+    start.elapsed().as_nanos() as f64 / (PASSES * inputs.len()) as f64
+}
+
+fn median(mut times: Vec<f64>) -> f64 {
+    times.sort_by(f64::total_cmp);
+    times[times.len() / 2]
+}
+
+/// Measures both sides in turns and prints a line of the table.
+fn line<I: Copy, R>(name: &str, rattle: impl Fn(I) -> R, rust: impl Fn(I) -> R, inputs: &[I]) {
+    let results = &mut Vec::with_capacity(inputs.len());
+    let (mut rattle_times, mut rust_times) = (vec![], vec![]);
+    round(&rattle, inputs, results); // the first round of each side warms up and does not count
+    round(&rust, inputs, results);
+    for turn in 0..ROUNDS {
+        // each side goes first in every other turn
+        if turn % 2 == 0 {
+            rattle_times.push(round(&rattle, inputs, results));
+            rust_times.push(round(&rust, inputs, results));
+        } else {
+            rust_times.push(round(&rust, inputs, results));
+            rattle_times.push(round(&rattle, inputs, results));
+        }
+    }
+    let (rattle, rust) = (median(rattle_times), median(rust_times));
+    println!(
+        "| {name} | {rattle:.2} | {rust:.2} | {:.2} |",
+        rattle / rust
+    );
+}
+
+fn one(name: &str, rattle: OneDouble, rust: OneDouble, inputs: &[f64]) {
+    let (rattle, rust) = (black_box(rattle), black_box(rust));
+    line(
+        name,
+        |x| unsafe { rattle(x) },
+        |x| unsafe { rust(x) },
+        inputs,
+    )
+}
+
+/// The other argument is the next input.
+fn two(name: &str, rattle: TwoDoubles, rust: TwoDoubles, inputs: &[f64]) {
+    let (rattle, rust) = (black_box(rattle), black_box(rust));
+    let pairs: Vec<(f64, f64)> = inputs.windows(2).map(|pair| (pair[0], pair[1])).collect();
+    line(
+        name,
+        |(a, b)| unsafe { rattle(a, b) },
+        |(a, b)| unsafe { rust(a, b) },
+        &pairs,
+    )
+}
+
+fn main() {
+    let mut random = Random::new(1, "bench");
+    let mut between = |low: f64, high: f64| -> Vec<f64> {
+        (0..INPUTS).map(|_| random.uniform(low, high)).collect()
+    };
+    let turns = between(-7.0, 7.0);
+    let degrees = between(-360.0, 360.0);
+    let ratios = between(-1.0, 1.0);
+    let positive = between(0.0, 1.0);
+    let powers = between(3.0, 14.0);
+    let hours = between(0.0, 8784.0);
+    let extents = between(-2.0, 2.0);
+
+    println!("| function | Rattle, ns | Rust, ns | Rattle / Rust |");
+    println!("|---|---:|---:|---:|");
+    two("`min_of_2`", LIBRARY.min_of_2, rust::min_of_2, &extents);
+    two("`max_of_2`", LIBRARY.max_of_2, rust::max_of_2, &extents);
+    two("float `min`", LIBRARY.float_min, rust::float_min, &extents);
+    two("float `max`", LIBRARY.float_max, rust::float_max, &extents);
+    one("floor", LIBRARY.floor, rust::floor, &hours);
+    one("power 3", LIBRARY.cube, rust::cube, &ratios);
+    one(
+        "degrees to radians",
+        LIBRARY.to_radians,
+        rust::to_radians,
+        &degrees,
+    );
+    one(
+        "radians to degrees",
+        LIBRARY.to_degrees,
+        rust::to_degrees,
+        &turns,
+    );
+    one(
+        "root (Rust: whole numbers)",
+        LIBRARY.sqrt,
+        rust::sqrt_by_whole_numbers,
+        &positive,
+    );
+    one(
+        "root (Rust: the machine's)",
+        LIBRARY.sqrt,
+        rust::sqrt,
+        &positive,
+    );
+    one("sine", LIBRARY.sin, rust::sin, &turns);
+    one("cosine", LIBRARY.cos, rust::cos, &turns);
+    let (rattle, rust) = (black_box(LIBRARY.sin_cos), black_box(rust::sin_cos as Both));
+    line(
+        "sine and cosine",
+        |a| unsafe { rattle(a) },
+        |a| unsafe { rust(a) },
+        &turns,
+    );
+    one("tangent", LIBRARY.tan, rust::tan, &turns);
+    one("arcsine", LIBRARY.asin, rust::asin, &ratios);
+    one("arccosine", LIBRARY.acos, rust::acos, &ratios);
+    one(
+        "power −1.253",
+        LIBRARY.pow_minus_1_253,
+        rust::pow_minus_1_253,
+        &powers,
+    );
+}

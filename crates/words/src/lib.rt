@@ -1,0 +1,174 @@
+// Words of eight bytes, doubles and hexadecimal digits in lent lists of bytes. Every function is
+// total: what lies outside the list reads as 0 or as no digits, and is not written.
+
+ghost use mathlib.Core.Path.{_≡_};
+ghost use mathlib.Core.List.{[], _∷_};
+ghost use Prim.Native.Nat.{_%_};
+ghost use Rattle.words.specs.Words.{number, wordCount, wordAt, putWord, doubleAt, putDouble};
+ghost use Rattle.words.specs.Hexadecimal.{digit, digitValue, digitsAt, putDigits};
+
+// How many whole words there are.
+pub fn word_count(bytes: &[u8]) -> usize
+    ensures { λ r. ⌜ r ≡ wordCount (now (bytes .entry)) ⌝ }
+{
+    bytes.len() / 8
+}
+
+// The number of eight bytes, least first. A flat sum, so that a caller's eight loads become one.
+fn joined(b0: u8, b1: u8, b2: u8, b3: u8, b4: u8, b5: u8, b6: u8, b7: u8) -> u64
+    ensures { λ r. ⌜ r ≡ number (b0 ∷ b1 ∷ b2 ∷ b3 ∷ b4 ∷ b5 ∷ b6 ∷ b7 ∷ []) 0 8 ⌝ }
+{
+    (b0 as u64)
+        + (b1 as u64) * 0x100
+        + (b2 as u64) * 0x1_0000
+        + (b3 as u64) * 0x100_0000
+        + (b4 as u64) * 0x1_0000_0000
+        + (b5 as u64) * 0x100_0000_0000
+        + (b6 as u64) * 0x1_0000_0000_0000
+        + (b7 as u64) * 0x100_0000_0000_0000
+}
+
+// The k-th word, and 0 where there is no such whole word.
+pub fn word_at(bytes: &[u8], k: usize) -> u64
+    ensures { λ r. ⌜ r ≡ wordAt (now (bytes .entry)) k ⌝ }
+{
+    if k < bytes.len() / 8 {
+        let a = 8 * k;
+        return joined(
+            bytes[a],
+            bytes[a + 1],
+            bytes[a + 2],
+            bytes[a + 3],
+            bytes[a + 4],
+            bytes[a + 5],
+            bytes[a + 6],
+            bytes[a + 7],
+        );
+    }
+    0
+}
+
+// Writes w as the k-th word; where there is no such whole word nothing is written.
+pub fn store_word(bytes: &mut [u8], k: usize, w: u64)
+    ensures { λ _. ⌜ now (bytes .exit) ≡ putWord (now (bytes .entry)) k w ⌝ }
+{
+    if k < bytes.len() / 8 {
+        let a = 8 * k;
+        let w1 = w / 256;
+        let w2 = w1 / 256;
+        let w3 = w2 / 256;
+        let w4 = w3 / 256;
+        let w5 = w4 / 256;
+        let w6 = w5 / 256;
+        let w7 = w6 / 256;
+        bytes[a] = (w % 256) as u8;
+        bytes[a + 1] = (w1 % 256) as u8;
+        bytes[a + 2] = (w2 % 256) as u8;
+        bytes[a + 3] = (w3 % 256) as u8;
+        bytes[a + 4] = (w4 % 256) as u8;
+        bytes[a + 5] = (w5 % 256) as u8;
+        bytes[a + 6] = (w6 % 256) as u8;
+        bytes[a + 7] = (w7 % 256) as u8;
+    }
+}
+
+// The k-th word's double. A NaN's pattern, with the sign taken off, is above the infinity's.
+pub fn double_at(bytes: &[u8], k: usize) -> f64
+    ensures { λ r. ⌜ r ≡ doubleAt (now (bytes .entry)) k ⌝ }
+{
+    let w = word_at(bytes, k);
+    if 0x7FF0_0000_0000_0000 < w % 0x8000_0000_0000_0000 {
+        return 0.0 / 0.0;
+    }
+    f64::from_bits(w)
+}
+
+// Writes the bits of x as the k-th word, one pattern for every NaN.
+pub fn store_double(bytes: &mut [u8], k: usize, x: f64)
+    ensures { λ _. ⌜ now (bytes .exit) ≡ putDouble (now (bytes .entry)) k x ⌝ }
+{
+    if x != x {
+        store_word(bytes, k, 0x7FF8_0000_0000_0000);
+        return;
+    }
+    store_word(bytes, k, f64::to_bits(x));
+}
+
+// What stands where sixteen digits are looked for.
+pub enum Digits {
+    Word(u64),
+    NotDigits,
+}
+
+// The digit of the lowest four bits of w, as an ASCII byte.
+fn last_digit(w: u64) -> u8
+    ensures { λ r. ⌜ r ≡ digit (w % 16) ⌝ }
+{
+    let d = w % 16;
+    if d < 10 {
+        return (48 + d) as u8;
+    }
+    (55 + d) as u8
+}
+
+// Writes the sixteen digits of w from place `at` on, the last digit first; where fewer than
+// sixteen bytes stand there nothing is written.
+pub fn store_digits(text: &mut [u8], at: usize, w: u64)
+    ensures { λ _. ⌜ now (text .exit) ≡ putDigits (now (text .entry)) at w ⌝ }
+{
+    if text.len() < 16 {
+        return;
+    }
+    if text.len() - 16 < at {
+        return;
+    }
+    let mut rest = w;
+    let mut n = 0;
+    while n < 16 {
+        text[at + (15 - n)] = last_digit(rest);
+        rest = rest / 16;
+        n += 1;
+    }
+}
+
+// What the byte b counts as a digit, and 16 where it is none.
+fn digit_value(b: u8) -> u64
+    ensures { λ r. ⌜ r ≡ digitValue b ⌝ }
+{
+    if b < 48 {
+        return 16;
+    }
+    if b <= 57 {
+        return (b - 48) as u64;
+    }
+    if b < 65 {
+        return 16;
+    }
+    if b <= 70 {
+        return (b - 55) as u64;
+    }
+    16
+}
+
+// The word whose sixteen digits stand from place `at` on.
+pub fn digits_at(text: &[u8], at: usize) -> Digits
+    ensures { λ r. ⌜ r ≡ digitsAt (now (text .entry)) at ⌝ }
+{
+    if text.len() < 16 {
+        return Digits::NotDigits;
+    }
+    if text.len() - 16 < at {
+        return Digits::NotDigits;
+    }
+    let mut v: u64 = 0;
+    let mut n = 0;
+    while n < 16 {
+        let d = digit_value(text[at + n]);
+        if 16 <= d {
+            return Digits::NotDigits;
+        }
+        v = 16 * v + d;
+        n += 1;
+    }
+    Digits::Word(v)
+}

@@ -1,0 +1,36 @@
+# What oracle/run and bench/run share. They source this file from the repository's root.
+
+# fail MESSAGE [STATUS]
+fail() {
+    echo "$0: $1" >&2
+    exit "${2:-2}"
+}
+
+# from_there FOLDER PATH: the path as one who stands in the folder means it, in full.
+from_there() {
+    (cd -- "$1" && realpath -m -- "$2")
+}
+
+# The published Rust and the standard library's whole root want a rustc that is not too old.
+need_rustc() {
+    command -v rustc >/dev/null ||
+        fail "rustc is not installed (Debian 13: apt install rustc)"
+    command -v cc >/dev/null || fail "there is no C compiler to link with (Debian: apt install gcc)"
+    local minor
+    minor=$(rustc --version | sed -n 's/^rustc 1\.\([0-9]*\)\..*/\1/p')
+    [ "${minor:-0}" -ge 84 ] || fail "rustc 1.84 or later is needed; this is $(rustc --version)"
+}
+
+# static_library NAME: proves the crate and writes target/staticlib/libNAME.a.
+static_library() {
+    command -v rt >/dev/null || fail "rt, Rattle's tool, is not installed"
+    rt staticlib "$1" >&2 || fail "the library $1 was not built" 1
+}
+
+# compile SOURCE PROGRAM ARCHIVE: x86-64 without later extensions, as Rattle compiles, so that no
+# multiply and add are fused on this side either.
+compile() {
+    mkdir -p "$(dirname "$2")"
+    rustc --edition 2021 -O -C target-cpu=x86-64 -C link-arg="$3" -o "$2" "$1" ||
+        fail "$1 does not compile" 1
+}

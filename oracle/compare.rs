@@ -1,0 +1,111 @@
+//! The judge: Rattle's functions against Rust's, case by case and bit for bit.
+//!
+//!     compare [--seed N] [--count N]     compares; stops at the first difference
+//!     compare --self-test [--seed N]     shows that the comparison can fail
+//!
+//! Exit status: 0 no difference; 1 a difference, or a comparison of nothing; 2 bad usage; 3 an
+//! access outside a buffer. `oracle/run` builds this program and runs it both ways.
+
+mod comparison;
+mod guarded;
+mod numbers;
+mod probes;
+mod random;
+mod self_test;
+mod stand_ins;
+#[macro_use]
+mod support;
+#[allow(dead_code)] // the published items are cut for later sections too
+mod published;
+mod words;
+
+use comparison::{Outcome, Settings};
+use std::process::ExitCode;
+
+/// The sections, in the order in which they are run. A new one is added here.
+const SECTIONS: [fn(&Settings) -> Outcome; 3] = [
+    |settings| published::sanity::section(settings),
+    |settings| numbers::section(settings, &probes::LIBRARY),
+    |settings| words::section(settings, &probes::LIBRARY),
+];
+
+struct Arguments {
+    settings: Settings,
+    self_test: bool,
+    read_outside: Option<String>,
+}
+
+/// A whole number, decimal or with 0x hexadecimal.
+fn whole_number(text: &str) -> Option<u64> {
+    match text.strip_prefix("0x") {
+        Some(digits) => u64::from_str_radix(digits, 16).ok(),
+        None => text.parse().ok(),
+    }
+}
+
+fn arguments() -> Result<Arguments, String> {
+    let settings = Settings {
+        seed: 1,
+        count: 1_000_000,
+        print: true,
+    };
+    let mut arguments = Arguments {
+        settings,
+        self_test: false,
+        read_outside: None,
+    };
+    let mut words = std::env::args().skip(1);
+    while let Some(word) = words.next() {
+        let mut next = || words.next().ok_or(format!("{word} needs a value"));
+        match word.as_str() {
+            "--self-test" => arguments.self_test = true,
+            "--read-outside" => arguments.read_outside = Some(next()?),
+            "--seed" => {
+                let seed = whole_number(&next()?);
+                arguments.settings.seed = seed.ok_or("--seed needs a whole number")?;
+            }
+            "--count" => {
+                let count = whole_number(&next()?).filter(|&count| count > 0);
+                arguments.settings.count = count.ok_or("--count needs a number above 0")? as usize;
+            }
+            _ => return Err(format!("{word} is not known")),
+        }
+    }
+    Ok(arguments)
+}
+
+fn run(arguments: &Arguments) -> Outcome {
+    let settings = &arguments.settings;
+    if let Some(side) = &arguments.read_outside {
+        return self_test::read_outside(side);
+    }
+    if arguments.self_test {
+        return self_test::run(settings.seed);
+    }
+    println!(
+        "seed {}, {} cases for each function",
+        settings.seed, settings.count
+    );
+    for section in SECTIONS {
+        section(settings)?;
+    }
+    println!("no difference");
+    Ok(())
+}
+
+fn main() -> ExitCode {
+    let arguments = match arguments() {
+        Ok(arguments) => arguments,
+        Err(words) => {
+            eprintln!("compare: {words}");
+            return ExitCode::from(2);
+        }
+    };
+    match run(&arguments) {
+        Ok(()) => ExitCode::SUCCESS,
+        Err(words) => {
+            eprintln!("compare: {words}");
+            ExitCode::from(1)
+        }
+    }
+}

@@ -1,0 +1,211 @@
+//! The stand-ins and the other functions on doubles.
+
+use crate::comparison::{compare, Outcome, Settings};
+use crate::probes::{OneDouble, Probes, TwoDoubles};
+use crate::random::{chief_edges, edges, power_of_two, ulps_from, Random};
+use crate::{published, stand_ins};
+
+/// Where a function's useful inputs lie.
+#[derive(Clone, Copy)]
+enum Useful {
+    Between(f64, f64),
+    /// A whole number or a half, and its neighbours.
+    Halves,
+    /// A square of a double as rounded, and its neighbours.
+    Squares,
+    /// A double whose root lies next to the half between two doubles: the hardest to round.
+    RootHalves,
+}
+use Useful::*;
+
+impl Useful {
+    fn draw(self, random: &mut Random) -> f64 {
+        match self {
+            Between(low, high) => random.uniform(low, high),
+            Halves => {
+                let bits = 1 + random.below(54);
+                let half = random.below(1 << bits) as f64 * 0.5;
+                let signed = if random.below(2) == 0 { half } else { -half };
+                ulps_from(signed, random.below(3) as i64 - 1)
+            }
+            Squares => {
+                let root = random.any_size();
+                ulps_from(root * root, random.below(5) as i64 - 2)
+            }
+            RootHalves => {
+                let (square, j) = next_to_a_half(random);
+                square * power_of_two(2 * j)
+            }
+        }
+    }
+}
+
+/// A double whose root is 54 bits long but for less than a millionth of its last bit, so that it
+/// lies next to the half between two doubles, on either side; and some exponent to move it by.
+///
+/// Wanted is an odd s of 54 bits with s² = x + r, where r is small and x ends in 55 zeros, so that x
+/// is a double. An odd square can be any r that leaves 1 by 8, and s is then found bit by bit.
+fn next_to_a_half(random: &mut Random) -> (f64, i32) {
+    loop {
+        let r = 8 * (random.below(1 << 20) as i128 - (1 << 19)) + 1;
+        let mut s: i128 = 1;
+        for bit in 3..55 {
+            if (s * s - r) & ((2 << bit) - 1) != 0 {
+                s += 1 << (bit - 1);
+            }
+        }
+        s &= (1 << 55) - 1;
+        let others = [s, (1 << 55) - s, s ^ (1 << 54), ((1 << 55) - s) ^ (1 << 54)];
+        let s = others[random.below(4)];
+        if s >> 53 == 1 {
+            let x = s * s - r;
+            debug_assert_eq!(x & ((1 << 55) - 1), 0);
+            return (x as f64, random.below(400) as i32 - 200);
+        }
+    }
+}
+
+/// The edges, then random cases up to the count: half of them in the useful places, the others any
+/// bit pattern at all, any size, or some way from an edge.
+fn doubles<'a>(
+    random: &'a mut Random,
+    edges: &'a [f64],
+    useful: &'a [Useful],
+    count: usize,
+) -> impl Iterator<Item = f64> + 'a {
+    let more = count.saturating_sub(edges.len());
+    let drawn = (0..more).map(move |_| match random.below(8) {
+        0..=3 => useful[random.below(useful.len())].draw(random),
+        4 | 5 => random.any_double(),
+        6 => random.any_size(),
+        _ => ulps_from(
+            edges[random.below(edges.len())],
+            random.below(65) as i64 - 32,
+        ),
+    });
+    edges.iter().copied().chain(drawn)
+}
+
+/// Each chief edge with each, then random pairs up to the count: unlike, equal, opposite and
+/// neighbouring ones.
+fn pairs(random: &mut Random, count: usize) -> impl Iterator<Item = [f64; 2]> + '_ {
+    let chief = chief_edges();
+    let each: Vec<[f64; 2]> = chief
+        .iter()
+        .flat_map(|&a| chief.iter().map(move |&b| [a, b]))
+        .collect();
+    let more = count.saturating_sub(each.len());
+    let drawn = (0..more).map(move |_| {
+        let a = match random.below(3) {
+            0 => random.any_double(),
+            1 => random.any_size(),
+            _ => chief[random.below(chief.len())],
+        };
+        let b = match random.below(6) {
+            0 => random.any_double(),
+            1 => random.any_size(),
+            2 => chief[random.below(chief.len())],
+            3 => a,
+            4 => -a,
+            _ => ulps_from(a, random.below(5) as i64 - 2),
+        };
+        if random.below(2) == 0 {
+            [a, b]
+        } else {
+            [b, a]
+        }
+    });
+    each.into_iter().chain(drawn)
+}
+
+pub fn section(settings: &Settings, probes: &Probes) -> Outcome {
+    settings.heading("functions on doubles: published Rust and stand-ins against Rattle");
+    let edges = edges();
+
+    let two = |name: &str, rust: fn(f64, f64) -> f64, rattle: TwoDoubles| {
+        let mut random = settings.random(name);
+        let tally = compare(
+            name,
+            pairs(&mut random, settings.count),
+            |[a, b]| [rust(a, b)],
+            |[a, b]| [unsafe { rattle(a, b) }],
+        )?;
+        settings.report(name, tally)
+    };
+    two("min_of_2", published::min_of_2, probes.min_of_2)?;
+    two("max_of_2", published::max_of_2, probes.max_of_2)?;
+    two("float_min", stand_ins::float_min, probes.float_min)?;
+    two("float_max", stand_ins::float_max, probes.float_max)?;
+
+    let one = |name: &str, useful: &[Useful], rust: fn(f64) -> f64, rattle: OneDouble| {
+        let mut random = settings.random(name);
+        let inputs = doubles(&mut random, &edges, useful, settings.count).map(|x| [x]);
+        let tally = compare(name, inputs, |[x]| [rust(x)], |[x]| [unsafe { rattle(x) }])?;
+        settings.report(name, tally)
+    };
+    let turns = [Between(-64.0, 64.0), Between(-7.0, 7.0), Between(-1.0, 1.0)];
+    let degrees = [Between(0.0, 360.0), Between(-360.0, 360.0)];
+    let ratios = [Between(-1.0, 1.0), Between(0.49, 0.51), Between(0.999, 1.0)];
+    let roots = [Between(0.0, 1.0), Between(0.0, 0.25), Squares, RootHalves];
+    one(
+        "floor",
+        &[Halves, Between(-1e4, 1e4)],
+        stand_ins::floor,
+        probes.floor,
+    )?;
+    one(
+        "cube",
+        &[Between(0.0, 1.6), Between(-10.0, 10.0)],
+        stand_ins::cube,
+        probes.cube,
+    )?;
+    one(
+        "to_radians",
+        &degrees,
+        stand_ins::to_radians,
+        probes.to_radians,
+    )?;
+    one(
+        "to_degrees",
+        &turns,
+        stand_ins::to_degrees,
+        probes.to_degrees,
+    )?;
+    one("sqrt", &roots, stand_ins::sqrt, probes.sqrt)?;
+    one(
+        "sqrt (whole numbers)",
+        &roots,
+        stand_ins::sqrt_by_whole_numbers,
+        probes.sqrt,
+    )?;
+    one("sin", &turns, stand_ins::sin, probes.sin)?;
+    one("cos", &turns, stand_ins::cos, probes.cos)?;
+    one("tan", &turns, stand_ins::tan, probes.tan)?;
+    one("asin", &ratios, stand_ins::asin, probes.asin)?;
+    one("acos", &ratios, stand_ins::acos, probes.acos)?;
+    one(
+        "pow_minus_1_253",
+        &[
+            Between(3.0, 14.0),
+            Between(5.59, 5.61),
+            Between(11.19, 11.21),
+        ],
+        stand_ins::pow_minus_1_253,
+        probes.pow_minus_1_253,
+    )?;
+
+    let mut random = settings.random("sin_cos");
+    let tally = compare(
+        "sin_cos",
+        doubles(&mut random, &edges, &turns, settings.count).map(|x| [x]),
+        |[x]| {
+            let (sin, cos) = stand_ins::sin_cos(x);
+            [sin, cos]
+        },
+        |[x]| {
+            let both = unsafe { (probes.sin_cos)(x) };
+            [both.sin, both.cos]
+        },
+    )?;
+    settings.report("sin_cos", tally)
+}

@@ -1,0 +1,420 @@
+//! The published Rust on a few inputs whose answers are known beforehand: the specification's
+//! values at the edges. It shows that the items were cut and put together rightly.
+
+use super::conditions::{angle, sector, sun_at, FIRST_STEP};
+use super::*;
+use crate::comparison::{same, shown, Outcome, Settings};
+use crate::random::Random;
+use crate::stand_ins;
+use crate::support::refusal_number;
+
+/// Counts the checks; the first that fails ends the section.
+struct Checks<'a> {
+    settings: &'a Settings,
+    made: usize,
+}
+
+impl Checks<'_> {
+    fn holds(&mut self, what: &str, holds: bool) -> Outcome {
+        self.made += 1;
+        match holds {
+            true => Ok(()),
+            false => Err(format!("the published Rust: {what} does not hold")),
+        }
+    }
+
+    fn equal(&mut self, what: &str, got: f64, expected: f64) -> Outcome {
+        self.made += 1;
+        match same(got, expected) {
+            true => Ok(()),
+            false => Err(format!(
+                "the published Rust: {what} gives {}, not {}",
+                shown(got),
+                shown(expected)
+            )),
+        }
+    }
+
+    fn done(&mut self, part: &str) -> Outcome {
+        let made = std::mem::take(&mut self.made);
+        if made == 0 {
+            return Err(format!("{part}: nothing was checked"));
+        }
+        if self.settings.print {
+            println!("  {part:<24} {made:>12} checks");
+        }
+        Ok(())
+    }
+}
+
+pub fn section(settings: &Settings) -> Outcome {
+    settings.heading("the published Rust with the stand-ins, on inputs with known answers");
+    let checks = &mut Checks { settings, made: 0 };
+    stand_ins_are_close(checks)?;
+    sun(checks)?;
+    sky(checks)?;
+    factor(checks)?;
+    sectors(checks)?;
+    times(checks)?;
+    whole_year(checks)
+}
+
+/// The stand-ins lie next to the machine's functions, so none was written down wrongly. How close
+/// is no promise; a wrong coefficient would be much further off.
+fn stand_ins_are_close(checks: &mut Checks) -> Outcome {
+    let mut random = Random::new(1, "close");
+    for _ in 0..10_000 {
+        let mut close = |what: &str, x: f64, got: f64, machine: f64, room: f64| {
+            let near = (got - machine).abs() <= room * machine.abs().max(1.0);
+            checks.holds(
+                &format!(
+                    "{what} of {} is {}, near {}",
+                    shown(x),
+                    shown(got),
+                    shown(machine)
+                ),
+                near,
+            )
+        };
+        let a = random.uniform(-64.0, 64.0);
+        close("sine", a, stand_ins::sin(a), a.sin(), 1e-14)?;
+        close("cosine", a, stand_ins::cos(a), a.cos(), 1e-14)?;
+        let a = random.uniform(-1.5, 1.5);
+        close("tangent", a, stand_ins::tan(a), a.tan(), 1e-14)?;
+        let a = random.uniform(-1.0, 1.0);
+        close("arcsine", a, stand_ins::asin(a), a.asin(), 1e-14)?;
+        close("arccosine", a, stand_ins::acos(a), a.acos(), 1e-14)?;
+        let u = random.uniform(3.0, 14.0);
+        close(
+            "power",
+            u,
+            stand_ins::pow_minus_1_253(u),
+            u.powf(-1.253),
+            1e-14,
+        )?;
+        let x = random.any_size().abs();
+        checks.equal("root", stand_ins::sqrt_by_whole_numbers(x), x.sqrt())?;
+    }
+    checks.done("stand-ins")
+}
+
+fn sun(checks: &mut Checks) -> Outcome {
+    checks.equal(
+        "orbit deviation of day 1",
+        init_earth_orbit_deviation(0),
+        360.0 / 365.0,
+    )?;
+
+    // day numbers count from 1, the functions' days from 0
+    checks.equal("equation of time, n = 359", init_equation_of_time(358), 0.0)?;
+    checks.equal(
+        "equation of time, n = 20",
+        init_equation_of_time(19),
+        2.6 + 0.44 * 20.0,
+    )?;
+    checks.equal(
+        "equation of time, n = 43",
+        init_equation_of_time(42),
+        5.2 + 9.0,
+    )?;
+    checks.equal(
+        "equation of time, n = 366",
+        init_equation_of_time(365),
+        0.45 * 7.0,
+    )?;
+
+    checks.equal("time shift at 0, 0", init_time_shift(0, 0.0), 0.0)?;
+    checks.holds(
+        "longitude -0.5 gives a positive shift",
+        init_time_shift(0, -0.5) > 0.0,
+    )?;
+    checks.equal("time shift at 1, 15", init_time_shift(1, 15.0), 0.0)?;
+
+    checks.equal(
+        "solar time of the first hour",
+        init_solar_time(0, 0.0, 0.0, 0),
+        1.0,
+    )?;
+    checks.equal("hour angle of 0.5", init_solar_hour_angle(0.5), 180.0)?;
+    checks.equal("hour angle of 0", init_solar_hour_angle(0.0), -172.5)?;
+    checks.equal("hour angle of 24.5", init_solar_hour_angle(24.5), -180.0)?;
+    checks.equal("hour angle of 12.5", init_solar_hour_angle(12.5), 0.0)?;
+
+    checks.equal(
+        "altitude below the horizon",
+        init_solar_altitude(50.0, -23.0, 180.0),
+        0.0,
+    )?;
+    checks.holds(
+        "a NaN altitude stays",
+        init_solar_altitude(f64::NAN, 0.0, 0.0).is_nan(),
+    )?;
+    checks.equal("zenith of 90", init_solar_zenith_angle(90.0), 0.0)?;
+    for day in 0..366 {
+        let declination = init_solar_declination(init_earth_orbit_deviation(day));
+        checks.holds("the declination lies in -24..24", declination.abs() < 24.0)?;
+        let noon = init_solar_altitude(50.0, declination, 0.0);
+        checks.holds(
+            "noon's altitude is 40 and the declination",
+            (noon - 40.0 - declination).abs() < 1e-9,
+        )?;
+        let azimuth = init_solar_azimuth_angle(50.0, declination, 0.0, noon);
+        checks.holds("noon's azimuth is 0", azimuth.abs() < 1e-9)?;
+        let east = init_solar_azimuth_angle(
+            50.0,
+            declination,
+            30.0,
+            init_solar_altitude(50.0, declination, 30.0),
+        );
+        checks.holds("a positive hour angle is in the east", east > 0.0)?;
+    }
+    checks.done("sun")
+}
+
+fn sky(checks: &mut Checks) -> Outcome {
+    checks.equal(
+        "beam as given",
+        init_direct_beam_radiation(false, 100.0, 30.0),
+        100.0,
+    )?;
+    checks.equal(
+        "beam converted at altitude 0",
+        init_direct_beam_radiation(true, 100.0, 0.0),
+        100.0,
+    )?;
+    let converted = init_direct_beam_radiation(true, 100.0, 30.0);
+    checks.holds(
+        "beam converted at 30 degrees is doubled",
+        (converted - 200.0).abs() < 1e-9,
+    )?;
+    checks.holds(
+        "air mass at the zenith is 1",
+        (init_air_mass(90.0) - 1.0).abs() < 1e-12,
+    )?;
+    let low = 1.0 / (0.15 * 3.885f64.powf(-1.253));
+    checks.holds(
+        "air mass at the horizon",
+        (init_air_mass(0.0) / low - 1.0).abs() < 1e-12,
+    )?;
+    let radiation = init_extra_terrestrial_radiation(90.0);
+    checks.holds(
+        "extra-terrestrial radiation at 90",
+        (radiation - 1367.0).abs() < 1e-9,
+    )?;
+
+    let f11 = |clearness| brightness_coefficient(clearness, BrightnessCoefficientName::F11);
+    let clearness = init_dimensionless_clearness_parameter(100.0, 100.0, 0.0);
+    checks.equal("clearness of 100, 100, 0", clearness, 2.0)?;
+    checks.equal("clearness 2 is row 4", f11(clearness), 0.873)?;
+    checks.equal("clearness 1.065 is row 1", f11(1.065), 0.13)?;
+    checks.equal("clearness of a NaN is row 7", f11(f64::NAN), 0.678)?;
+    checks.equal(
+        "clearness without diffuse",
+        init_dimensionless_clearness_parameter(0.0, 5.0, 9.0),
+        999.0,
+    )?;
+    checks.equal(
+        "brightness 2 · 3 / 4",
+        init_dimensionless_sky_brightness_parameter(2.0, 3.0, 4.0),
+        1.5,
+    )?;
+    checks.equal(
+        "F1 below 0 becomes 0",
+        init_f1_circumsolar_brightness_coefficient(1.0, 0.0, 0.0),
+        0.0,
+    )?;
+    checks.equal(
+        "F2 may be negative",
+        init_f2_horizontal_brightness_coefficient(1.0, 0.0, 0.0),
+        -0.06,
+    )?;
+
+    let oriented = |angle| Orientation360::new(angle).unwrap().transform_to_180();
+    checks.equal("orientation 0", oriented(0.0), 180.0)?;
+    checks.equal("orientation 360", oriented(360.0), -180.0)?;
+    checks.done("sky")
+}
+
+/// The factor of a surface that faces south: base 0, height 2, width 1.
+fn south_factor(
+    conditions: &ExternalConditions,
+    window: &[WindowShadingObject],
+) -> anyhow::Result<f64> {
+    let south = angle(180.0);
+    conditions.direct_shading_reduction_factor(0.0, 2.0, 1.0, 90.0, south, Some(window), FIRST_STEP)
+}
+
+fn factor(checks: &mut Checks) -> Outcome {
+    let obstacle = ShadingObject {
+        object_type: ShadingObjectType::Obstacle,
+        height: 1.0,
+        distance: 1.0,
+    };
+    let overhang = ShadingObject {
+        object_type: ShadingObjectType::Overhang,
+        height: 1.5,
+        distance: 1.0,
+    };
+    let near = WindowShadingObject::Obstacle {
+        height: 1.0,
+        distance: 1.0,
+        transparency: 0.5,
+    };
+    let reveal = WindowShadingObject::Reveal {
+        depth: 1.0,
+        distance: 1.0,
+    };
+
+    let all_around = |objects| sun_at(0.0, 0.0, vec![sector(0.0, 360.0, objects)]);
+    let mut gives =
+        |what: &str, objects: Vec<ShadingObject>, window: &[WindowShadingObject], expected: f64| {
+            let got = south_factor(&all_around(objects), window);
+            checks.equal(what, got.unwrap_or(f64::NAN), expected)
+        };
+    gives("no object", vec![], &[], 1.0)?;
+    gives("distant obstacle of 1 m", vec![obstacle.clone()], &[], 0.5)?;
+    gives("near obstacle of 1 m", vec![], &[near], 0.75)?;
+    gives("both obstacles", vec![obstacle.clone()], &[near], 0.5)?;
+    gives(
+        "distant overhang at 1.5 m",
+        vec![overhang.clone()],
+        &[],
+        0.75,
+    )?;
+    gives(
+        "that and the near obstacle",
+        vec![overhang.clone()],
+        &[near],
+        0.5,
+    )?;
+
+    // a reveal: outside the beam the answer is 1, inside it is refused
+    let behind = sun_at(0.0, 170.0, vec![sector(0.0, 360.0, vec![])]);
+    checks.equal(
+        "a reveal outside the beam",
+        south_factor(&behind, &[reveal]).unwrap(),
+        1.0,
+    )?;
+    let refused =
+        south_factor(&all_around(vec![]), &[reveal]).map_err(|error| refusal_number(&error));
+    checks.holds("a reveal inside the beam is 11", refused == Err(11))?;
+    checks.done("factor")
+}
+
+fn sectors(checks: &mut Checks) -> Outcome {
+    let mut number = |what: &str, azimuth: f64, bounds: &[(f64, f64)], expected: u64| {
+        let list = bounds
+            .iter()
+            .map(|&(start, end)| sector(start, end, vec![]))
+            .collect();
+        let number = match south_factor(&sun_at(0.0, azimuth, list), &[]) {
+            Ok(_) => 0,
+            Err(error) => refusal_number(&error),
+        };
+        checks.holds(
+            &format!("{what}: {number} is {expected}"),
+            number == expected,
+        )
+    };
+    let gap = [(0.0, 180.0), (190.0, 360.0)];
+    number("a gap that is not reached", 10.0, &gap, 0)?;
+    number("a gap that is reached", -20.0, &gap, 8)?;
+    number(
+        "between two sectors",
+        0.0,
+        &[(0.0, 180.0), (180.0, 360.0)],
+        10,
+    )?;
+    number("a turned sector", 0.0, &[(200.0, 100.0), (150.0, 360.0)], 9)?;
+    number("no sectors", 0.0, &[], 10)?;
+    checks.done("sectors")
+}
+
+fn times(checks: &mut Checks) -> Outcome {
+    let steps = |start, end, step| SimulationTime::new(start, end, step).iter().count();
+    checks.holds("0 to 3 by 1 is three steps", steps(0.0, 3.0, 1.0) == 3)?;
+    checks.holds("start = end is no step", steps(5.0, 5.0, 1.0) == 0)?;
+    checks.holds("start above end is one step", steps(5.0, 3.0, 1.0) == 1)?;
+    checks.holds("0 to 3 by 0.3 is eleven steps", steps(0.0, 3.0, 0.3) == 11)?;
+
+    let step = |time| Timestep {
+        index: 0,
+        time,
+        step: 1.0,
+    };
+    checks.holds("hour 25.75 is 25", step(25.75).current_hour() == 25)?;
+    checks.holds("its day is 1", step(25.75).current_day() == 1)?;
+    checks.holds(
+        "its index from day 1 by 0.25",
+        step(25.75).time_series_idx(1, 0.25) == 7,
+    )?;
+    checks.holds(
+        "a negative index becomes 0",
+        step(25.75).time_series_idx(2, 1.0) == 0,
+    )?;
+    checks.done("times")
+}
+
+/// The record that the published Rust makes of a whole year, against its parts.
+fn whole_year(checks: &mut Checks) -> Outcome {
+    for leap in [false, true] {
+        let hours = if leap { 8784 } else { 8760 };
+        let run = SimulationTime::new(0.0, hours as f64, 1.0);
+        let mut random = Random::new(1, "year");
+        let mut series =
+            |high: f64| -> Vec<f64> { (0..hours).map(|_| random.uniform(0.0, high)).collect() };
+        let (diffuse, direct, reflectivity) = (series(400.0), series(900.0), series(1.0));
+        let year = ExternalConditions::new(
+            &run.iter(),
+            vec![],
+            vec![],
+            vec![],
+            diffuse,
+            direct,
+            reflectivity,
+            51.5,
+            -0.5,
+            0,
+            0,
+            None,
+            1.0,
+            None,
+            None,
+            leap,
+            true,
+            Some(vec![sector(0.0, 360.0, vec![])]),
+        );
+        checks.holds(
+            "an altitude for each hour",
+            year.solar_altitudes.len() == hours,
+        )?;
+        let (mut steps, mut sunny) = (0, 0);
+        for step in run.iter() {
+            steps += 1;
+            let altitude = year.solar_altitudes[step.current_hour() as usize];
+            sunny += (altitude > 0.0) as usize;
+            let CalculatedDirectDiffuseTotalIrradiance(direct, diffuse, total, breakdown) =
+                year.calculated_direct_diffuse_total_irradiance(40.0, angle(135.0), true, step);
+            let parts = breakdown.unwrap();
+            checks.equal("total", total, direct + diffuse)?;
+            checks.equal(
+                "direct",
+                direct,
+                year.calculated_direct_irradiance(40.0, angle(135.0), step),
+            )?;
+            checks.equal(
+                "diffuse",
+                diffuse,
+                (parts.sky + parts.circumsolar + parts.horiz) - parts.circumsolar
+                    + parts.ground_refl,
+            )?;
+            checks.holds("direct is no less than 0", direct >= 0.0)?;
+        }
+        checks.holds("a step for each hour", steps == hours)?;
+        checks.holds(
+            "the sun is up for half of the year",
+            (sunny * 2).abs_diff(hours) < hours / 10,
+        )?;
+    }
+    checks.done("whole years")
+}
