@@ -1,6 +1,10 @@
 // The functions of the lower crates, exported for the comparison with the Rust and for the benchmark. No customer links this crate.
 ghost use mathlib.Core.Path.{_≡_};
 ghost use Rattle.doubles.specs.Functions.{minOf2, maxOf2, floatMin, floatMax, floorOf, cubeOf, toRadians, toDegrees};
+ghost use Rattle.roots.specs.Root.{squareRoot};
+ghost use Rattle.angles.specs.Sine.{sine, cosine, tangent};
+ghost use Rattle.angles.specs.Arcsine.{arcsine, arccosine};
+ghost use Rattle.angles.specs.Power.{powMinus1253};
 ghost use Rattle.words.specs.Words.{wordCount, wordAt, putWord, doubleAt, putDouble};
 ghost use Rattle.words.specs.Hexadecimal.{digitsAt, putDigits};
 ghost use Rattle.probes.specs.Answers.{digitsAnswer};
@@ -118,4 +122,70 @@ pub extern "C" fn probe_store_digits(text: &mut [u8], at: usize, w: u64)
     ensures { λ _. ⌜ now (text .exit) ≡ putDigits (now (text .entry)) at w ⌝ }
 {
     words::store_digits(text, at, w);
+}
+
+#[no_mangle]
+pub extern "C" fn probe_sqrt(x: f64) -> f64
+    ensures { λ r. ⌜ r ≡ squareRoot x ⌝ }
+{
+    roots::sqrt(x)
+}
+
+#[no_mangle]
+pub extern "C" fn probe_sin(a: f64) -> f64
+    ensures { λ r. ⌜ r ≡ sine a ⌝ }
+{
+    angles::sin(a)
+}
+
+#[no_mangle]
+pub extern "C" fn probe_cos(a: f64) -> f64
+    ensures { λ r. ⌜ r ≡ cosine a ⌝ }
+{
+    angles::cos(a)
+}
+
+#[repr(C)]
+pub struct ProbeSinCos {
+    pub sin: f64,
+    pub cos: f64,
+}
+
+#[no_mangle]
+pub extern "C" fn probe_sin_cos(a: f64) -> ProbeSinCos
+    ensures { λ r. ⌜ (r .sin ≡ sine a) × (r .cos ≡ cosine a) ⌝ }
+{
+    let both = angles::sin_cos(a);
+    ProbeSinCos {
+        sin: both.sin,
+        cos: both.cos,
+    }
+}
+
+#[no_mangle]
+pub extern "C" fn probe_tan(a: f64) -> f64
+    ensures { λ r. ⌜ r ≡ tangent a ⌝ }
+{
+    angles::tan(a)
+}
+
+#[no_mangle]
+pub extern "C" fn probe_asin(a: f64) -> f64
+    ensures { λ r. ⌜ r ≡ arcsine a ⌝ }
+{
+    angles::asin(a)
+}
+
+#[no_mangle]
+pub extern "C" fn probe_acos(a: f64) -> f64
+    ensures { λ r. ⌜ r ≡ arccosine a ⌝ }
+{
+    angles::acos(a)
+}
+
+#[no_mangle]
+pub extern "C" fn probe_pow_minus_1_253(u: f64) -> f64
+    ensures { λ r. ⌜ r ≡ powMinus1253 u ⌝ }
+{
+    angles::pow_minus_1_253(u)
 }

@@ -1,0 +1,329 @@
+-- Laws for those who use the functions: where a result is NaN, that a sine or a cosine lies from −1 to 1, and that every result is a double.
+use mathlib.Core.Path.{_≡_, refl, sym}
+use mathlib.Core.Logic.{_⊎_, inl, inr}
+use mathlib.Core.Bool.{Bool, true, false, not, cond, _&&_, _||_, true≢false}
+use Prim.Native.Nat.{ℕ, zero, suc, _+_, _-_, _*_, _/_, _^_, _≤_, _<_}
+use native.Mathlib.Nat.{le-trans, le-of-eq, mul-one, mul-comm, mul-pos, mul-le-mul, zero-lt-suc, div-le-of-le-mul, eq-or-lt-of-le}
+use native.Mathlib.Omega.{arith}
+use lib.IntN.{ℤ, pos, negsuc}
+use lib.Dec.{T, ltb, eqb, ltb→lt, lt→ltb, nltb→le, eqb→eq, eqb-refl, lit≤}
+use lib.Pow.{pow-pos}
+use lib.Ieee.{Float, nan, inf, fin, binary64, up, down as downBy, neg, lt, le, ofInt, fits}
+use lib.Ieee.Fits.{cond-fits, nan-fits, neg-fits, sub-fits, mul-fits, div-fits}
+use Rattle.doubles.specs.Arithmetic.{_⊖_, _⊗_, _⊘_, whole, bits, decimal}
+use Rattle.doubles.specs.Functions.{floorOf}
+use Rattle.angles.specs.Series.{down}
+use Rattle.angles.specs.Sine.{isAngle, quarters, turns, quadrant, remainder, sineStep, cosineStep, sineSum, cosineSum, sineSeries, cosineSeries, sineAt, cosineAt, clamp, ofAngle, sine, cosine, tangent}
+use Rattle.angles.specs.Arcsine.{isSine, arcsineSeries, arcsineUpward, arcsine, halfPi, arccosine}
+use Rattle.angles.specs.Power.{powerOf, powerBy, powMinus1253}
+use Rattle.angles.proofs.Small.{Small, more-small, neg-small, round-small, sub-small, mul-small, div-small, by-value}
+use Rattle.angles.proofs.Turns.{whole-value}
+use Rattle.angles.proofs.Reduction.{angle-small, quarters-small}
+
+-- ---- NaN
+pub sine-no-angle : (a : Float) → isAngle a ≡ false → sine a ≡ nan
+unfolding sine
+sine-no-angle a h = simp h
+
+pub cosine-no-angle : (a : Float) → isAngle a ≡ false → cosine a ≡ nan
+unfolding cosine
+cosine-no-angle a h = simp h
+
+pub arcsine-no-sine : (a : Float) → isSine a ≡ false → arcsine a ≡ nan
+unfolding arcsine
+arcsine-no-sine a h = simp h
+
+pub arcsine-nan : arcsine nan ≡ nan
+arcsine-nan = arcsine-no-sine nan (unfold isSine le in refl)
+
+past : (a b : ℕ) (q : Bool) → (T q → a ≡ b) → a < b → ltb b a || (q && true) ≡ false
+past a b q e h = go (ltb b a) q (ltb→lt b a) e
+  where
+    go : (p q : Bool) → (T p → b < a) → (T q → a ≡ b) → p || (q && true) ≡ false
+    go true q f g = absurd (let l : b < a = f tt in omega arith)
+    go false true f g = absurd (let l : a ≡ b = g tt in omega arith)
+    go false false f g = refl
+
+above-one : (a : Float) → T (lt (whole 1) a) → le a (whole 1) ≡ false
+unfolding le whole
+above-one nan t = refl
+above-one (inf true) t = absurd t
+above-one (inf false) t = refl
+above-one (fin true m e) t = absurd t
+above-one (fin false m e) t =
+    past (1 * downBy e) (m * up e * 1) (eqb (m * up e * 1) (1 * downBy e)) (λ (q : T (eqb (m * up e * 1) (1 * downBy e))). sym (eqb→eq (m * up e * 1) (1 * downBy e) q)) (ltb→lt (1 * downBy e) (m * up e * 1) t)
+
+below-minus-one : (a : Float) → T (lt a (neg (whole 1))) → le (neg (whole 1)) a ≡ false
+unfolding le whole neg
+below-minus-one nan t = refl
+below-minus-one (inf true) t = refl
+below-minus-one (inf false) t = absurd t
+below-minus-one (fin false m e) t = absurd t
+below-minus-one (fin true m e) t = past (1 * downBy e) (m * up e * 1) (eqb (1 * downBy e) (m * up e * 1)) (eqb→eq (1 * downBy e) (m * up e * 1)) (ltb→lt (1 * downBy e) (m * up e * 1) t)
+
+last-false : (p q : Bool) → q ≡ false → p && q ≡ false
+last-false true q h = h
+last-false false q h = refl
+
+pub arcsine-above : (a : Float) → T (lt (whole 1) a) → arcsine a ≡ nan
+unfolding isSine
+arcsine-above a t = arcsine-no-sine a (last-false (le (neg (whole 1)) a) (le a (whole 1)) (above-one a t))
+
+pub arcsine-below : (a : Float) → T (lt a (neg (whole 1))) → arcsine a ≡ nan
+unfolding isSine
+arcsine-below a t = arcsine-no-sine a (simp (below-minus-one a t))
+
+-- ---- the reduced angle, and each series of it, is small
+floor-small : (v : Float) → Small 7 v → Small 8 (floorOf v)
+unfolding floorOf whole ofInt
+floor-small (fin s m (pos k)) h = more-small 7 8 (fin s m (pos k)) (lit≤ tt) h
+floor-small (fin false m (negsuc k)) h =
+    let d = 2 ^ suc k in
+    let l : m / d ≤ 2 ^ 7 = div-le-of-le-mul d (le-trans (le-of-eq (sym (mul-one m))) (le-trans h (le-of-eq (mul-comm (2 ^ 7) d)))) in
+    round-small 8 false (m / d) 1 (lit≤ tt) (zero-lt-suc 0) (omega arith)
+floor-small (fin true m (negsuc k)) h =
+    let d = 2 ^ suc k in
+    let l : (m + (d - 1)) / d ≤ 2 ^ 8 = div-le-of-le-mul d (le-trans (room m d (m * 1) (mul-one m) (pow-pos (suc k)) h) (le-of-eq (mul-comm (2 ^ 8) d))) in
+    neg-small 8 (whole ((m + (d - 1)) / d)) (round-small 8 false ((m + (d - 1)) / d) 1 (lit≤ tt) (zero-lt-suc 0) (omega arith))
+  where
+    room : (m d n : ℕ) → n ≡ m → 0 < d → n ≤ 2 ^ 7 * d → m + (d - 1) ≤ 2 ^ 8 * d
+    room m d n p q h = omega arith
+
+remainder-small : (a k : Float) → Small 6 a → Small 8 k → Small 11 (remainder a k)
+unfolding remainder bits
+remainder-small a k h l =
+    let p = mul-small 8 1 k (bits 0x3FF921FB54400000) (lit≤ tt) l (lit≤ tt) in
+    let q = mul-small 8 0 k (bits 0x3DD0B4611A626331) (lit≤ tt) l (lit≤ tt) in
+    let s = sub-small 9 a (k ⊗ bits 0x3FF921FB54400000) (lit≤ tt) (more-small 6 9 a (lit≤ tt) h) p in
+    sub-small 10 (a ⊖ k ⊗ bits 0x3FF921FB54400000) (k ⊗ bits 0x3DD0B4611A626331) (lit≤ tt) s (more-small 8 10 (k ⊗ bits 0x3DD0B4611A626331) (lit≤ tt) q)
+
+angle-rest : (a : Float) → isAngle a ≡ true → Small 11 (remainder a (turns a))
+unfolding turns
+angle-rest a h = remainder-small a (turns a) (angle-small a h) (floor-small (quarters a) (quarters-small a h))
+
+-- one step: 1 − (t/d)·h, for a d from 1 on
+step-small : (t h : Float) (d j : ℕ) → 0 < d → d ≤ 2 ^ 53 → j + 23 ≤ 1023 → Small 22 t → Small j h → Small (j + 23) (whole 1 ⊖ (t ⊘ whole d) ⊗ h)
+unfolding whole
+step-small t h d j D l r p q =
+    let r' : suc (22 + j) ≤ 1023 = omega arith in
+    let r'' : 22 + j ≤ 1023 = omega arith in
+    let z : 0 ≤ 22 + j = omega arith in
+    let e : suc (22 + j) ≤ j + 23 = omega arith in
+    more-small (suc (22 + j)) (j + 23) (whole 1 ⊖ (t ⊘ whole d) ⊗ h) e
+    (sub-small (22 + j) (whole 1) ((t ⊘ whole d) ⊗ h) r' (more-small 0 (22 + j) (whole 1) z (lit≤ tt))
+    (mul-small 22 j (t ⊘ whole d) h r'' (div-small 22 t (whole d) (lit≤ tt) p (by-value (whole d) d D (whole-value d l))) q))
+
+down-small : (step : ℕ → Float → Float) → ((n : ℕ) (h : Float) (j : ℕ) → suc n ≤ 8 → j + 23 ≤ 1023 → Small j h → Small (j + 23) (step (suc n) h))
+    → (n : ℕ) (h : Float) (j : ℕ) → n ≤ 8 → j + 23 * n ≤ 1023 → Small j h → Small (j + 23 * n) (down step n h)
+unfolding down
+down-small step good zero h j l r p = let e : j ≤ j + 23 * 0 = omega arith in more-small j (j + 23 * 0) h e p
+down-small step good (suc n) h j l r p =
+    let l' : n ≤ 8 = omega arith in
+    let r' : j + 23 + 23 * n ≤ 1023 = omega arith in
+    let r'' : j + 23 ≤ 1023 = omega arith in
+    let e : j + 23 + 23 * n ≤ j + 23 * suc n = omega arith in
+    more-small (j + 23 + 23 * n) (j + 23 * suc n) (down step n (step (suc n) h)) e
+    (down-small step good n (step (suc n) h) (j + 23) l' r' (good n h j l r'' p))
+
+sine-series-small : (r : Float) → Small 11 r → Small 195 (sineSeries r)
+unfolding sineSeries sineSum whole
+sine-series-small r h =
+    mul-small 184 11 (down (sineStep (r ⊗ r)) 8 (whole 1)) r (lit≤ tt)
+    (down-small (sineStep (r ⊗ r)) good 8 (whole 1) 0 (lit≤ tt) (lit≤ tt) (lit≤ tt)) h
+  where
+    good : (n : ℕ) (h : Float) (j : ℕ) → suc n ≤ 8 → j + 23 ≤ 1023 → Small j h → Small (j + 23) (sineStep (r ⊗ r) (suc n) h)
+    good n x j l m q =
+        let a : 2 * suc n ≤ 16 = omega arith in
+        let b : 2 * suc n + 1 ≤ 17 = omega arith in
+        let c : 0 < 2 * suc n = omega arith in
+        let d : 0 < 2 * suc n + 1 = omega arith in
+        unfold sineStep in
+        (step-small (r ⊗ r) x (2 * suc n * (2 * suc n + 1)) j (mul-pos c d) (le-trans (mul-le-mul a b) (lit≤ tt)) m (mul-small 11 11 r r (lit≤ tt) h h) q)
+
+cosine-series-small : (r : Float) → Small 11 r → Small 195 (cosineSeries r)
+unfolding cosineSeries cosineSum whole
+cosine-series-small r h =
+    more-small 184 195 (down (cosineStep (r ⊗ r)) 8 (whole 1)) (lit≤ tt)
+    (down-small (cosineStep (r ⊗ r)) good 8 (whole 1) 0 (lit≤ tt) (lit≤ tt) (lit≤ tt))
+  where
+    good : (n : ℕ) (h : Float) (j : ℕ) → suc n ≤ 8 → j + 23 ≤ 1023 → Small j h → Small (j + 23) (cosineStep (r ⊗ r) (suc n) h)
+    good n x j l m q =
+        let a : 2 * suc n - 1 ≤ 15 = omega arith in
+        let b : 2 * suc n ≤ 16 = omega arith in
+        let c : 0 < 2 * suc n - 1 = omega arith in
+        let d : 0 < 2 * suc n = omega arith in
+        unfold cosineStep in
+        (step-small (r ⊗ r) x ((2 * suc n - 1) * (2 * suc n)) j (mul-pos c d) (le-trans (mul-le-mul a b) (lit≤ tt)) m (mul-small 11 11 r r (lit≤ tt) h h) q)
+
+-- ---- from −1 to 1
+of-le : (a b : ℕ) (q : Bool) → (a ≡ b → T q) → a ≤ b → T (ltb a b || (q && true))
+of-le a b q f h = go (eq-or-lt-of-le h)
+  where
+    last : (p q : Bool) → T q → T (p || (q && true))
+    last true q t = tt
+    last false true t = tt
+
+    first : (p : Bool) → T p → T (p || (q && true))
+    first true t = tt
+
+    go : (a ≡ b) ⊎ (a < b) → T (ltb a b || (q && true))
+    go (inl e) = last (ltb a b) q (f e)
+    go (inr l) = first (ltb a b) (lt→ltb a b l)
+
+level : (a b : ℕ) → a ≡ b → T (eqb a b)
+level a b e = rw e (eqb-refl b)
+
+pin : (x : Bool) → x ≡ false → T (not x)
+pin true t = absurd (true≢false t)
+pin false t = tt
+
+-- of two numbers the one that is not below is at least the other
+zeros : (a b : ℕ) → a ≡ 0 → b ≡ 0 → T (eqb a b && (false || eqb a 0))
+zeros a b p q = rw (p, q) tt
+
+signs : (a b : ℕ) → T (ltb 0 (a + b) || (eqb a b && (false || eqb a 0)))
+signs zero zero = tt
+signs zero (suc b) = go (ltb 0 (0 + suc b)) (lt→ltb 0 (0 + suc b) (omega arith))
+  where
+    go : (p : Bool) → T p → T (p || (eqb 0 (suc b) && (false || eqb 0 0)))
+    go true t = tt
+signs (suc a) b = go (ltb 0 (suc a + b)) (lt→ltb 0 (suc a + b) (omega arith))
+  where
+    go : (p : Bool) → T p → T (p || (eqb (suc a) b && (false || eqb (suc a) 0)))
+    go true t = tt
+
+not-below : (s : Bool) (m : ℕ) (e : ℤ) (t : Bool) (n : ℕ) (d : ℤ) → lt (fin s m e) (fin t n d) ≡ false → T (le (fin t n d) (fin s m e))
+unfolding le
+not-below false m e false n d h = of-le (n * up d * downBy e) (m * up e * downBy d) (eqb (n * up d * downBy e) (m * up e * downBy d)) (level (n * up d * downBy e) (m * up e * downBy d)) (nltb→le (m * up e * downBy d) (n * up d * downBy e) (pin (ltb (m * up e * downBy d) (n * up d * downBy e)) h))
+not-below false m e true n d h = signs (n * up d * downBy e) (m * up e * downBy d)
+not-below true m e false n d h =
+    let z : m * up e * downBy d + n * up d * downBy e ≤ 0 = nltb→le 0 (m * up e * downBy d + n * up d * downBy e) (pin (ltb 0 (m * up e * downBy d + n * up d * downBy e)) h) in
+    zeros (n * up d * downBy e) (m * up e * downBy d) (omega arith) (omega arith)
+not-below true m e true n d h = of-le (m * up e * downBy d) (n * up d * downBy e) (eqb (n * up d * downBy e) (m * up e * downBy d)) (λ (p : m * up e * downBy d ≡ n * up d * downBy e). level (n * up d * downBy e) (m * up e * downBy d) (sym p)) (nltb→le (n * up d * downBy e) (m * up e * downBy d) (pin (ltb (n * up d * downBy e) (m * up e * downBy d)) h))
+
+abbrev Unit-range : Float → Type 0
+Unit-range x = T (le (neg (whole 1)) x) × T (le x (whole 1))
+
+clamp-range : (k : ℕ) (x : Float) → Small k x → Unit-range (clamp x)
+unfolding clamp whole neg
+clamp-range k (fin s m e) h = go (lt (fin s m e) (neg (whole 1))) (lt (whole 1) (fin s m e)) (not-below s m e true 1 (pos 0)) (not-below false 1 (pos 0) s m e)
+  where
+    go : (p q : Bool) → (p ≡ false → T (le (neg (whole 1)) (fin s m e))) → (q ≡ false → T (le (fin s m e) (whole 1))) → Unit-range (cond p (neg (whole 1)) (cond q (whole 1) (fin s m e)))
+    go true q f g = unfold le in (tt, tt)
+    go false true f g = unfold le in (tt, tt)
+    go false false f g = (f refl, g refl)
+
+sineAt-small : (q k : ℕ) (s c : Float) → Small k s → Small k c → Small k (sineAt q s c)
+unfolding sineAt
+sineAt-small zero k s c p r = p
+sineAt-small (suc zero) k s c p r = r
+sineAt-small (suc (suc zero)) k s c p r = neg-small k s p
+sineAt-small (suc (suc (suc q))) k s c p r = neg-small k c r
+
+cosineAt-small : (q k : ℕ) (s c : Float) → Small k s → Small k c → Small k (cosineAt q s c)
+unfolding cosineAt
+cosineAt-small zero k s c p r = r
+cosineAt-small (suc zero) k s c p r = neg-small k s p
+cosineAt-small (suc (suc zero)) k s c p r = neg-small k c r
+cosineAt-small (suc (suc (suc q))) k s c p r = p
+
+of-range : (at : ℕ → Float → Float → Float) → ((q k : ℕ) (s c : Float) → Small k s → Small k c → Small k (at q s c)) → (a : Float) → isAngle a ≡ true → Unit-range (ofAngle at a)
+unfolding ofAngle
+of-range at small a h =
+    let r = remainder a (turns a) in
+    let s = angle-rest a h in
+    rw h (clamp-range 195 (at (quadrant (turns a)) (sineSeries r) (cosineSeries r))
+    (small (quadrant (turns a)) 195 (sineSeries r) (cosineSeries r) (sine-series-small r s) (cosine-series-small r s)))
+
+-- of an angle they are numbers from −1 to 1
+pub sine-range : (a : Float) → isAngle a ≡ true → T (le (neg (whole 1)) (sine a)) × T (le (sine a) (whole 1))
+unfolding sine
+sine-range a h = of-range sineAt sineAt-small a h
+
+pub cosine-range : (a : Float) → isAngle a ≡ true → T (le (neg (whole 1)) (cosine a)) × T (le (cosine a) (whole 1))
+unfolding cosine
+cosine-range a h = of-range cosineAt cosineAt-small a h
+
+-- so NaN comes only of what is no angle
+no-nan : (x : Float) (b : Bool) → (b ≡ true → T (le (neg (whole 1)) x) × T (le x (whole 1))) → x ≡ nan → b ≡ false
+unfolding le whole neg
+no-nan x false f h = refl
+no-nan x true f h = absurd (rw h at (f refl .0))
+
+pub sine-nan : (a : Float) → sine a ≡ nan → isAngle a ≡ false
+sine-nan a h = no-nan (sine a) (isAngle a) (sine-range a) h
+
+pub cosine-nan : (a : Float) → cosine a ≡ nan → isAngle a ≡ false
+cosine-nan a h = no-nan (cosine a) (isAngle a) (cosine-range a) h
+
+-- ---- every result is a double
+clamp-fits : (x : Float) → T (fits binary64 x) → T (fits binary64 (clamp x))
+unfolding clamp whole neg
+clamp-fits x h = cond-fits binary64 (lt x (neg (whole 1))) (neg (whole 1)) (cond (lt (whole 1) x) (whole 1) x) (unfold fits in tt) (cond-fits binary64 (lt (whole 1) x) (whole 1) x (unfold fits in tt) h)
+
+sine-series-fits : (r : Float) → T (fits binary64 (sineSeries r))
+unfolding sineSeries
+sine-series-fits r = mul-fits binary64 _ r
+
+cosine-series-fits : (r : Float) → T (fits binary64 (cosineSeries r))
+unfolding cosineSeries cosineSum
+cosine-series-fits r = sub-fits binary64 (whole 1) _
+
+sineAt-fits : (q : ℕ) (s c : Float) → T (fits binary64 s) → T (fits binary64 c) → T (fits binary64 (sineAt q s c))
+unfolding sineAt
+sineAt-fits zero s c p r = p
+sineAt-fits (suc zero) s c p r = r
+sineAt-fits (suc (suc zero)) s c p r = neg-fits binary64 s p
+sineAt-fits (suc (suc (suc q))) s c p r = neg-fits binary64 c r
+
+cosineAt-fits : (q : ℕ) (s c : Float) → T (fits binary64 s) → T (fits binary64 c) → T (fits binary64 (cosineAt q s c))
+unfolding cosineAt
+cosineAt-fits zero s c p r = r
+cosineAt-fits (suc zero) s c p r = neg-fits binary64 s p
+cosineAt-fits (suc (suc zero)) s c p r = neg-fits binary64 c r
+cosineAt-fits (suc (suc (suc q))) s c p r = p
+
+of-fits : (at : ℕ → Float → Float → Float) → ((q : ℕ) (s c : Float) → T (fits binary64 s) → T (fits binary64 c) → T (fits binary64 (at q s c))) → (a : Float) → T (fits binary64 (ofAngle at a))
+unfolding ofAngle
+of-fits at fit a =
+    let r = remainder a (turns a) in
+    let x = at (quadrant (turns a)) (sineSeries r) (cosineSeries r) in
+    cond-fits binary64 (isAngle a) (clamp x) nan (clamp-fits x (fit (quadrant (turns a)) (sineSeries r) (cosineSeries r) (sine-series-fits r) (cosine-series-fits r))) (nan-fits binary64)
+
+pub sine-fits : (a : Float) → T (fits binary64 (sine a))
+unfolding sine
+sine-fits a = of-fits sineAt sineAt-fits a
+
+pub cosine-fits : (a : Float) → T (fits binary64 (cosine a))
+unfolding cosine
+cosine-fits a = of-fits cosineAt cosineAt-fits a
+
+pub tangent-fits : (a : Float) → T (fits binary64 (tangent a))
+unfolding tangent
+tangent-fits a = div-fits binary64 (sine a) (cosine a)
+
+arcsine-upward-fits : (a : Float) → T (fits binary64 (arcsineUpward a))
+unfolding arcsineUpward arcsineSeries
+arcsine-upward-fits a = cond-fits binary64 (le a (decimal 5 1)) _ _ (mul-fits binary64 a _) (sub-fits binary64 halfPi _)
+
+pub arcsine-fits : (a : Float) → T (fits binary64 (arcsine a))
+unfolding arcsine
+arcsine-fits a =
+    cond-fits binary64 (isSine a) (cond (lt a (whole 0)) (neg (arcsineUpward (neg a))) (arcsineUpward a)) nan
+    (cond-fits binary64 (lt a (whole 0)) (neg (arcsineUpward (neg a))) (arcsineUpward a) (neg-fits binary64 (arcsineUpward (neg a)) (arcsine-upward-fits (neg a))) (arcsine-upward-fits a))
+    (nan-fits binary64)
+
+pub arccosine-fits : (a : Float) → T (fits binary64 (arccosine a))
+unfolding arccosine
+arccosine-fits a = sub-fits binary64 halfPi (arcsine a)
+
+power-by-fits : (m : ℕ) (u : Float) → T (fits binary64 (powerBy m u))
+unfolding powerBy powerOf
+power-by-fits m u = mul-fits binary64 _ _
+
+pub power-fits : (u : Float) → T (fits binary64 (powMinus1253 u))
+unfolding powMinus1253
+power-fits u =
+    cond-fits binary64 (le (whole 3) u && le u (whole 14)) _ nan
+    (cond-fits binary64 (lt u (decimal 56 1)) (powerBy 2 u) _ (power-by-fits 2 u) (cond-fits binary64 (lt u (decimal 112 1)) (powerBy 3 u) (powerBy 4 u) (power-by-fits 3 u) (power-by-fits 4 u)))
+    (nan-fits binary64)

@@ -1,0 +1,109 @@
+-- What the reduction of an angle gives, and what sine and cosine are by it.
+use mathlib.Core.Path.{_≡_, refl, sym, ap, _∙_}
+use mathlib.Core.Bool.{Bool, true, false, cond, _&&_, _||_, false≢true}
+use Prim.Native.Nat.{ℕ, suc, _+_, _-_, _*_, _%_, _^_, _≤_, _<_}
+use native.Mathlib.Nat.{le-trans, le-of-eq, mul-one}
+use native.Mathlib.Omega.{arith}
+use lib.Dec.{T, ltb, eqb, ltb→lt, eqb→eq, lit≤}
+use lib.Ieee.{Float, nan, inf, fin, binary64, up, down, neg, lt, le, eq, toUnsigned, fits}
+use lib.Ieee.Fits.{add-fits}
+use Rattle.doubles.specs.Arithmetic.{_⊗_, whole, bits, decimal}
+use Rattle.angles.specs.Sine.{isAngle, quarters, turns, quadrant, remainder, sineSum, cosineSum, sineSeries, cosineSeries, clamp, ofAngle}
+use Rattle.angles.specs.Reduction.{Reduces, Expands}
+use Rattle.angles.proofs.Small.{Small, neg-small, add-small, mul-small, or-le}
+use Rattle.angles.proofs.Turns.{Cuttable, cut, part-le, floor-up, floor-level, floor-down, quadrant-up, quadrant-next, cuttable-up, cuttable-down}
+
+-- ---- an angle is small, and so are its quarter turns
+le-or : (a b : ℕ) (x : Bool) → T (ltb b a || (eqb a b && x)) → b ≤ a
+le-or a b x t = go (ltb b a) (eqb a b) (ltb→lt b a) (eqb→eq a b) t
+  where
+    go : (p q : Bool) → (T p → b < a) → (T q → a ≡ b) → T (p || (q && x)) → b ≤ a
+    go true q f g t = let h : b < a = f tt in omega arith
+    go false true f g t = let h : a ≡ b = g tt in omega arith
+    go false false f g t = absurd t
+
+both : (p q : Bool) → p && q ≡ true → T p × T q
+both true true t = (tt, tt)
+both true false t = absurd (false≢true t)
+both false q t = absurd (false≢true t)
+
+pub angle-small : (a : Float) → isAngle a ≡ true → Small 6 a
+unfolding isAngle le whole neg
+angle-small nan t = absurd (false≢true t)
+angle-small (inf true) t = absurd (false≢true t)
+angle-small (inf false) t = absurd (false≢true t)
+angle-small (fin true m e) t = le-trans (le-of-eq (sym (mul-one (m * up e)))) (le-or (2 ^ 6 * down e) (m * up e * 1) true (both (le (neg (whole 64)) (fin true m e)) (le (fin true m e) (whole 64)) t .0))
+angle-small (fin false m e) t = le-trans (le-of-eq (sym (mul-one (m * up e)))) (or-le (m * up e * 1) (2 ^ 6 * down e) true (both (le (neg (whole 64)) (fin false m e)) (le (fin false m e) (whole 64)) t .1))
+
+pub quarters-small : (a : Float) → isAngle a ≡ true → Small 7 (quarters a)
+unfolding quarters bits decimal
+quarters-small a t =
+    add-small 6 (a ⊗ bits 0x3FE45F306DC9C883) (decimal 5 1) (lit≤ tt)
+    (mul-small 6 0 a (bits 0x3FE45F306DC9C883) (lit≤ tt) (angle-small a t) (lit≤ tt)) (lit≤ tt)
+
+quarters-fits : (a : Float) → T (fits binary64 (quarters a))
+unfolding quarters
+quarters-fits a = add-fits binary64 _ _
+
+-- ---- the three ways of `reduce`
+pub ask-up : (a : Float) → isAngle a ≡ true → lt (whole 0) (quarters a) ≡ true → Cuttable (quarters a)
+ask-up a h t = cuttable-up (quarters a) (quarters-small a h) t
+
+pub ask-down : (a : Float) → isAngle a ≡ true → lt (whole 0) (quarters a) ≡ false → Cuttable (neg (quarters a))
+ask-down a h t = cuttable-down (quarters a) (quarters-fits a) (quarters-small a h) t
+
+pub up-le : (a : Float) (n : ℕ) → isAngle a ≡ true → n ≡ toUnsigned 64 (quarters a) → n ≤ 128
+up-le a n h e = le-trans (le-of-eq e) (part-le (quarters a) (quarters-small a h))
+
+pub down-le : (a : Float) (n : ℕ) → isAngle a ≡ true → n ≡ cut (quarters a) → n ≤ 128
+down-le a n h e = le-trans (le-of-eq e) (part-le (neg (quarters a)) (neg-small 7 (quarters a) (quarters-small a h)))
+
+reduced : {a k : Float} {q : ℕ} {r : Float} → isAngle a ≡ true → turns a ≡ k → quadrant k ≡ q → r ≡ remainder a k → Reduces a q r
+reduced h t p e = record { turned = simp (h, t, p); left = simp (h, t, e) }
+
+pub reduced-up : {a : Float} {n q : ℕ} {r : Float} → isAngle a ≡ true → lt (whole 0) (quarters a) ≡ true → n ≡ toUnsigned 64 (quarters a) → q ≡ n % 4 → r ≡ remainder a (whole n) → Reduces a q r
+unfolding turns
+reduced-up {a} {n} h t e p u =
+    let l : n ≤ 1000 = le-trans (up-le a n h e) (lit≤ tt) in
+    reduced h (floor-up (quarters a) (quarters-fits a) (quarters-small a h) t ∙ ap whole (sym e)) (quadrant-up n l ∙ sym p) u
+
+pub reduced-level : {a : Float} {n q : ℕ} {r : Float} → isAngle a ≡ true → lt (whole 0) (quarters a) ≡ false → n ≡ cut (quarters a) → eq (neg (whole n)) (quarters a) ≡ true
+    → q ≡ (4 - n % 4) % 4 → r ≡ remainder a (quarters a) → Reduces a q r
+unfolding turns
+reduced-level {a} h t e s p u =
+    let f = floor-level (quarters a) (quarters-fits a) (quarters-small a h) t (rw e at s) in
+    reduced h (f .0) (f .1 ∙ ap (λ (x : ℕ). (4 - x % 4) % 4) (sym e) ∙ sym p) u
+
+pub reduced-down : {a : Float} {n q : ℕ} {r : Float} → isAngle a ≡ true → lt (whole 0) (quarters a) ≡ false → n ≡ cut (quarters a) → eq (neg (whole n)) (quarters a) ≡ false
+    → q ≡ 3 - n % 4 → r ≡ remainder a (neg (whole (n + 1))) → Reduces a q r
+unfolding turns
+reduced-down {a} {n} h t e s p u =
+    reduced h
+    (floor-down (quarters a) (quarters-fits a) (quarters-small a h) t (rw e at s) ∙ ap (λ (x : ℕ). neg (whole (x + 1))) (sym e))
+    (quadrant-next n (down-le a n h e) ∙ sym p) u
+
+-- ---- from a reduced angle to sine or cosine
+four : (k : Float) → quadrant k < 4
+unfolding quadrant
+four k = go (lt k (whole 0))
+  where
+    go : (b : Bool) → cond b ((4 - toUnsigned 64 (neg k) % 4) % 4) (toUnsigned 64 k % 4) < 4
+    go true = omega arith
+    go false = omega arith
+
+pub at-quadrant : {a : Float} {q : ℕ} {r h g : Float} (at : ℕ → Float → Float → Float) (n : ℕ) → Expands a q r h g → q ≡ n → n < 4 → ofAngle at a ≡ clamp (at n (h ⊗ r) g)
+unfolding ofAngle sineSeries cosineSeries
+at-quadrant {a} {q} {r} at n d e l = rw (d .sine-sum, d .cosine-sum) (go (isAngle a) (d .reduces .turned) (d .reduces .left))
+  where
+    go : (b : Bool) → q ≡ cond b (quadrant (turns a)) 4 → r ≡ cond b (remainder a (turns a)) nan
+        → cond b (clamp (at (quadrant (turns a)) (sineSeries (remainder a (turns a))) (cosineSeries (remainder a (turns a))))) nan ≡ clamp (at n (sineSum (r ⊗ r) ⊗ r) (cosineSum (r ⊗ r)))
+    go true p u = rw (← p, ← u, e)
+    go false p u = absurd (omega arith)
+
+pub at-none : {a : Float} {q : ℕ} {r h g : Float} (at : ℕ → Float → Float → Float) → Expands a q r h g → (q < 4 → ⊥) → ofAngle at a ≡ nan
+unfolding ofAngle
+at-none {a} {q} {r} at d n = go (isAngle a) (d .reduces .turned)
+  where
+    go : (b : Bool) → q ≡ cond b (quadrant (turns a)) 4 → cond b (clamp (at (quadrant (turns a)) (sineSeries (remainder a (turns a))) (cosineSeries (remainder a (turns a))))) nan ≡ nan
+    go true p = absurd (n (le-trans (le-of-eq (ap suc p)) (four (turns a))))
+    go false p = refl

@@ -1,0 +1,5 @@
+pub mod Series
+pub mod Sine
+pub mod Reduction
+pub mod Arcsine
+pub mod Power

@@ -1,0 +1,94 @@
+-- Sine, cosine and tangent, as the paper's stand-ins define them.
+use mathlib.Core.Bool.{Bool, cond, _&&_}
+use Prim.Native.Nat.{ℕ, zero, suc, _+_, _-_, _*_, _%_}
+use lib.Ieee.{Float, nan, neg, lt, le, toUnsigned}
+use Rattle.doubles.specs.Arithmetic.{_⊕_, _⊖_, _⊗_, _⊘_, decimal, whole, bits}
+use Rattle.doubles.specs.Functions.{floorOf}
+use Rattle.angles.specs.Series.{down}
+
+-- |a| ≤ 64
+unfoldable pub isAngle : Float → Bool
+unfolding whole neg
+isAngle a = le (neg (whole 64)) a && le a (whole 64)
+
+-- k = floor(a·3FE45F306DC9C883 + 0.5)
+unfoldable pub quarters : Float → Float
+unfolding bits decimal
+quarters a = a ⊗ bits 0x3FE45F306DC9C883 ⊕ decimal 5 1
+
+unfoldable pub turns : Float → Float
+turns a = floorOf (quarters a)
+
+-- k mod 4, 0 to 3, also for k below 0
+unfoldable pub quadrant : Float → ℕ
+unfolding whole
+quadrant k = cond (lt k (whole 0)) ((4 - toUnsigned 64 (neg k) % 4) % 4) (toUnsigned 64 k % 4)
+
+-- r = (a − k·3FF921FB54400000) − k·3DD0B4611A626331
+unfoldable pub remainder : Float → Float → Float
+unfolding bits
+remainder a k = (a ⊖ k ⊗ bits 0x3FF921FB54400000) ⊖ k ⊗ bits 0x3DD0B4611A626331
+
+-- h ← 1 − (t/(2n(2n+1)))·h
+unfoldable pub sineStep : Float → ℕ → Float → Float
+unfolding whole
+sineStep t n h = whole 1 ⊖ (t ⊘ whole (2 * n * (2 * n + 1))) ⊗ h
+
+-- h ← 1 − (t/((2n−1)2n))·h
+unfoldable pub cosineStep : Float → ℕ → Float → Float
+unfolding whole
+cosineStep t n h = whole 1 ⊖ (t ⊘ whole ((2 * n - 1) * (2 * n))) ⊗ h
+
+-- from h = 1, n = 8 down to 1
+unfoldable pub sineSum : Float → Float
+unfolding down sineStep whole
+sineSum t = down (sineStep t) 8 (whole 1)
+
+unfoldable pub cosineSum : Float → Float
+unfolding down cosineStep whole
+cosineSum t = down (cosineStep t) 8 (whole 1)
+
+-- t = r·r, and the sine's times r at the end
+unfoldable pub sineSeries : Float → Float
+sineSeries r = sineSum (r ⊗ r) ⊗ r
+
+unfoldable pub cosineSeries : Float → Float
+cosineSeries r = cosineSum (r ⊗ r)
+
+-- by k mod 4 sine is s, c, −s, −c
+unfoldable pub sineAt : ℕ → Float → Float → Float
+sineAt zero s c = s
+sineAt (suc zero) s c = c
+sineAt (suc (suc zero)) s c = neg s
+sineAt (suc (suc (suc n))) s c = neg c
+
+-- and cosine c, −s, −c, s
+unfoldable pub cosineAt : ℕ → Float → Float → Float
+cosineAt zero s c = c
+cosineAt (suc zero) s c = neg s
+cosineAt (suc (suc zero)) s c = neg c
+cosineAt (suc (suc (suc n))) s c = s
+
+-- results clamp to −1..1
+unfoldable pub clamp : Float → Float
+unfolding whole neg
+clamp x = cond (lt x (neg (whole 1))) (neg (whole 1)) (cond (lt (whole 1) x) (whole 1) x)
+
+-- what both have in common, from a to the result: NaN where a is no angle
+unfoldable pub ofAngle : (ℕ → Float → Float → Float) → Float → Float
+ofAngle at a =
+    let k = turns a in
+    let r = remainder a k in
+    cond (isAngle a) (clamp (at (quadrant k) (sineSeries r) (cosineSeries r))) nan
+
+unfoldable pub sine : Float → Float
+unfolding ofAngle
+sine a = ofAngle sineAt a
+
+unfoldable pub cosine : Float → Float
+unfolding ofAngle
+cosine a = ofAngle cosineAt a
+
+-- tangent is their quotient
+unfoldable pub tangent : Float → Float
+tangent a = sine a ⊘ cosine a
