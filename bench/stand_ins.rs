@@ -6,8 +6,8 @@
 //! a slow spell of the machine meets both.
 
 use std::hint::black_box;
-use std::time::Instant;
 
+mod measure;
 #[path = "../oracle/probes.rs"]
 #[allow(dead_code)] // words and digits are not measured here
 mod probes;
@@ -25,8 +25,6 @@ use random::Random;
 const INPUTS: usize = 2048;
 /// Passes over the array in a round.
 const PASSES: usize = 8;
-/// Rounds for each side; odd, so that there is a middle one.
-const ROUNDS: usize = 51;
 
 // --- The Rust side: the same formulas, each behind a call ---
 
@@ -64,40 +62,23 @@ type Both = unsafe extern "C" fn(f64) -> SinCos;
 /// Each result goes to a place of its own, so that no call waits for the one before it; and the
 /// results are handed where the compiler must believe that they are used.
 fn round<I: Copy, R>(call: impl Fn(I) -> R, inputs: &[I], results: &mut Vec<R>) -> f64 {
-    let start = Instant::now();
-    for _ in 0..PASSES {
-        results.clear();
-        results.extend(inputs.iter().map(|&input| call(input)));
-        black_box(&mut *results);
-    }
-    start.elapsed().as_nanos() as f64 / (PASSES * inputs.len()) as f64
-}
-
-fn median(mut times: Vec<f64>) -> f64 {
-    times.sort_by(f64::total_cmp);
-    times[times.len() / 2]
+    let all = measure::nanoseconds(|| {
+        for _ in 0..PASSES {
+            results.clear();
+            results.extend(inputs.iter().map(|&input| call(input)));
+            black_box(&mut *results);
+        }
+    });
+    all / (PASSES * inputs.len()) as f64
 }
 
 /// Measures both sides in turns and prints a line of the table.
 fn line<I: Copy, R>(name: &str, rattle: impl Fn(I) -> R, rust: impl Fn(I) -> R, inputs: &[I]) {
-    let results = &mut Vec::with_capacity(inputs.len());
-    let (mut rattle_times, mut rust_times) = (vec![], vec![]);
-    round(&rattle, inputs, results); // the first round of each side warms up and does not count
-    round(&rust, inputs, results);
-    for turn in 0..ROUNDS {
-        // each side goes first in every other turn
-        if turn % 2 == 0 {
-            rattle_times.push(round(&rattle, inputs, results));
-            rust_times.push(round(&rust, inputs, results));
-        } else {
-            rust_times.push(round(&rust, inputs, results));
-            rattle_times.push(round(&rattle, inputs, results));
-        }
-    }
-    let (rattle, rust) = (median(rattle_times), median(rust_times));
-    println!(
-        "| {name} | {rattle:.2} | {rust:.2} | {:.2} |",
-        rattle / rust
+    let (rattle_results, rust_results) = (&mut vec![], &mut vec![]);
+    measure::line(
+        name,
+        || round(&rattle, inputs, rattle_results),
+        || round(&rust, inputs, rust_results),
     );
 }
 
@@ -136,8 +117,7 @@ fn main() {
     let hours = between(0.0, 8784.0);
     let extents = between(-2.0, 2.0);
 
-    println!("| function | Rattle, ns | Rust, ns | Rattle / Rust |");
-    println!("|---|---:|---:|---:|");
+    measure::heading("function");
     two("`min_of_2`", LIBRARY.min_of_2, rust::min_of_2, &extents);
     two("`max_of_2`", LIBRARY.max_of_2, rust::max_of_2, &extents);
     two("float `min`", LIBRARY.float_min, rust::float_min, &extents);

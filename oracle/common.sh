@@ -16,6 +16,7 @@ need_rustc() {
     command -v rustc >/dev/null ||
         fail "rustc is not installed (Debian 13: apt install rustc)"
     command -v cc >/dev/null || fail "there is no C compiler to link with (Debian: apt install gcc)"
+    command -v nm >/dev/null || fail "nm is not installed (Debian: apt install binutils)"
     local minor
     minor=$(rustc --version | sed -n 's/^rustc 1\.\([0-9]*\)\..*/\1/p')
     [ "${minor:-0}" -ge 84 ] || fail "rustc 1.84 or later is needed; this is $(rustc --version)"
@@ -25,6 +26,23 @@ need_rustc() {
 static_library() {
     command -v rt >/dev/null || fail "rt, Rattle's tool, is not installed"
     rt staticlib "$1" >&2 || fail "the library $1 was not built" 1
+}
+
+# published_items FOLDER: cuts them out of the published texts, and says where they are to rustc.
+published_items() {
+    command -v python3 >/dev/null || fail "python3 is not installed (Debian: apt install python3)"
+    [ -d "$1" ] || fail "no folder $1 with the published texts (name it by --source DIR)"
+    python3 oracle/slice target/oracle/published_items.rs "$1" || exit 1
+    export ORACLE_PUBLISHED_ITEMS=$PWD/target/oracle/published_items.rs
+}
+
+# need_probes ARCHIVE: the functions that oracle/probes.rs declares, each by name.
+need_probes() {
+    [ -f "$1" ] || fail "no library $1"
+    local missing
+    missing=$(comm -23 <(sed -n 's/^    fn \(probe_[a-z0-9_]*\)(.*/\1/p' oracle/probes.rs | sort) \
+        <(nm -g --defined-only "$1" 2>/dev/null | sed -n 's/.* T //p' | sort))
+    [ -z "$missing" ] || fail "the library $1 lacks these functions:"$'\n'"$missing" 1
 }
 
 # compile SOURCE PROGRAM ARCHIVE: x86-64 without later extensions, as Rattle compiles, so that no

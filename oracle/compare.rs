@@ -6,6 +6,7 @@
 //! Exit status: 0 no difference; 1 a difference, or a comparison of nothing; 2 bad usage; 3 an
 //! access outside a buffer. `oracle/run` builds this program and runs it both ways.
 
+mod arguments;
 mod comparison;
 mod guarded;
 mod numbers;
@@ -23,10 +24,12 @@ use comparison::{Outcome, Settings};
 use std::process::ExitCode;
 
 /// The sections, in the order in which they are run. A new one is added here.
-const SECTIONS: [fn(&Settings) -> Outcome; 3] = [
+const SECTIONS: [fn(&Settings) -> Outcome; 5] = [
     |settings| published::sanity::section(settings),
     |settings| numbers::section(settings, &probes::LIBRARY),
     |settings| words::section(settings, &probes::LIBRARY),
+    |settings| published::sun::section(settings, &probes::LIBRARY),
+    |settings| published::irradiance::section(settings, &probes::LIBRARY),
 ];
 
 struct Arguments {

@@ -37,9 +37,16 @@ impl Settings {
         }
         if self.print {
             let Tally { compared, both_nan } = tally;
-            println!("  {name:<24} {compared:>12} cases, {both_nan:>9} NaN on both sides");
+            println!("  {name:<44} {compared:>12} cases, {both_nan:>9} NaN on both sides");
         }
         Ok(())
+    }
+
+    /// How many of a function's cases were of some kind.
+    pub fn detail(&self, what: &str, count: u64) {
+        if self.print {
+            println!("    {what:<42} {count:>12}");
+        }
     }
 }
 

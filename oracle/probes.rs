@@ -1,9 +1,14 @@
-//! The C interface of the library `probes`: the functions of the lowest crates, one by one.
+//! The C interface of the library `probes`: the functions of the crates below the exported ones,
+//! one by one.
 //!
 //! A lent list of bytes is a pointer and a length.
 
 pub type OneDouble = unsafe extern "C" fn(f64) -> f64;
 pub type TwoDoubles = unsafe extern "C" fn(f64, f64) -> f64;
+pub type ThreeDoubles = unsafe extern "C" fn(f64, f64, f64) -> f64;
+pub type FourDoubles = unsafe extern "C" fn(f64, f64, f64, f64) -> f64;
+/// A day of the year, from 0.
+pub type OneDay = unsafe extern "C" fn(u32) -> f64;
 
 #[repr(C)]
 #[derive(Clone, Copy)]
@@ -19,6 +24,75 @@ pub struct Digits {
     pub found: u64,
     pub word: u64,
 }
+
+/// The sun and the irradiance on a surface in one hour; the last four are the diffuse breakdown.
+#[repr(C)]
+#[derive(Clone, Copy)]
+pub struct ProbeHour {
+    pub altitude: f64,
+    pub azimuth: f64,
+    pub direct: f64,
+    pub diffuse: f64,
+    pub total: f64,
+    pub sky: f64,
+    pub circumsolar: f64,
+    pub horizontal: f64,
+    pub ground: f64,
+}
+
+impl ProbeHour {
+    pub fn doubles(self) -> [f64; 9] {
+        [
+            self.altitude,
+            self.azimuth,
+            self.direct,
+            self.diffuse,
+            self.total,
+            self.sky,
+            self.circumsolar,
+            self.horizontal,
+            self.ground,
+        ]
+    }
+}
+
+/// What depends on the day alone.
+#[repr(C)]
+#[derive(Clone, Copy)]
+pub struct ProbeDay {
+    pub declination: f64,
+    pub equation_of_time: f64,
+    pub extra_terrestrial_radiation: f64,
+}
+
+/// Latitude, longitude, timezone, hour of the year, conversion needed (0 or 1), tilt, orientation,
+/// diffuse, direct, reflectivity.
+pub type HourCall =
+    unsafe extern "C" fn(f64, f64, i64, u32, u64, f64, f64, f64, f64, f64) -> ProbeHour;
+
+/// The hours of a year that is no leap year.
+pub const YEAR: usize = 8760;
+/// The doubles that a year's call stores for an hour: altitude, azimuth, direct, diffuse, total.
+pub const YEAR_COLUMNS: usize = 5;
+
+/// Latitude, longitude, timezone, conversion needed, tilt, orientation; then as lists of bytes the
+/// diffuse, direct and reflectivity series and the results. The answer is the count of hours.
+pub type YearCall = unsafe extern "C" fn(
+    f64,
+    f64,
+    i64,
+    u64,
+    f64,
+    f64,
+    *const u8,
+    usize,
+    *const u8,
+    usize,
+    *const u8,
+    usize,
+    *mut u8,
+    usize,
+) -> u64;
 
 extern "C" {
     fn probe_min_of_2(a: f64, b: f64) -> f64;
@@ -44,6 +118,143 @@ extern "C" {
     fn probe_store_double(bytes: *mut u8, len: usize, k: usize, x: f64);
     fn probe_digits_at(bytes: *const u8, len: usize, at: usize) -> Digits;
     fn probe_store_digits(bytes: *mut u8, len: usize, at: usize, w: u64);
+    fn probe_init_earth_orbit_deviation(current_day: u32) -> f64;
+    fn probe_init_solar_declination(earth_orbit_deviation: f64) -> f64;
+    fn probe_init_equation_of_time(current_day: u32) -> f64;
+    fn probe_init_time_shift(timezone: i64, longitude: f64) -> f64;
+    fn probe_init_solar_time(hour_of_day: u32, equation_of_time: f64, time_shift: f64) -> f64;
+    fn probe_init_solar_hour_angle(solar_time: f64) -> f64;
+    fn probe_init_solar_altitude(latitude: f64, declination: f64, hour_angle: f64) -> f64;
+    fn probe_init_solar_zenith_angle(altitude: f64) -> f64;
+    fn probe_init_solar_azimuth_angle(
+        latitude: f64,
+        declination: f64,
+        hour_angle: f64,
+        altitude: f64,
+    ) -> f64;
+    fn probe_init_air_mass(altitude: f64) -> f64;
+    fn probe_init_extra_terrestrial_radiation(earth_orbit_deviation: f64) -> f64;
+    fn probe_init_direct_beam_radiation(
+        conversion_needed: u64,
+        raw_value: f64,
+        altitude: f64,
+    ) -> f64;
+    fn probe_init_dimensionless_clearness_parameter(diffuse: f64, beam: f64, altitude: f64) -> f64;
+    fn probe_init_dimensionless_sky_brightness_parameter(
+        air_mass: f64,
+        diffuse: f64,
+        extra_terrestrial: f64,
+    ) -> f64;
+    fn probe_init_f1_circumsolar_brightness_coefficient(
+        clearness: f64,
+        delta: f64,
+        zenith: f64,
+    ) -> f64;
+    fn probe_init_f2_horizontal_brightness_coefficient(
+        clearness: f64,
+        delta: f64,
+        zenith: f64,
+    ) -> f64;
+    fn probe_hour(
+        latitude: f64,
+        longitude: f64,
+        timezone: i64,
+        hour: u32,
+        conversion_needed: u64,
+        tilt: f64,
+        orientation: f64,
+        diffuse: f64,
+        direct: f64,
+        reflectivity: f64,
+    ) -> ProbeHour;
+    fn probe_day_of(current_day: u32) -> ProbeDay;
+    fn probe_hour_by(
+        sin_latitude: f64,
+        cos_latitude: f64,
+        sin_declination: f64,
+        cos_declination: f64,
+        sin_tilt: f64,
+        cos_tilt: f64,
+        sin_orientation: f64,
+        cos_orientation: f64,
+        day: ProbeDay,
+        time_shift: f64,
+        hour_of_day: u32,
+        conversion_needed: u64,
+        diffuse: f64,
+        direct: f64,
+        reflectivity: f64,
+    ) -> ProbeHour;
+}
+
+/// A year, hour by hour, as a run works it out: what depends on the site and the surface is had once,
+/// what depends on the day once a day, and handed to each hour.
+#[allow(clippy::too_many_arguments)]
+unsafe extern "C" fn year_by_pieces(
+    latitude: f64,
+    longitude: f64,
+    timezone: i64,
+    conversion_needed: u64,
+    tilt: f64,
+    orientation: f64,
+    diffuse: *const u8,
+    diffuse_len: usize,
+    direct: *const u8,
+    direct_len: usize,
+    reflectivity: *const u8,
+    reflectivity_len: usize,
+    results: *mut u8,
+    results_len: usize,
+) -> u64 {
+    let count = [diffuse_len, direct_len, reflectivity_len]
+        .into_iter()
+        .map(|len| len / 8)
+        .chain([results_len / (8 * YEAR_COLUMNS), YEAR])
+        .min()
+        .unwrap();
+    let at = |list: *const u8, k: usize| unsafe { list.add(8 * k).cast::<f64>().read_unaligned() };
+    let sin_cos = |degrees: f64| unsafe { probe_sin_cos(probe_to_radians(degrees)) };
+    let latitude = sin_cos(latitude);
+    let tilt = sin_cos(tilt);
+    let orientation = sin_cos(180.0 - orientation);
+    let time_shift = probe_init_time_shift(timezone, longitude);
+    let mut day = probe_day_of(0);
+    let mut declination = sin_cos(day.declination);
+    for hour in 0..count {
+        if hour % 24 == 0 {
+            day = probe_day_of(hour as u32 / 24);
+            declination = sin_cos(day.declination);
+        }
+        let row = probe_hour_by(
+            latitude.sin,
+            latitude.cos,
+            declination.sin,
+            declination.cos,
+            tilt.sin,
+            tilt.cos,
+            orientation.sin,
+            orientation.cos,
+            day,
+            time_shift,
+            hour as u32 % 24,
+            conversion_needed,
+            at(diffuse, hour),
+            at(direct, hour),
+            at(reflectivity, hour),
+        );
+        let columns = [
+            row.altitude,
+            row.azimuth,
+            row.direct,
+            row.diffuse,
+            row.total,
+        ];
+        for (column, value) in columns.into_iter().enumerate() {
+            let place = results.add(8 * (YEAR_COLUMNS * hour + column));
+            place.cast::<f64>().write_unaligned(value);
+        }
+    }
+    count as u64
 }
 
 /// One side of a comparison: a function for each of the names above.
@@ -72,6 +283,24 @@ pub struct Probes {
     pub store_double: unsafe extern "C" fn(*mut u8, usize, usize, f64),
     pub digits_at: unsafe extern "C" fn(*const u8, usize, usize) -> Digits,
     pub store_digits: unsafe extern "C" fn(*mut u8, usize, usize, u64),
+    pub init_earth_orbit_deviation: OneDay,
+    pub init_solar_declination: OneDouble,
+    pub init_equation_of_time: OneDay,
+    pub init_time_shift: unsafe extern "C" fn(i64, f64) -> f64,
+    pub init_solar_time: unsafe extern "C" fn(u32, f64, f64) -> f64,
+    pub init_solar_hour_angle: OneDouble,
+    pub init_solar_altitude: ThreeDoubles,
+    pub init_solar_zenith_angle: OneDouble,
+    pub init_solar_azimuth_angle: FourDoubles,
+    pub init_air_mass: OneDouble,
+    pub init_extra_terrestrial_radiation: OneDouble,
+    pub init_direct_beam_radiation: unsafe extern "C" fn(u64, f64, f64) -> f64,
+    pub init_dimensionless_clearness_parameter: ThreeDoubles,
+    pub init_dimensionless_sky_brightness_parameter: ThreeDoubles,
+    pub init_f1_circumsolar_brightness_coefficient: ThreeDoubles,
+    pub init_f2_horizontal_brightness_coefficient: ThreeDoubles,
+    pub hour: HourCall,
+    pub year: YearCall,
 }
 
 /// The library that this program is linked with.
@@ -99,4 +328,22 @@ pub const LIBRARY: Probes = Probes {
     store_double: probe_store_double,
     digits_at: probe_digits_at,
     store_digits: probe_store_digits,
+    init_earth_orbit_deviation: probe_init_earth_orbit_deviation,
+    init_solar_declination: probe_init_solar_declination,
+    init_equation_of_time: probe_init_equation_of_time,
+    init_time_shift: probe_init_time_shift,
+    init_solar_time: probe_init_solar_time,
+    init_solar_hour_angle: probe_init_solar_hour_angle,
+    init_solar_altitude: probe_init_solar_altitude,
+    init_solar_zenith_angle: probe_init_solar_zenith_angle,
+    init_solar_azimuth_angle: probe_init_solar_azimuth_angle,
+    init_air_mass: probe_init_air_mass,
+    init_extra_terrestrial_radiation: probe_init_extra_terrestrial_radiation,
+    init_direct_beam_radiation: probe_init_direct_beam_radiation,
+    init_dimensionless_clearness_parameter: probe_init_dimensionless_clearness_parameter,
+    init_dimensionless_sky_brightness_parameter: probe_init_dimensionless_sky_brightness_parameter,
+    init_f1_circumsolar_brightness_coefficient: probe_init_f1_circumsolar_brightness_coefficient,
+    init_f2_horizontal_brightness_coefficient: probe_init_f2_horizontal_brightness_coefficient,
+    hour: probe_hour,
+    year: year_by_pieces,
 };

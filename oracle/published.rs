@@ -10,5 +10,16 @@ use std::sync::{Arc, OnceLock};
 
 include!(env!("ORACLE_PUBLISHED_ITEMS"));
 
-mod conditions;
+// The paths are written out, so that the benchmark can have this module too, from its own folder.
+#[path = "published/conditions.rs"]
+pub mod conditions;
+#[path = "published/interface.rs"]
+pub mod interface;
+#[path = "published/irradiance.rs"]
+pub mod irradiance;
+#[path = "published/sanity.rs"]
 pub mod sanity;
+#[path = "published/sun.rs"]
+pub mod sun;
+#[path = "published/wrong.rs"]
+pub mod wrong;

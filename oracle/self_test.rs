@@ -5,6 +5,8 @@
 use crate::comparison::{compare, same, Outcome, Settings, Tally};
 use crate::guarded::{Guarded, Side, OUT_OF_BOUNDS};
 use crate::probes::{Digits, Probes, SinCos};
+use crate::published::wrong::{wrong_sides, Wrong};
+use crate::published::{interface, irradiance, sun, wrong};
 use crate::random::{power_of_two, ulps_from};
 use crate::{numbers, stand_ins, words};
 
@@ -85,6 +87,26 @@ const RIGHT: Probes = Probes {
     store_double,
     digits_at,
     store_digits,
+    init_earth_orbit_deviation: interface::init_earth_orbit_deviation,
+    init_solar_declination: interface::init_solar_declination,
+    init_equation_of_time: interface::init_equation_of_time,
+    init_time_shift: interface::init_time_shift,
+    init_solar_time: interface::init_solar_time,
+    init_solar_hour_angle: interface::init_solar_hour_angle,
+    init_solar_altitude: interface::init_solar_altitude,
+    init_solar_zenith_angle: interface::init_solar_zenith_angle,
+    init_solar_azimuth_angle: interface::init_solar_azimuth_angle,
+    init_air_mass: interface::init_air_mass,
+    init_extra_terrestrial_radiation: interface::init_extra_terrestrial_radiation,
+    init_direct_beam_radiation: interface::init_direct_beam_radiation,
+    init_dimensionless_clearness_parameter: interface::init_dimensionless_clearness_parameter,
+    init_dimensionless_sky_brightness_parameter:
+        interface::init_dimensionless_sky_brightness_parameter,
+    init_f1_circumsolar_brightness_coefficient:
+        interface::init_f1_circumsolar_brightness_coefficient,
+    init_f2_horizontal_brightness_coefficient: interface::init_f2_horizontal_brightness_coefficient,
+    hour: interface::hour,
+    year: interface::year,
 };
 
 // --- The wrong ones: each differs in a single way, most of them in few cases ---
@@ -239,14 +261,9 @@ unsafe extern "C" fn store_digits_of_lower_case(start: *mut u8, len: usize, at: 
     }
 }
 
-/// Each wrong function, with the name under which it must be found.
-fn wrong_ones() -> Vec<(&'static str, &'static str, Probes)> {
-    macro_rules! wrong {
-        ($($field:ident: $function:ident),* $(,)?) => {
-            vec![$((stringify!($field), stringify!($function), Probes { $field: $function, ..RIGHT })),*]
-        };
-    }
-    wrong! {
+/// Each wrong function on doubles or words, with the name under which it must be found.
+fn numbers_and_words() -> Vec<Wrong> {
+    wrong_sides! { RIGHT;
         min_of_2: min_that_gives_the_first,
         max_of_2: max_with_an_equal_first,
         float_min: min_that_keeps_a_nan,
@@ -277,9 +294,17 @@ fn wrong_ones() -> Vec<(&'static str, &'static str, Probes)> {
     }
 }
 
-fn all_sections(settings: &Settings, probes: &Probes) -> Outcome {
-    numbers::section(settings, probes)?;
-    words::section(settings, probes)
+/// Sections, and the functions that they have to find.
+fn sections() -> [(fn(&Settings, &Probes) -> Outcome, Vec<Wrong>); 3] {
+    let lowest = |settings: &Settings, probes: &Probes| {
+        numbers::section(settings, probes)?;
+        words::section(settings, probes)
+    };
+    [
+        (lowest, numbers_and_words()),
+        (sun::section, wrong::sun(RIGHT)),
+        (irradiance::section, wrong::irradiance(RIGHT)),
+    ]
 }
 
 pub fn run(seed: u64) -> Outcome {
@@ -317,17 +342,19 @@ pub fn run(seed: u64) -> Outcome {
         "a comparison of NaN alone must be an error",
     )?;
 
-    all_sections(&settings, &RIGHT)
-        .map_err(|words| format!("self-test, right functions: {words}"))?;
-
-    let wrong = wrong_ones();
-    for (name, what, probes) in &wrong {
-        match all_sections(&settings, probes) {
-            Ok(()) => return Err(format!("self-test: {what} was not found")),
-            Err(words) => must(
-                words.starts_with(&format!("{name} ")),
-                &format!("{what} was found in the wrong place: {words}"),
-            )?,
+    let mut found = 0;
+    for (section, wrong) in sections() {
+        section(&settings, &RIGHT)
+            .map_err(|words| format!("self-test, right functions: {words}"))?;
+        for (name, what, probes) in &wrong {
+            match section(&settings, probes) {
+                Ok(()) => return Err(format!("self-test: {what} was not found")),
+                Err(words) => must(
+                    words.starts_with(&format!("{name} ")),
+                    &format!("{what} was found in the wrong place: {words}"),
+                )?,
+            }
+            found += 1;
         }
     }
 
@@ -344,10 +371,7 @@ pub fn run(seed: u64) -> Outcome {
         )?;
     }
 
-    println!(
-        "self-test: {} wrong functions found, both guard pages hold",
-        wrong.len()
-    );
+    println!("self-test: {found} wrong functions found, both guard pages hold");
     Ok(())
 }
 

@@ -1,7 +1,9 @@
 //! The published Rust on a few inputs whose answers are known beforehand: the specification's
 //! values at the edges. It shows that the items were cut and put together rightly.
 
-use super::conditions::{angle, sector, sun_at, FIRST_STEP};
+use super::conditions::{
+    angle, hours_of_a_year, sector, sun_at, whole_year, OneHour, Series, Site, FIRST_STEP,
+};
 use super::*;
 use crate::comparison::{same, shown, Outcome, Settings};
 use crate::random::Random;
@@ -41,7 +43,7 @@ impl Checks<'_> {
             return Err(format!("{part}: nothing was checked"));
         }
         if self.settings.print {
-            println!("  {part:<24} {made:>12} checks");
+            println!("  {part:<44} {made:>12} checks");
         }
         Ok(())
     }
@@ -56,7 +58,7 @@ pub fn section(settings: &Settings) -> Outcome {
     factor(checks)?;
     sectors(checks)?;
     times(checks)?;
-    whole_year(checks)
+    whole_years(checks)
 }
 
 /// The stand-ins lie next to the machine's functions, so none was written down wrongly. How close
@@ -355,35 +357,29 @@ fn times(checks: &mut Checks) -> Outcome {
     checks.done("times")
 }
 
-/// The record that the published Rust makes of a whole year, against its parts.
-fn whole_year(checks: &mut Checks) -> Outcome {
+/// The record that the published Rust makes of a whole year, against its parts and against the
+/// records of its single hours.
+fn whole_years(checks: &mut Checks) -> Outcome {
     for leap in [false, true] {
-        let hours = if leap { 8784 } else { 8760 };
-        let run = SimulationTime::new(0.0, hours as f64, 1.0);
+        let run = hours_of_a_year(leap);
+        let hours = run.end_time() as usize;
         let mut random = Random::new(1, "year");
         let mut series =
             |high: f64| -> Vec<f64> { (0..hours).map(|_| random.uniform(0.0, high)).collect() };
-        let (diffuse, direct, reflectivity) = (series(400.0), series(900.0), series(1.0));
-        let year = ExternalConditions::new(
-            &run.iter(),
-            vec![],
-            vec![],
-            vec![],
-            diffuse,
-            direct,
-            reflectivity,
-            51.5,
-            -0.5,
-            0,
-            0,
-            None,
-            1.0,
-            None,
-            None,
-            leap,
-            true,
-            Some(vec![sector(0.0, 360.0, vec![])]),
-        );
+        let series = Series {
+            diffuse: series(400.0),
+            direct: series(900.0),
+            reflectivity: series(1.0),
+        };
+        let site = Site {
+            latitude: 51.5,
+            longitude: -0.5,
+            timezone: 0,
+            conversion_needed: true,
+            tilt: 40.0,
+            orientation: 135.0,
+        };
+        let year = whole_year(&site, series.clone(), leap);
         checks.holds(
             "an altitude for each hour",
             year.solar_altitudes.len() == hours,
@@ -391,7 +387,8 @@ fn whole_year(checks: &mut Checks) -> Outcome {
         let (mut steps, mut sunny) = (0, 0);
         for step in run.iter() {
             steps += 1;
-            let altitude = year.solar_altitudes[step.current_hour() as usize];
+            let hour = step.current_hour() as usize;
+            let altitude = year.solar_altitudes[hour];
             sunny += (altitude > 0.0) as usize;
             let CalculatedDirectDiffuseTotalIrradiance(direct, diffuse, total, breakdown) =
                 year.calculated_direct_diffuse_total_irradiance(40.0, angle(135.0), true, step);
@@ -409,6 +406,21 @@ fn whole_year(checks: &mut Checks) -> Outcome {
                     + parts.ground_refl,
             )?;
             checks.holds("direct is no less than 0", direct >= 0.0)?;
+
+            let single = OneHour {
+                site,
+                hour: hour as u32,
+                diffuse: series.diffuse[hour],
+                direct: series.direct[hour],
+                reflectivity: series.reflectivity[hour],
+            };
+            let single = single.answer(&single.record());
+            checks.equal("a single hour's altitude", single.altitude, altitude)?;
+            let azimuth = year.solar_azimuth_angles[hour];
+            checks.equal("a single hour's azimuth", single.azimuth, azimuth)?;
+            checks.equal("a single hour's direct", single.direct, direct)?;
+            checks.equal("a single hour's diffuse", single.diffuse, diffuse)?;
+            checks.equal("a single hour's total", single.total, total)?;
         }
         checks.holds("a step for each hour", steps == hours)?;
         checks.holds(

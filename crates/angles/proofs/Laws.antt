@@ -1,24 +1,24 @@
 -- Laws for those who use the functions: where a result is NaN, that a sine or a cosine lies from −1 to 1, and that every result is a double.
-use mathlib.Core.Path.{_≡_, refl, sym}
-use mathlib.Core.Logic.{_⊎_, inl, inr}
-use mathlib.Core.Bool.{Bool, true, false, not, cond, _&&_, _||_, true≢false}
-use Prim.Native.Nat.{ℕ, zero, suc, _+_, _-_, _*_, _/_, _^_, _≤_, _<_}
-use native.Mathlib.Nat.{le-trans, le-of-eq, mul-one, mul-comm, mul-pos, mul-le-mul, zero-lt-suc, div-le-of-le-mul, eq-or-lt-of-le}
+use mathlib.Core.Path.{_≡_, refl}
+use mathlib.Core.Bool.{Bool, true, false, cond, _&&_}
+use Prim.Native.Nat.{ℕ, zero, suc, _+_, _-_, _*_, _^_, _≤_, _<_}
+use native.Mathlib.Nat.{le-trans, mul-pos, mul-le-mul, zero-lt-suc}
 use native.Mathlib.Omega.{arith}
-use lib.IntN.{ℤ, pos, negsuc}
-use lib.Dec.{T, ltb, eqb, ltb→lt, lt→ltb, nltb→le, eqb→eq, eqb-refl, lit≤}
-use lib.Pow.{pow-pos}
-use lib.Ieee.{Float, nan, inf, fin, binary64, up, down as downBy, neg, lt, le, ofInt, fits}
+use lib.Dec.{T, lit≤}
+use lib.Ieee.{Float, nan, fin, binary64, neg, lt, le, eq, ofInt, toUnsigned, isNan, fits}
 use lib.Ieee.Fits.{cond-fits, nan-fits, neg-fits, sub-fits, mul-fits, div-fits}
 use Rattle.doubles.specs.Arithmetic.{_⊖_, _⊗_, _⊘_, whole, bits, decimal}
 use Rattle.doubles.specs.Functions.{floorOf}
+use Rattle.doubles.specs.Order.{Number}
+use Rattle.doubles.proofs.Order.{le-of-not-lt}
+use Rattle.doubles.proofs.Bounds.{one-number}
 use Rattle.angles.specs.Series.{down}
 use Rattle.angles.specs.Sine.{isAngle, quarters, turns, quadrant, remainder, sineStep, cosineStep, sineSum, cosineSum, sineSeries, cosineSeries, sineAt, cosineAt, clamp, ofAngle, sine, cosine, tangent}
 use Rattle.angles.specs.Arcsine.{isSine, arcsineSeries, arcsineUpward, arcsine, halfPi, arccosine}
 use Rattle.angles.specs.Power.{powerOf, powerBy, powMinus1253}
 use Rattle.angles.proofs.Small.{Small, more-small, neg-small, round-small, sub-small, mul-small, div-small, by-value}
-use Rattle.angles.proofs.Turns.{whole-value}
-use Rattle.angles.proofs.Reduction.{angle-small, quarters-small}
+use Rattle.angles.proofs.Turns.{not-up-to, whole-value, part-le, cut, floor-up, floor-level, floor-down}
+use Rattle.angles.proofs.Reduction.{angle-small, quarters-small, quarters-fits}
 
 -- ---- NaN
 pub sine-no-angle : (a : Float) → isAngle a ≡ false → sine a ≡ nan
@@ -36,58 +36,29 @@ arcsine-no-sine a h = simp h
 pub arcsine-nan : arcsine nan ≡ nan
 arcsine-nan = arcsine-no-sine nan (unfold isSine le in refl)
 
-past : (a b : ℕ) (q : Bool) → (T q → a ≡ b) → a < b → ltb b a || (q && true) ≡ false
-past a b q e h = go (ltb b a) q (ltb→lt b a) e
-  where
-    go : (p q : Bool) → (T p → b < a) → (T q → a ≡ b) → p || (q && true) ≡ false
-    go true q f g = absurd (let l : b < a = f tt in omega arith)
-    go false true f g = absurd (let l : a ≡ b = g tt in omega arith)
-    go false false f g = refl
-
-above-one : (a : Float) → T (lt (whole 1) a) → le a (whole 1) ≡ false
-unfolding le whole
-above-one nan t = refl
-above-one (inf true) t = absurd t
-above-one (inf false) t = refl
-above-one (fin true m e) t = absurd t
-above-one (fin false m e) t =
-    past (1 * downBy e) (m * up e * 1) (eqb (m * up e * 1) (1 * downBy e)) (λ (q : T (eqb (m * up e * 1) (1 * downBy e))). sym (eqb→eq (m * up e * 1) (1 * downBy e) q)) (ltb→lt (1 * downBy e) (m * up e * 1) t)
-
-below-minus-one : (a : Float) → T (lt a (neg (whole 1))) → le (neg (whole 1)) a ≡ false
-unfolding le whole neg
-below-minus-one nan t = refl
-below-minus-one (inf true) t = refl
-below-minus-one (inf false) t = absurd t
-below-minus-one (fin false m e) t = absurd t
-below-minus-one (fin true m e) t = past (1 * downBy e) (m * up e * 1) (eqb (1 * downBy e) (m * up e * 1)) (eqb→eq (1 * downBy e) (m * up e * 1)) (ltb→lt (1 * downBy e) (m * up e * 1) t)
-
 last-false : (p q : Bool) → q ≡ false → p && q ≡ false
 last-false true q h = h
 last-false false q h = refl
 
 pub arcsine-above : (a : Float) → T (lt (whole 1) a) → arcsine a ≡ nan
 unfolding isSine
-arcsine-above a t = arcsine-no-sine a (last-false (le (neg (whole 1)) a) (le a (whole 1)) (above-one a t))
+arcsine-above a t = arcsine-no-sine a (last-false (le (neg (whole 1)) a) (le a (whole 1)) (not-up-to (record { holds = t })))
 
 pub arcsine-below : (a : Float) → T (lt a (neg (whole 1))) → arcsine a ≡ nan
 unfolding isSine
-arcsine-below a t = arcsine-no-sine a (simp (below-minus-one a t))
+arcsine-below a t = arcsine-no-sine a (simp (not-up-to {x = neg (whole 1)} {y = a} (record { holds = t })))
 
 -- ---- the reduced angle, and each series of it, is small
-floor-small : (v : Float) → Small 7 v → Small 8 (floorOf v)
-unfolding floorOf whole ofInt
-floor-small (fin s m (pos k)) h = more-small 7 8 (fin s m (pos k)) (lit≤ tt) h
-floor-small (fin false m (negsuc k)) h =
-    let d = 2 ^ suc k in
-    let l : m / d ≤ 2 ^ 7 = div-le-of-le-mul d (le-trans (le-of-eq (sym (mul-one m))) (le-trans h (le-of-eq (mul-comm (2 ^ 7) d)))) in
-    round-small 8 false (m / d) 1 (lit≤ tt) (zero-lt-suc 0) (omega arith)
-floor-small (fin true m (negsuc k)) h =
-    let d = 2 ^ suc k in
-    let l : (m + (d - 1)) / d ≤ 2 ^ 8 = div-le-of-le-mul d (le-trans (room m d (m * 1) (mul-one m) (pow-pos (suc k)) h) (le-of-eq (mul-comm (2 ^ 8) d))) in
-    neg-small 8 (whole ((m + (d - 1)) / d)) (round-small 8 false ((m + (d - 1)) / d) 1 (lit≤ tt) (zero-lt-suc 0) (omega arith))
+floor-small : (v : Float) → T (fits binary64 v) → Small 7 v → Small 8 (floorOf v)
+floor-small v f h = go (lt (whole 0) v) (eq (neg (whole (cut v))) v) refl refl
   where
-    room : (m d n : ℕ) → n ≡ m → 0 < d → n ≤ 2 ^ 7 * d → m + (d - 1) ≤ 2 ^ 8 * d
-    room m d n p q h = omega arith
+    whole-small : (n : ℕ) → n ≤ 2 ^ 8 → Small 8 (whole n)
+    whole-small n l = unfold whole ofInt in round-small 8 false n 1 (lit≤ tt) (zero-lt-suc 0) (omega arith)
+
+    go : (p q : Bool) → lt (whole 0) v ≡ p → eq (neg (whole (cut v))) v ≡ q → Small 8 (floorOf v)
+    go true q t e = rw (floor-up v f h t) (whole-small (toUnsigned 64 v) (omega (arith, part-le v h)))
+    go false true t e = rw (floor-level v f h t e .0) (more-small 7 8 v (lit≤ tt) h)
+    go false false t e = rw (floor-down v f h t e) (neg-small 8 (whole (cut v + 1)) (whole-small (cut v + 1) (omega (arith, part-le (neg v) (neg-small 7 v h)))))
 
 remainder-small : (a k : Float) → Small 6 a → Small 8 k → Small 11 (remainder a k)
 unfolding remainder bits
@@ -99,7 +70,7 @@ remainder-small a k h l =
 
 angle-rest : (a : Float) → isAngle a ≡ true → Small 11 (remainder a (turns a))
 unfolding turns
-angle-rest a h = remainder-small a (turns a) (angle-small a h) (floor-small (quarters a) (quarters-small a h))
+angle-rest a h = remainder-small a (turns a) (angle-small a h) (floor-small (quarters a) (quarters-fits a) (quarters-small a h))
 
 -- one step: 1 − (t/d)·h, for a d from 1 on
 step-small : (t h : Float) (d j : ℕ) → 0 < d → d ≤ 2 ^ 53 → j + 23 ≤ 1023 → Small 22 t → Small j h → Small (j + 23) (whole 1 ⊖ (t ⊘ whole d) ⊗ h)
@@ -156,59 +127,20 @@ cosine-series-small r h =
         (step-small (r ⊗ r) x ((2 * suc n - 1) * (2 * suc n)) j (mul-pos c d) (le-trans (mul-le-mul a b) (lit≤ tt)) m (mul-small 11 11 r r (lit≤ tt) h h) q)
 
 -- ---- from −1 to 1
-of-le : (a b : ℕ) (q : Bool) → (a ≡ b → T q) → a ≤ b → T (ltb a b || (q && true))
-of-le a b q f h = go (eq-or-lt-of-le h)
-  where
-    last : (p q : Bool) → T q → T (p || (q && true))
-    last true q t = tt
-    last false true t = tt
-
-    first : (p : Bool) → T p → T (p || (q && true))
-    first true t = tt
-
-    go : (a ≡ b) ⊎ (a < b) → T (ltb a b || (q && true))
-    go (inl e) = last (ltb a b) q (f e)
-    go (inr l) = first (ltb a b) (lt→ltb a b l)
-
-level : (a b : ℕ) → a ≡ b → T (eqb a b)
-level a b e = rw e (eqb-refl b)
-
-pin : (x : Bool) → x ≡ false → T (not x)
-pin true t = absurd (true≢false t)
-pin false t = tt
-
--- of two numbers the one that is not below is at least the other
-zeros : (a b : ℕ) → a ≡ 0 → b ≡ 0 → T (eqb a b && (false || eqb a 0))
-zeros a b p q = rw (p, q) tt
-
-signs : (a b : ℕ) → T (ltb 0 (a + b) || (eqb a b && (false || eqb a 0)))
-signs zero zero = tt
-signs zero (suc b) = go (ltb 0 (0 + suc b)) (lt→ltb 0 (0 + suc b) (omega arith))
-  where
-    go : (p : Bool) → T p → T (p || (eqb 0 (suc b) && (false || eqb 0 0)))
-    go true t = tt
-signs (suc a) b = go (ltb 0 (suc a + b)) (lt→ltb 0 (suc a + b) (omega arith))
-  where
-    go : (p : Bool) → T p → T (p || (eqb (suc a) b && (false || eqb (suc a) 0)))
-    go true t = tt
-
-not-below : (s : Bool) (m : ℕ) (e : ℤ) (t : Bool) (n : ℕ) (d : ℤ) → lt (fin s m e) (fin t n d) ≡ false → T (le (fin t n d) (fin s m e))
-unfolding le
-not-below false m e false n d h = of-le (n * up d * downBy e) (m * up e * downBy d) (eqb (n * up d * downBy e) (m * up e * downBy d)) (level (n * up d * downBy e) (m * up e * downBy d)) (nltb→le (m * up e * downBy d) (n * up d * downBy e) (pin (ltb (m * up e * downBy d) (n * up d * downBy e)) h))
-not-below false m e true n d h = signs (n * up d * downBy e) (m * up e * downBy d)
-not-below true m e false n d h =
-    let z : m * up e * downBy d + n * up d * downBy e ≤ 0 = nltb→le 0 (m * up e * downBy d + n * up d * downBy e) (pin (ltb 0 (m * up e * downBy d + n * up d * downBy e)) h) in
-    zeros (n * up d * downBy e) (m * up e * downBy d) (omega arith) (omega arith)
-not-below true m e true n d h = of-le (m * up e * downBy d) (n * up d * downBy e) (eqb (n * up d * downBy e) (m * up e * downBy d)) (λ (p : m * up e * downBy d ≡ n * up d * downBy e). level (n * up d * downBy e) (m * up e * downBy d) (sym p)) (nltb→le (n * up d * downBy e) (m * up e * downBy d) (pin (ltb (n * up d * downBy e) (m * up e * downBy d)) h))
-
 abbrev Unit-range : Float → Type 0
 Unit-range x = T (le (neg (whole 1)) x) × T (le x (whole 1))
 
 clamp-range : (k : ℕ) (x : Float) → Small k x → Unit-range (clamp x)
-unfolding clamp whole neg
-clamp-range k (fin s m e) h = go (lt (fin s m e) (neg (whole 1))) (lt (whole 1) (fin s m e)) (not-below s m e true 1 (pos 0)) (not-below false 1 (pos 0) s m e)
+unfolding clamp whole neg isNan
+clamp-range k (fin s m e) h = go (lt x (neg (whole 1))) (lt (whole 1) x) (λ p. le-of-not-lt number (record { holds = tt }) p .holds) (λ p. le-of-not-lt one-number number p .holds)
   where
-    go : (p q : Bool) → (p ≡ false → T (le (neg (whole 1)) (fin s m e))) → (q ≡ false → T (le (fin s m e) (whole 1))) → Unit-range (cond p (neg (whole 1)) (cond q (whole 1) (fin s m e)))
+    x : Float
+    x = fin s m e
+
+    number : Number x
+    number = record { holds = tt }
+
+    go : (p q : Bool) → (p ≡ false → T (le (neg (whole 1)) x)) → (q ≡ false → T (le x (whole 1))) → Unit-range (cond p (neg (whole 1)) (cond q (whole 1) x))
     go true q f g = unfold le in (tt, tt)
     go false true f g = unfold le in (tt, tt)
     go false false f g = (f refl, g refl)

@@ -3,3 +3,4 @@ pub mod Turns
 pub mod Reduction
 pub mod Values
 pub mod Laws
+pub mod Inner

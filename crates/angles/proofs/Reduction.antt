@@ -1,39 +1,24 @@
 -- What the reduction of an angle gives, and what sine and cosine are by it.
-use mathlib.Core.Path.{_≡_, refl, sym, ap, _∙_}
-use mathlib.Core.Bool.{Bool, true, false, cond, _&&_, _||_, false≢true}
-use Prim.Native.Nat.{ℕ, suc, _+_, _-_, _*_, _%_, _^_, _≤_, _<_}
-use native.Mathlib.Nat.{le-trans, le-of-eq, mul-one}
+use mathlib.Core.Path.{_≡_, refl, sym, ap, _∙_, subst}
+use mathlib.Core.Bool.{Bool, true, false, cond}
+use Prim.Native.Nat.{ℕ, suc, _+_, _-_, _%_, _≤_, _<_}
+use native.Mathlib.Nat.{le-trans, le-of-eq}
 use native.Mathlib.Omega.{arith}
-use lib.Dec.{T, ltb, eqb, ltb→lt, eqb→eq, lit≤}
-use lib.Ieee.{Float, nan, inf, fin, binary64, up, down, neg, lt, le, eq, toUnsigned, fits}
-use lib.Ieee.Fits.{add-fits}
+use lib.Dec.{T, lit≤}
+use lib.Ieee.{Float, nan, binary64, neg, lt, le, eq, toUnsigned, fits}
+use lib.Ieee.Fits.{add-fits, and-l, and-r}
 use Rattle.doubles.specs.Arithmetic.{_⊗_, whole, bits, decimal}
 use Rattle.angles.specs.Sine.{isAngle, quarters, turns, quadrant, remainder, sineSum, cosineSum, sineSeries, cosineSeries, clamp, ofAngle}
 use Rattle.angles.specs.Reduction.{Reduces, Expands}
-use Rattle.angles.proofs.Small.{Small, neg-small, add-small, mul-small, or-le}
+use Rattle.angles.proofs.Small.{Small, within, neg-small, add-small, mul-small}
 use Rattle.angles.proofs.Turns.{Cuttable, cut, part-le, floor-up, floor-level, floor-down, quadrant-up, quadrant-next, cuttable-up, cuttable-down}
 
 -- ---- an angle is small, and so are its quarter turns
-le-or : (a b : ℕ) (x : Bool) → T (ltb b a || (eqb a b && x)) → b ≤ a
-le-or a b x t = go (ltb b a) (eqb a b) (ltb→lt b a) (eqb→eq a b) t
-  where
-    go : (p q : Bool) → (T p → b < a) → (T q → a ≡ b) → T (p || (q && x)) → b ≤ a
-    go true q f g t = let h : b < a = f tt in omega arith
-    go false true f g t = let h : a ≡ b = g tt in omega arith
-    go false false f g t = absurd t
-
-both : (p q : Bool) → p && q ≡ true → T p × T q
-both true true t = (tt, tt)
-both true false t = absurd (false≢true t)
-both false q t = absurd (false≢true t)
-
 pub angle-small : (a : Float) → isAngle a ≡ true → Small 6 a
-unfolding isAngle le whole neg
-angle-small nan t = absurd (false≢true t)
-angle-small (inf true) t = absurd (false≢true t)
-angle-small (inf false) t = absurd (false≢true t)
-angle-small (fin true m e) t = le-trans (le-of-eq (sym (mul-one (m * up e)))) (le-or (2 ^ 6 * down e) (m * up e * 1) true (both (le (neg (whole 64)) (fin true m e)) (le (fin true m e) (whole 64)) t .0))
-angle-small (fin false m e) t = le-trans (le-of-eq (sym (mul-one (m * up e)))) (or-le (m * up e * 1) (2 ^ 6 * down e) true (both (le (neg (whole 64)) (fin false m e)) (le (fin false m e) (whole 64)) t .1))
+unfolding isAngle whole
+angle-small a t =
+    let u = subst T (sym t) tt in
+    within 6 (whole 64) a (refl, refl) (record { holds = and-l (le (neg (whole 64)) a) (le a (whole 64)) u }) (record { holds = and-r (le (neg (whole 64)) a) (le a (whole 64)) u })
 
 pub quarters-small : (a : Float) → isAngle a ≡ true → Small 7 (quarters a)
 unfolding quarters bits decimal
@@ -41,7 +26,7 @@ quarters-small a t =
     add-small 6 (a ⊗ bits 0x3FE45F306DC9C883) (decimal 5 1) (lit≤ tt)
     (mul-small 6 0 a (bits 0x3FE45F306DC9C883) (lit≤ tt) (angle-small a t) (lit≤ tt)) (lit≤ tt)
 
-quarters-fits : (a : Float) → T (fits binary64 (quarters a))
+pub quarters-fits : (a : Float) → T (fits binary64 (quarters a))
 unfolding quarters
 quarters-fits a = add-fits binary64 _ _
 

@@ -1,16 +1,20 @@
 -- `Small k x`: x is finite and at most 2 ^ k in size. Sums, products and quotients of small doubles are small, so a series of them has no NaN.
-use mathlib.Core.Path.{_≡_, refl, sym, ap, _∙_, subst}
-use mathlib.Core.Bool.{Bool, true, false, not, cond, _&&_, _||_, Bool·beq, true≢false}
+use mathlib.Core.Path.{_≡_, sym, ap, _∙_, subst}
+use mathlib.Core.Bool.{Bool, true, false, cond, _&&_, Bool·beq, true≢false}
 use Prim.Native.Nat.{ℕ, zero, suc, _+_, _-_, _*_, _^_, _≤_, _<_}
 use native.Mathlib.Nat.{le-trans, le-of-eq, mul-one, one-mul, mul-comm, mul-assoc, mul-left-comm, mul-right-comm, mul-le-mul, mul-le-mul-left, mul-le-mul-right, le-of-mul-le-mul-right, mul-pos, zero-lt-suc, pow-suc}
 use native.Mathlib.Omega.{arith}
-use lib.Dec.{T, ltb, eqb, ltb→lt, eqb→eq, eqb·suc-zero, lit<}
+use lib.IntN.{pos}
+use lib.Dec.{ltb, eqb, eqb·suc-zero, lit<}
 use lib.Pow.{pow-mono, pow-lt, pow-add}
-use lib.Ieee.{Float, nan, inf, fin, binary64, emax, low, up, down, unlike, odd, units, round, neg, add, sum, sub, mul, div, le}
-use lib.Ieee.Fits.{round-is, down-pos}
+use lib.Ieee.{Float, nan, inf, fin, binary64, up, down, unlike, round, neg, add, sum, sub, mul, div, le}
+use lib.Ieee.Fits.{down-pos}
 use lib.Ieee.Exact.{HasValue, round-exact}
 use lib.Ieee.Order.{round-mono}
 use Rattle.doubles.specs.Arithmetic.{_⊕_, _⊖_, _⊗_, _⊘_}
+use Rattle.doubles.specs.Order.{_≼_}
+use Rattle.doubles.proofs.Order.{le→cross, le-trans as le-trans·double, neg-le}
+use Rattle.doubles.proofs.Rounding.{round-neg, round-nonneg}
 
 abbrev pub Small : ℕ → Float → Type 0
 Small k nan = ⊥
@@ -24,44 +28,6 @@ pub neg-small : (k : ℕ) (x : Float) → Small k x → Small k (neg x)
 unfolding neg
 neg-small k (fin s m e) h = h
 
--- ---- the sign goes through `round`
-odd-neg : (d q k l : ℕ) → odd d true q k l ≡ neg (odd d false q k l)
-unfolding odd neg
-odd-neg d zero k l = refl
-odd-neg d (suc q) k l = refl
-
-units-neg : (q k : ℕ) → units binary64 true q k ≡ neg (units binary64 false q k)
-unfolding units neg
-units-neg q k = go (ltb (q * 2 ^ k) (2 ^ (low binary64 + suc (emax binary64))))
-  where
-    go : (b : Bool) → cond b (odd 54 true q k 1074) (inf true) ≡ neg (cond b (odd 54 false q k 1074) (inf false))
-    go true = odd-neg 54 q k 1074
-    go false = refl
-
-round-neg : (a c : ℕ) → round binary64 true a c ≡ neg (round binary64 false a c)
-round-neg a c = round-is binary64 true a c ∙ units-neg _ _ ∙ ap neg (sym (round-is binary64 false a c))
-
-abbrev plain : Float → Bool
-plain nan = false
-plain (inf s) = not s
-plain (fin s m e) = not s
-
-odd-plain : (d q k l : ℕ) → T (plain (odd d false q k l))
-unfolding odd
-odd-plain d zero k l = tt
-odd-plain d (suc q) k l = tt
-
-units-plain : (q k : ℕ) → T (plain (units binary64 false q k))
-unfolding units
-units-plain q k = go (ltb (q * 2 ^ k) (2 ^ (low binary64 + suc (emax binary64))))
-  where
-    go : (b : Bool) → T (plain (cond b (odd 54 false q k 1074) (inf false)))
-    go true = odd-plain 54 q k 1074
-    go false = tt
-
-round-plain : (a c : ℕ) → T (plain (round binary64 false a c))
-round-plain a c = subst (λ (x : Float). T (plain x)) (sym (round-is binary64 false a c)) (units-plain _ _)
-
 -- ---- a fraction of at most 2 ^ k rounds to at most 2 ^ k
 pow-value : (k : ℕ) → k ≤ 1023 → HasValue (round binary64 false (2 ^ k) 1) false (2 ^ k) 1
 pow-value k h =
@@ -70,34 +36,31 @@ pow-value k h =
     (subst (λ (x : ℕ). x < 2 ^ (1074 + 1024)) (sym (one-mul (2 ^ (k + 1074)))) (pow-lt l))
     (sym (pow-add 2 k 1074) ∙ sym (one-mul (2 ^ (k + 1074))) ∙ sym (mul-one (1 * 2 ^ (k + 1074))))
 
-pub or-le : (a b : ℕ) (x : Bool) → T (ltb a b || (eqb a b && x)) → a ≤ b
-or-le a b x t = go (ltb a b) (eqb a b) (ltb→lt a b) (eqb→eq a b) t
+-- what lies between −b and b, for a b of 2 ^ k
+pub within : (k : ℕ) (b x : Float) → HasValue b false (2 ^ k) 1 → neg b ≼ x → x ≼ b → Small k x
+unfolding le neg
+within k nan x v l h = absurd v
+within k (inf t) x v l h = absurd v
+within k (fin true n d) x v l h = absurd (true≢false (v .0))
+within k (fin false n d) nan v l h = absurd (h .holds)
+within k (fin false n d) (inf true) v l h = absurd (l .holds)
+within k (fin false n d) (inf false) v l h = absurd (h .holds)
+within k (fin false n d) (fin s m e) v l h = go s l h
   where
-    go : (p q : Bool) → (T p → a < b) → (T q → a ≡ b) → T (p || (q && x)) → a ≤ b
-    go true q f g t = let h : a < b = f tt in omega arith
-    go false true f g t = let h : a ≡ b = g tt in omega arith
-    go false false f g t = absurd t
+    size : m * up e * down d ≤ n * up d * down e → m * up e ≤ 2 ^ k * down e
+    size h = le-of-mul-le-mul-right (le-trans h (le-of-eq (ap (λ (x : ℕ). x * down e) (sym (mul-one (n * up d)) ∙ v .1) ∙ mul-right-comm (2 ^ k) (down d) (down e)))) (down-pos d)
 
-le-small : (k : ℕ) (x y : Float) → T (plain x) → T (le x y) → HasValue y false (2 ^ k) 1 → Small k x
-unfolding le
-le-small k nan y p l v = absurd p
-le-small k (inf true) y p l v = absurd p
-le-small k (inf false) nan p l v = absurd v
-le-small k (inf false) (inf t) p l v = absurd v
-le-small k (inf false) (fin t n d) p l v = absurd l
-le-small k (fin true m e) y p l v = absurd p
-le-small k (fin false m e) nan p l v = absurd v
-le-small k (fin false m e) (inf t) p l v = absurd v
-le-small k (fin false m e) (fin true n d) p l v = absurd (true≢false (v .0))
-le-small k (fin false m e) (fin false n d) p l v =
-    let h : m * up e * down d ≤ n * up d * down e = or-le (m * up e * down d) (n * up d * down e) true l in
-    le-of-mul-le-mul-right
-    (le-trans h (le-of-eq (ap (λ (x : ℕ). x * down e) (sym (mul-one (n * up d)) ∙ v .1) ∙ mul-right-comm (2 ^ k) (down d) (down e)))) (down-pos d)
+    go : (s : Bool) → fin true n d ≼ fin s m e → fin s m e ≼ fin false n d → m * up e ≤ 2 ^ k * down e
+    go true l h = size (omega (arith, le→cross (record { holds = tt }) (record { holds = tt }) l))
+    go false l h = size (omega (arith, le→cross (record { holds = tt }) (record { holds = tt }) h))
 
 round-up : (k a c : ℕ) → k ≤ 1023 → 0 < c → a ≤ 2 ^ k * c → Small k (round binary64 false a c)
 round-up k a c l C h =
-    le-small k (round binary64 false a c) (round binary64 false (2 ^ k) 1) (round-plain a c)
-    (round-mono binary64 a c (2 ^ k) 1 C (zero-lt-suc 0) (le-trans (le-of-eq (mul-one a)) h)) (pow-value k l)
+    let one = zero-lt-suc 0 in
+    let zeros : neg (fin false 0 (pos 0)) ≼ fin false 0 (pos 0) = record { holds = unfold neg le in tt } in
+    within k (round binary64 false (2 ^ k) 1) (round binary64 false a c) (pow-value k l)
+    (le-trans·double (neg-le (round-nonneg (2 ^ k) 1 one)) (le-trans·double zeros (round-nonneg a c C)))
+    (record { holds = round-mono binary64 a c (2 ^ k) 1 C one (le-trans (le-of-eq (mul-one a)) h) })
 
 pub round-small : (k : ℕ) (s : Bool) (a c : ℕ) → k ≤ 1023 → 0 < c → a ≤ 2 ^ k * c → Small k (round binary64 s a c)
 round-small k false a c l C h = round-up k a c l C h

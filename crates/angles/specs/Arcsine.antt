@@ -22,7 +22,8 @@ unfolding pi whole
 halfPi = pi ⊘ whole 2
 
 -- For a ≤ 0.5 the series; above: PI/2 − 2·arcsine(root((1−a)/2)).
--- There (1−a)/2 is below 0.25 and its root at most 0.5, so that the inner arcsine is the series again.
+-- There (1−a)/2 is at most 0.25 and its root at most 0.5, so that the inner arcsine is the series again: `arcsine-inner` of proofs/Inner,
+-- where `arcsine-above-half` has the line above in the paper's own words.
 unfoldable pub arcsineUpward : Float → Float
 unfolding decimal whole
 arcsineUpward a =

@@ -13,7 +13,7 @@ use lib.Ieee.Positive.{den, den-pos, positive}
 use lib.Ieee.Scale.{finite}
 use Rattle.doubles.specs.Arithmetic.{_⊕_, _⊖_, _⊗_, _⊘_, whole}
 use Rattle.doubles.specs.Order.{_≼_, _≺_, _≈_, Number, Finite, Fits, Zero, NonZero}
-use Rattle.doubles.proofs.Order.{or-right, positivePart, negativePart, le-refl, le-trans, top, bottom, neg-finite, neg-le, left-number, right-number, lt→le, lt-excludes}
+use Rattle.doubles.proofs.Order.{or-right, positivePart, negativePart, le-refl, le-trans, top, bottom, neg-finite, neg-le, left-number, right-number, lt→le, lt-excludes, le-of-not-lt}
 use Rattle.doubles.proofs.Rounding.{Rounded, plus, minus, zero-round, rounded-mono, add-rounds, mul-rounds}
 use Rattle.doubles.proofs.Monotone.{positive-of, add-mono, sub-mono, mul-mono, div-mono}
 use Rattle.doubles.proofs.Exact.{own-rounded, div-self, digits-pos}
@@ -275,3 +275,58 @@ div-le-one {x} {z} p h n = go x z p h n
     go x (fin t k d) p h n =
         let one : fin t k d ⊘ fin t k d ≡ whole 1 = div-self (record { holds = tt }) (positive-nonzero p) in
         rw one at (div-mono p h n (rw one one-number))
+
+-- ---- a result that is a number comes of numbers
+
+nan-number : {A : Type 0} → Number nan → A
+unfolding isNan
+nan-number n = absurd (n .holds)
+
+pub add-operands : {x y : Float} → Number (x ⊕ y) → Number x × Number y
+unfolding add isNan
+add-operands {x} {y} n = go x y n
+  where
+    go : (x y : Float) → Number (x ⊕ y) → Number x × Number y
+    go nan y n = nan-number n
+    go (inf s) nan n = nan-number n
+    go (fin s m e) nan n = nan-number n
+    go (inf s) (inf t) n = (record { holds = tt }, record { holds = tt })
+    go (inf s) (fin t k d) n = (record { holds = tt }, record { holds = tt })
+    go (fin s m e) (inf t) n = (record { holds = tt }, record { holds = tt })
+    go (fin s m e) (fin t k d) n = (record { holds = tt }, record { holds = tt })
+
+pub mul-operands : {x y : Float} → Number (x ⊗ y) → Number x × Number y
+unfolding mul isNan
+mul-operands {x} {y} n = go x y n
+  where
+    go : (x y : Float) → Number (x ⊗ y) → Number x × Number y
+    go nan y n = nan-number n
+    go (inf s) nan n = nan-number n
+    go (fin s m e) nan n = nan-number n
+    go (inf s) (inf t) n = (record { holds = tt }, record { holds = tt })
+    go (inf s) (fin t k d) n = (record { holds = tt }, record { holds = tt })
+    go (fin s m e) (inf t) n = (record { holds = tt }, record { holds = tt })
+    go (fin s m e) (fin t k d) n = (record { holds = tt }, record { holds = tt })
+
+pub div-operands : {x y : Float} → Number (x ⊘ y) → Number x × Number y
+unfolding div isNan
+div-operands {x} {y} n = go x y n
+  where
+    go : (x y : Float) → Number (x ⊘ y) → Number x × Number y
+    go nan y n = nan-number n
+    go (inf s) nan n = nan-number n
+    go (fin s m e) nan n = nan-number n
+    go (inf s) (inf t) n = (record { holds = tt }, record { holds = tt })
+    go (inf s) (fin t k d) n = (record { holds = tt }, record { holds = tt })
+    go (fin s m e) (inf t) n = (record { holds = tt }, record { holds = tt })
+    go (fin s m e) (fin t k d) n = (record { holds = tt }, record { holds = tt })
+
+-- ---- what is cut off at a bound from below
+
+-- x where it is not below the bound, else the bound
+pub cut-below : (b x : Float) → Number b → Number (cond (lt x b) b x) → b ≼ cond (lt x b) b x
+cut-below b x m n = go (lt x b) refl n
+  where
+    go : (t : Bool) → lt x b ≡ t → Number (cond t b x) → b ≼ cond t b x
+    go true e n = le-refl m
+    go false e n = le-of-not-lt n m e

@@ -10,6 +10,8 @@ ghost use Rattle.words.specs.Hexadecimal.{digitsAt, putDigits};
 ghost use Rattle.probes.specs.Answers.{digitsAnswer};
 use words::Digits;
 
+pub mod sky;
+
 #[no_mangle]
 pub extern "C" fn probe_min_of_2(a: f64, b: f64) -> f64
     ensures { λ r. ⌜ r ≡ minOf2 a b ⌝ }

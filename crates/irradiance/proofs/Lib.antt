@@ -1,0 +1,4 @@
+pub mod Table
+pub mod Constants
+pub mod NotNegative
+pub mod Values

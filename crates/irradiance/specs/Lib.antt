@@ -1,0 +1,3 @@
+pub mod Sky
+pub mod Surface
+pub mod Parts

@@ -1,0 +1,94 @@
+-- The state of the sky (Perez model, ISO 52010-1), in the Rust's order of operations: the beam after conversion, clearness, sky
+-- brightness, and the brightness coefficients F1 and F2 by Table 8. Angles are in degrees.
+use mathlib.Core.Bool.{Bool, cond}
+use mathlib.Core.List.{List, [], _∷_}
+use Prim.Native.Nat.{ℕ, suc, _+_}
+use lib.ListN.{getD}
+use lib.Ieee.{Float, nan, neg, lt, eq}
+use Rattle.doubles.specs.Arithmetic.{_⊕_, _⊖_, _⊗_, _⊘_, decimal, whole}
+use Rattle.doubles.specs.Functions.{pi, cubeOf}
+use Rattle.sun.specs.declared.hour.Hour.{Hour}
+use Rattle.irradiance.specs.declared.sky.Sky.{Sky}
+
+-- the beam at normal incidence: where the series has it on the horizontal plane it is divided by the altitude's sine, if that is above 0
+unfoldable pub directBeam : Bool → Float → Float → Float
+unfolding whole
+directBeam conversion raw sinAltitude = cond conversion (cond (lt (whole 0) sinAltitude) (raw ⊘ sinAltitude) raw) raw
+
+-- 1.014 · ((PI / 180) · altitude)³
+unfoldable pub altitudeTerm : Float → Float
+unfolding decimal whole pi
+altitudeTerm altitude = decimal 1014 3 ⊗ cubeOf (pi ⊘ whole 180 ⊗ altitude)
+
+-- diffuse exactly 0 gives 999
+unfoldable pub clearness : Float → Float → Float → Float
+unfolding whole altitudeTerm
+clearness diffuse beam altitude =
+    cond (eq diffuse (whole 0)) (whole 999)
+    (((diffuse ⊕ beam) ⊘ diffuse ⊕ altitudeTerm altitude) ⊘ (whole 1 ⊕ altitudeTerm altitude))
+
+unfoldable pub skyBrightness : Float → Float → Float → Float
+skyBrightness airMass diffuse extraTerrestrial = airMass ⊗ diffuse ⊘ extraTerrestrial
+
+-- Table 8: below these limits of clearness stand rows 0 to 6; row 7 takes the rest, and NaN
+unfoldable pub limits : List Float
+unfolding decimal
+limits = decimal 1065 3 ∷ decimal 123 2 ∷ decimal 15 1 ∷ decimal 195 2 ∷ decimal 28 1 ∷ decimal 45 1 ∷ decimal 62 1 ∷ []
+
+unfoldable pub firstAbove : List Float → Float → ℕ
+firstAbove [] x = 0
+firstAbove (l ∷ ls) x = cond (lt x l) 0 (suc (firstAbove ls x))
+
+unfoldable pub tableRow : Float → ℕ
+unfolding limits firstAbove
+tableRow e = firstAbove limits e
+
+-- Table 8: F11, F12, F13, F21, F22, F23
+unfoldable pub coefficients : List (List Float)
+unfolding decimal neg
+coefficients =
+    (neg (decimal 8 3) ∷ decimal 588 3 ∷ neg (decimal 62 3) ∷ neg (decimal 6 2) ∷ decimal 72 3 ∷ neg (decimal 22 3) ∷ [])
+    ∷ (decimal 13 2 ∷ decimal 683 3 ∷ neg (decimal 151 3) ∷ neg (decimal 19 3) ∷ decimal 66 3 ∷ neg (decimal 29 3) ∷ [])
+    ∷ (decimal 33 2 ∷ decimal 487 3 ∷ neg (decimal 221 3) ∷ decimal 55 3 ∷ neg (decimal 64 3) ∷ neg (decimal 26 3) ∷ [])
+    ∷ (decimal 568 3 ∷ decimal 187 3 ∷ neg (decimal 295 3) ∷ decimal 109 3 ∷ neg (decimal 152 3) ∷ neg (decimal 14 3) ∷ [])
+    ∷ (decimal 873 3 ∷ neg (decimal 392 3) ∷ neg (decimal 362 3) ∷ decimal 226 3 ∷ neg (decimal 462 3) ∷ decimal 1 3 ∷ [])
+    ∷ (decimal 1132 3 ∷ neg (decimal 1237 3) ∷ neg (decimal 412 3) ∷ decimal 288 3 ∷ neg (decimal 823 3) ∷ decimal 56 3 ∷ [])
+    ∷ (decimal 106 2 ∷ neg (decimal 16 1) ∷ neg (decimal 359 3) ∷ decimal 264 3 ∷ neg (decimal 1127 3) ∷ decimal 131 3 ∷ [])
+    ∷ (decimal 678 3 ∷ neg (decimal 327 3) ∷ neg (decimal 25 2) ∷ decimal 156 3 ∷ neg (decimal 1377 3) ∷ decimal 251 3 ∷ [])
+    ∷ []
+
+-- the k-th coefficient of a row
+unfoldable pub coefficient : ℕ → ℕ → Float
+unfolding coefficients
+coefficient row k = getD (getD coefficients row []) k nan
+
+-- a + b·delta + c·((PI · zenith) / 180), for the three coefficients from the k-th on
+unfoldable pub brightness : ℕ → Float → Float → Float → Float
+unfolding coefficient tableRow whole pi
+brightness k e delta zenith =
+    let row = tableRow e in
+    coefficient row k ⊕ coefficient row (k + 1) ⊗ delta ⊕ coefficient row (k + 2) ⊗ (pi ⊗ zenith ⊘ whole 180)
+
+-- F1 below 0 becomes 0
+unfoldable pub circumsolarBrightness : Float → Float → Float → Float
+unfolding brightness whole
+circumsolarBrightness e delta zenith = let f1 = brightness 0 e delta zenith in cond (lt f1 (whole 0)) (whole 0) f1
+
+-- F2 may be negative
+unfoldable pub horizontalBrightness : Float → Float → Float → Float
+unfolding brightness
+horizontalBrightness e delta zenith = brightness 3 e delta zenith
+
+-- The sky of one step: the diffuse value, the beam after conversion, F1 and F2.
+unfoldable pub skyOf : Bool → Hour → Float → Float → Float → Sky
+unfolding directBeam clearness skyBrightness circumsolarBrightness horizontalBrightness
+skyOf conversion hour extraTerrestrial diffuse direct =
+    let beam = directBeam conversion direct (hour .«sin_altitude») in
+    let e = clearness diffuse beam (hour .altitude) in
+    let delta = skyBrightness (hour .«air_mass») diffuse extraTerrestrial in
+    record {
+      diffuse = diffuse;
+      beam = beam;
+      f1 = circumsolarBrightness e delta (hour .zenith);
+      f2 = horizontalBrightness e delta (hour .zenith);
+    }

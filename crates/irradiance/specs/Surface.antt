@@ -1,0 +1,41 @@
+-- The sun on an inclined surface (ISO 52010-1), in the Rust's order of operations: the angle of incidence and the ratio a / b.
+-- Angles are in degrees; the formulas name the sines and cosines of latitude l, declination d, tilt t, orientation o (from south,
+-- eastwards positive) and hour angle w.
+use lib.Ieee.{Float}
+use Rattle.doubles.specs.Arithmetic.{_⊕_, _⊖_, _⊗_, _⊘_, whole}
+use Rattle.doubles.specs.Functions.{maxOf2, toRadians, toDegrees}
+use Rattle.angles.specs.declared.SinCos.{SinCos}
+use Rattle.angles.specs.Sine.{cosine}
+use Rattle.angles.specs.Arcsine.{arccosine}
+use Rattle.sun.specs.declared.hour.Hour.{Hour}
+use Rattle.irradiance.specs.declared.surface.Incidence.{Incidence}
+
+-- orientation from north, 0 to 360, as an angle from south: 0 becomes 180, 360 becomes −180
+unfoldable pub orientation180 : Float → Float
+unfolding whole
+orientation180 orientation = whole 180 ⊖ orientation
+
+unfoldable pub incidenceAngle : SinCos → SinCos → SinCos → SinCos → SinCos → Float
+incidenceAngle l d t o w =
+    toDegrees (arccosine (
+    d .sin ⊗ l .sin ⊗ t .cos
+    ⊖ d .sin ⊗ l .cos ⊗ t .sin ⊗ o .cos
+    ⊕ d .cos ⊗ l .cos ⊗ t .cos ⊗ w .cos
+    ⊕ d .cos ⊗ l .sin ⊗ t .sin ⊗ o .cos ⊗ w .cos
+    ⊕ d .cos ⊗ t .sin ⊗ o .sin ⊗ w .sin))
+
+-- the cosine of an angle in degrees
+unfoldable pub cosineOfDegrees : Float → Float
+cosineOfDegrees degrees = cosine (toRadians degrees)
+
+-- the incidence-weighted solid angles of the circumsolar region, as the surface and as the horizontal see it
+unfoldable pub aOverB : Float → Float → Float
+unfolding whole cosineOfDegrees
+aOverB cosIncidence cosZenith = maxOf2 (whole 0) cosIncidence ⊘ maxOf2 (cosineOfDegrees (whole 85)) cosZenith
+
+-- The sun on the surface in one hour: the cosine of its incidence, and a / b.
+unfoldable pub incidenceOf : SinCos → SinCos → SinCos → SinCos → Hour → Incidence
+unfolding incidenceAngle cosineOfDegrees aOverB
+incidenceOf l d t o hour =
+    let c = cosineOfDegrees (incidenceAngle l d t o (hour .«hour_angle»)) in
+    record { cos = c; «a_over_b» = aOverB c (hour .«cos_zenith») }

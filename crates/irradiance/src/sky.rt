@@ -1,0 +1,156 @@
+// The state of the sky: the Perez model's clearness, brightness and coefficients F1 and F2.
+ghost use mathlib.Core.Path.{_≡_};
+ghost use Prim.Native.Nat.{_<_, _+_};
+ghost use Rattle.irradiance.specs.Sky.{directBeam, altitudeTerm, clearness, skyBrightness, tableRow, brightness, circumsolarBrightness, horizontalBrightness, skyOf};
+use sun::hour::Hour;
+
+const PI: f64 = 3.141592653589793;
+
+// Table 8 of ISO 52010-1: F11, F12, F13, F21, F22, F23.
+const BRIGHTNESS_COEFFICIENTS: [[f64; 6]; 8] = [
+    [-0.008, 0.588, -0.062, -0.06, 0.072, -0.022],
+    [0.13, 0.683, -0.151, -0.019, 0.066, -0.029],
+    [0.33, 0.487, -0.221, 0.055, -0.064, -0.026],
+    [0.568, 0.187, -0.295, 0.109, -0.152, -0.014],
+    [0.873, -0.392, -0.362, 0.226, -0.462, 0.001],
+    [1.132, -1.237, -0.412, 0.288, -0.823, 0.056],
+    [1.06, -1.6, -0.359, 0.264, -1.127, 0.131],
+    [0.678, -0.327, -0.25, 0.156, -1.377, 0.251],
+];
+
+// The beam at normal incidence, by the sine of the sun's altitude.
+pub fn init_direct_beam_radiation(
+    direct_beam_conversion_needed: bool,
+    raw_value: f64,
+    sin_altitude: f64,
+) -> f64
+    ensures { λ r. ⌜ r ≡ directBeam «direct_beam_conversion_needed» «raw_value» «sin_altitude» ⌝ }
+{
+    if direct_beam_conversion_needed {
+        if sin_altitude > 0.0 {
+            return raw_value / sin_altitude;
+        }
+    }
+    raw_value
+}
+
+fn altitude_term(solar_altitude: f64) -> f64
+    ensures { λ r. ⌜ r ≡ altitudeTerm «solar_altitude» ⌝ }
+{
+    1.014 * doubles::cube(PI / 180.0 * solar_altitude)
+}
+
+pub fn init_dimensionless_clearness_parameter(
+    diffuse_horizontal_radiation: f64,
+    direct_beam_radiation: f64,
+    solar_altitude: f64,
+) -> f64
+    ensures { λ r. ⌜ r ≡ clearness «diffuse_horizontal_radiation» «direct_beam_radiation» «solar_altitude» ⌝ }
+{
+    if diffuse_horizontal_radiation == 0.0 {
+        return 999.0;
+    }
+    let term = altitude_term(solar_altitude);
+    ((diffuse_horizontal_radiation + direct_beam_radiation) / diffuse_horizontal_radiation + term)
+        / (1.0 + term)
+}
+
+pub fn init_dimensionless_sky_brightness_parameter(
+    air_mass: f64,
+    diffuse_horizontal_radiation: f64,
+    extra_terrestrial_radiation: f64,
+) -> f64
+    ensures { λ r. ⌜ r ≡ skyBrightness «air_mass» «diffuse_horizontal_radiation» «extra_terrestrial_radiation» ⌝ }
+{
+    air_mass * diffuse_horizontal_radiation / extra_terrestrial_radiation
+}
+
+// The row of Table 8: the first whose limit is above the clearness, and the last for the rest.
+fn table_row(clearness_parameter: f64) -> usize
+    ensures { λ r. ⌜ r ≡ tableRow «clearness_parameter» ⌝ }
+{
+    if clearness_parameter < 1.065 {
+        return 0;
+    }
+    if clearness_parameter < 1.23 {
+        return 1;
+    }
+    if clearness_parameter < 1.5 {
+        return 2;
+    }
+    if clearness_parameter < 1.95 {
+        return 3;
+    }
+    if clearness_parameter < 2.8 {
+        return 4;
+    }
+    if clearness_parameter < 4.5 {
+        return 5;
+    }
+    if clearness_parameter < 6.2 {
+        return 6;
+    }
+    7
+}
+
+// Three coefficients of one row of Table 8, from the k-th on, put together.
+fn brightness_from(k: usize, clearness_parameter: f64, delta: f64, solar_zenith_angle: f64) -> f64
+    requires { ⌜ k < 4 ⌝ }
+    ensures { λ r. ⌜ r ≡ brightness k «clearness_parameter» delta «solar_zenith_angle» ⌝ }
+{
+    let row = BRIGHTNESS_COEFFICIENTS[table_row(clearness_parameter)];
+    row[k] + row[k + 1] * delta + row[k + 2] * (PI * solar_zenith_angle / 180.0)
+}
+
+pub fn init_f1_circumsolar_brightness_coefficient(
+    clearness_parameter: f64,
+    delta: f64,
+    solar_zenith_angle: f64,
+) -> f64
+    ensures { λ r. ⌜ r ≡ circumsolarBrightness «clearness_parameter» delta «solar_zenith_angle» ⌝ }
+{
+    let f1 = brightness_from(0, clearness_parameter, delta, solar_zenith_angle);
+    if f1 < 0.0 { 0.0 } else { f1 }
+}
+
+pub fn init_f2_horizontal_brightness_coefficient(
+    clearness_parameter: f64,
+    delta: f64,
+    solar_zenith_angle: f64,
+) -> f64
+    ensures { λ r. ⌜ r ≡ horizontalBrightness «clearness_parameter» delta «solar_zenith_angle» ⌝ }
+{
+    brightness_from(3, clearness_parameter, delta, solar_zenith_angle)
+}
+
+// The sky of one step.
+pub struct Sky {
+    pub diffuse: f64,
+    pub beam: f64,
+    pub f1: f64,
+    pub f2: f64,
+}
+
+pub fn sky_of(
+    direct_beam_conversion_needed: bool,
+    hour: Hour,
+    extra_terrestrial_radiation: f64,
+    diffuse: f64,
+    direct: f64,
+) -> Sky
+    ensures { λ r. ⌜ r ≡ skyOf «direct_beam_conversion_needed» hour «extra_terrestrial_radiation» diffuse direct ⌝ }
+{
+    let beam = init_direct_beam_radiation(direct_beam_conversion_needed, direct, hour.sin_altitude);
+    let e = init_dimensionless_clearness_parameter(diffuse, beam, hour.altitude);
+    let delta = init_dimensionless_sky_brightness_parameter(
+        hour.air_mass,
+        diffuse,
+        extra_terrestrial_radiation,
+    );
+    Sky {
+        diffuse: diffuse,
+        beam: beam,
+        f1: init_f1_circumsolar_brightness_coefficient(e, delta, hour.zenith),
+        f2: init_f2_horizontal_brightness_coefficient(e, delta, hour.zenith),
+    }
+}

@@ -1,0 +1,49 @@
+// The sun on an inclined surface: incidence, and the ratio of the solid angles a and b.
+ghost use mathlib.Core.Path.{_≡_};
+ghost use Rattle.irradiance.specs.Surface.{orientation180, incidenceAngle, aOverB, incidenceOf};
+use angles::SinCos;
+use sun::hour::Hour;
+
+// The orientation from north as an angle from south, eastwards positive.
+pub fn transform_to_180(orientation: f64) -> f64
+    ensures { λ r. ⌜ r ≡ orientation180 orientation ⌝ }
+{
+    180.0 - orientation
+}
+
+// By the sines and cosines of latitude, declination, tilt, orientation and hour angle.
+fn solar_angle_of_incidence(l: SinCos, d: SinCos, t: SinCos, o: SinCos, w: SinCos) -> f64
+    ensures { λ r. ⌜ r ≡ incidenceAngle l d t o w ⌝ }
+{
+    doubles::to_degrees(angles::acos(
+        d.sin * l.sin * t.cos - d.sin * l.cos * t.sin * o.cos
+            + d.cos * l.cos * t.cos * w.cos
+            + d.cos * l.sin * t.sin * o.cos * w.cos
+            + d.cos * t.sin * o.sin * w.sin,
+    ))
+}
+
+// The constant is the cosine of 85 degrees.
+fn a_over_b(cos_incidence: f64, cos_zenith: f64) -> f64
+    ensures { λ r. ⌜ r ≡ aOverB «cos_incidence» «cos_zenith» ⌝ }
+{
+    doubles::max_of_2(0.0, cos_incidence) / doubles::max_of_2(0.08715574274765812, cos_zenith)
+}
+
+// The sun on the surface in one hour.
+pub struct Incidence {
+    pub cos: f64,
+    pub a_over_b: f64,
+}
+
+pub fn incidence_of(l: SinCos, d: SinCos, t: SinCos, o: SinCos, hour: Hour) -> Incidence
+    ensures { λ r. ⌜ r ≡ incidenceOf l d t o hour ⌝ }
+{
+    let w = hour.hour_angle;
+    let angle = solar_angle_of_incidence(l, d, t, o, w);
+    let cos = angles::cos(doubles::to_radians(angle));
+    Incidence {
+        cos: cos,
+        a_over_b: a_over_b(cos, hour.cos_zenith),
+    }
+}

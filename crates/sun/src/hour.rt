@@ -1,0 +1,179 @@
+// What depends on the hour. What a later formula needs again, as a sine, is worked out once and handed on.
+ghost use mathlib.Core.Path.{_≡_};
+ghost use Rattle.sun.specs.Hour.{sinCosOf, timeShift, solarTime, hourAngle, altitudeBy, solarAltitude, solarZenith, azimuthBranch, azimuthBy, solarAzimuth, airMassBy, airMass, hourBy, hourOf};
+use crate::day::Day;
+use angles::SinCos;
+
+// The sine and the cosine of an angle in degrees.
+pub fn sin_cos_of_degrees(degrees: f64) -> SinCos
+    ensures { λ r. ⌜ r ≡ sinCosOf degrees ⌝ }
+{
+    angles::sin_cos(doubles::to_radians(degrees))
+}
+
+pub fn init_time_shift(timezone: i64, longitude: f64) -> f64
+    ensures { λ r. ⌜ r ≡ timeShift timezone longitude ⌝ }
+{
+    std::num::nearest_i64_to_f64(timezone) - longitude / 15.0
+}
+
+pub fn init_solar_time(hour_of_day: u32, equation_of_time: f64, time_shift: f64) -> f64
+    ensures { λ r. ⌜ r ≡ solarTime «hour_of_day» «equation_of_time» «time_shift» ⌝ }
+{
+    (hour_of_day as u64 + 1) as f64 - equation_of_time / 60.0 - time_shift
+}
+
+pub fn init_solar_hour_angle(solar_time: f64) -> f64
+    ensures { λ r. ⌜ r ≡ hourAngle «solar_time» ⌝ }
+{
+    let angle = 15.0 * (12.5 - solar_time);
+    if angle > 180.0 {
+        return angle - 360.0;
+    }
+    if angle < -180.0 {
+        return angle + 360.0;
+    }
+    angle
+}
+
+fn altitude_by(latitude: SinCos, declination: SinCos, cos_hour_angle: f64) -> f64
+    ensures { λ r. ⌜ r ≡ altitudeBy latitude declination «cos_hour_angle» ⌝ }
+{
+    let altitude = doubles::to_degrees(angles::asin(
+        declination.sin * latitude.sin + declination.cos * latitude.cos * cos_hour_angle,
+    ));
+    if altitude < 0.0001 { 0.0 } else { altitude }
+}
+
+pub fn init_solar_altitude(latitude: f64, solar_declination: f64, solar_hour_angle: f64) -> f64
+    ensures { λ r. ⌜ r ≡ solarAltitude latitude «solar_declination» «solar_hour_angle» ⌝ }
+{
+    altitude_by(
+        sin_cos_of_degrees(latitude),
+        sin_cos_of_degrees(solar_declination),
+        angles::cos(doubles::to_radians(solar_hour_angle)),
+    )
+}
+
+pub fn init_solar_zenith_angle(solar_altitude: f64) -> f64
+    ensures { λ r. ⌜ r ≡ solarZenith «solar_altitude» ⌝ }
+{
+    90.0 - solar_altitude
+}
+
+fn azimuth_branch(sin_aux1: f64, cos_aux1: f64, aux2: f64) -> f64
+    ensures { λ r. ⌜ r ≡ azimuthBranch «sin_aux1» «cos_aux1» aux2 ⌝ }
+{
+    if (sin_aux1 >= 0.0) & (cos_aux1 > 0.0) {
+        if aux2 > 180.0 {
+            return aux2 - 180.0;
+        }
+        return 180.0 - aux2;
+    }
+    if cos_aux1 < 0.0 {
+        return aux2;
+    }
+    -(180.0 + aux2)
+}
+
+// w is 180 less the hour angle.
+fn azimuth_by(l: SinCos, d: SinCos, w: SinCos, sin_altitude: f64) -> f64
+    ensures { λ r. ⌜ r ≡ azimuthBy l d w «sin_altitude» ⌝ }
+{
+    let sin_numerator = d.cos * w.sin;
+    let cos_numerator = l.cos * d.sin + l.sin * d.cos * w.cos;
+    let denominator = angles::cos(angles::asin(sin_altitude));
+    let aux2 = doubles::to_degrees(angles::asin(sin_numerator) / denominator);
+    azimuth_branch(
+        sin_numerator / denominator,
+        cos_numerator / denominator,
+        aux2,
+    )
+}
+
+pub fn init_solar_azimuth_angle(
+    latitude: f64,
+    solar_declination: f64,
+    solar_hour_angle: f64,
+    solar_altitude: f64,
+) -> f64
+    ensures { λ r. ⌜ r ≡ solarAzimuth latitude «solar_declination» «solar_hour_angle» «solar_altitude» ⌝ }
+{
+    azimuth_by(
+        sin_cos_of_degrees(latitude),
+        sin_cos_of_degrees(solar_declination),
+        sin_cos_of_degrees(180.0 - solar_hour_angle),
+        angles::sin(doubles::to_radians(solar_altitude)),
+    )
+}
+
+fn air_mass_by(altitude: f64, sin_altitude: f64) -> f64
+    ensures { λ r. ⌜ r ≡ airMassBy altitude «sin_altitude» ⌝ }
+{
+    if altitude >= 10.0 {
+        return 1.0 / sin_altitude;
+    }
+    1.0 / (sin_altitude + 0.15 * angles::pow_minus_1_253(altitude + 3.885))
+}
+
+pub fn init_air_mass(solar_altitude: f64) -> f64
+    ensures { λ r. ⌜ r ≡ airMass «solar_altitude» ⌝ }
+{
+    air_mass_by(
+        solar_altitude,
+        angles::sin(doubles::to_radians(solar_altitude)),
+    )
+}
+
+// The sun in one hour: its angles, and what later formulas reuse of them.
+pub struct Hour {
+    pub hour_angle: SinCos,
+    pub altitude: f64,
+    pub azimuth: f64,
+    pub sin_altitude: f64,
+    pub tan_altitude: f64,
+    pub zenith: f64,
+    pub cos_zenith: f64,
+    pub air_mass: f64,
+}
+
+// The sines and cosines of latitude and declination are the caller's to keep: they change with the site and the day alone.
+pub fn hour_by(
+    latitude: SinCos,
+    declination: SinCos,
+    equation_of_time: f64,
+    time_shift: f64,
+    hour_of_day: u32,
+) -> Hour
+    ensures { λ r. ⌜ r ≡ hourBy latitude declination «equation_of_time» «time_shift» «hour_of_day» ⌝ }
+{
+    let angle = init_solar_hour_angle(init_solar_time(hour_of_day, equation_of_time, time_shift));
+    let w = sin_cos_of_degrees(angle);
+    let opposite = sin_cos_of_degrees(180.0 - angle);
+    let altitude = altitude_by(latitude, declination, w.cos);
+    let a = sin_cos_of_degrees(altitude);
+    let zenith = init_solar_zenith_angle(altitude);
+    Hour {
+        hour_angle: w,
+        altitude: altitude,
+        azimuth: azimuth_by(latitude, declination, opposite, a.sin),
+        sin_altitude: a.sin,
+        tan_altitude: a.sin / a.cos,
+        zenith: zenith,
+        cos_zenith: angles::cos(doubles::to_radians(zenith)),
+        air_mass: air_mass_by(altitude, a.sin),
+    }
+}
+
+// The sun in an hour of a day.
+pub fn hour_of(latitude: f64, time_shift: f64, day: Day, hour_of_day: u32) -> Hour
+    ensures { λ r. ⌜ r ≡ hourOf latitude «time_shift» day «hour_of_day» ⌝ }
+{
+    hour_by(
+        sin_cos_of_degrees(latitude),
+        sin_cos_of_degrees(day.declination),
+        day.equation_of_time,
+        time_shift,
+        hour_of_day,
+    )
+}
