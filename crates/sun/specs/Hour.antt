@@ -2,7 +2,7 @@
 -- mass, in the Rust's order of operations. Angles are in degrees, times in hours; the hour of the day counts from 0.
 -- The formulas of altitude and azimuth name the sines and cosines of their angles l, d and w, since a run works those out once.
 use mathlib.Core.Bool.{cond, _&&_}
-use Prim.Native.Nat.{ℕ, _+_}
+use Prim.Native.Nat.{ℕ, _+_, _/_, _%_}
 use lib.IntN.{ℤ}
 use lib.Ieee.{Float, neg, binary64, ofInt, lt, le}
 use Rattle.doubles.specs.Arithmetic.{_⊕_, _⊖_, _⊗_, _⊘_, decimal, whole}
@@ -11,7 +11,8 @@ use Rattle.angles.specs.declared.SinCos.{SinCos}
 use Rattle.angles.specs.Sine.{sine, cosine, tangent}
 use Rattle.angles.specs.Arcsine.{arcsine}
 use Rattle.angles.specs.Power.{powMinus1253}
-use Rattle.sun.specs.declared.day.Day.{Day}
+use Rattle.sun.specs.Day.{dayOf}
+use Rattle.sun.specs.declared.site.Site.{Site}
 use Rattle.sun.specs.declared.hour.Hour.{Hour}
 
 -- the sine and the cosine of an angle in degrees
@@ -99,7 +100,8 @@ hourBy l d equation shift hour =
       «air_mass» = airMassBy altitude sinAltitude;
     }
 
--- the same by latitude, time shift, day and hour of the day
-unfoldable pub hourOf : Float → Float → Day → ℕ → Hour
-unfolding hourBy
-hourOf latitude shift day hour = hourBy (sinCosOf latitude) (sinCosOf (day .declination)) (day .«equation_of_time») shift hour
+-- the sun at a site in an hour of the year, which counts from 0
+unfoldable pub hourOf : Site → ℕ → Hour
+hourOf site hour =
+    let day = dayOf (hour / 24 + 1) in
+    hourBy (sinCosOf (site .latitude)) (sinCosOf (day .declination)) (day .«equation_of_time») (timeShift (site .timezone) (site .longitude)) (hour % 24)

@@ -1,7 +1,8 @@
 // What depends on the hour. What a later formula needs again, as a sine, is worked out once and handed on.
 ghost use mathlib.Core.Path.{_≡_};
 ghost use Rattle.sun.specs.Hour.{sinCosOf, timeShift, solarTime, hourAngle, altitudeBy, solarAltitude, solarZenith, azimuthBranch, azimuthBy, solarAzimuth, airMassBy, airMass, hourBy, hourOf};
-use crate::day::Day;
+use crate::day::day_of;
+use crate::site::Site;
 use angles::SinCos;
 
 // The sine and the cosine of an angle in degrees.
@@ -165,15 +166,19 @@ pub fn hour_by(
     }
 }
 
-// The sun in an hour of a day.
-pub fn hour_of(latitude: f64, time_shift: f64, day: Day, hour_of_day: u32) -> Hour
-    ensures { λ r. ⌜ r ≡ hourOf latitude «time_shift» day «hour_of_day» ⌝ }
+// The sun at a site in an hour of the year.
+pub fn hour_of(site: Site, hour: u32) -> Hour
+    ensures { λ r. ⌜ r ≡ hourOf site hour ⌝ }
 {
+    let day = day_of(hour / 24);
+    let latitude = sin_cos_of_degrees(site.latitude);
+    let declination = sin_cos_of_degrees(day.declination);
+    let time_shift = init_time_shift(site.timezone, site.longitude);
     hour_by(
-        sin_cos_of_degrees(latitude),
-        sin_cos_of_degrees(day.declination),
+        latitude,
+        declination,
         day.equation_of_time,
         time_shift,
-        hour_of_day,
+        hour % 24,
     )
 }
