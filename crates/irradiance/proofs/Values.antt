@@ -4,8 +4,6 @@ use lib.Ieee.{add, mul, div, lt, eq}
 use Rattle.doubles.specs.Arithmetic.{whole, decimal}
 use Rattle.doubles.specs.Functions.{cubeOf}
 use Rattle.irradiance.specs.Sky.{clearness, tableRow}
-use Rattle.irradiance.specs.Surface.{orientation180}
-use lib.Ieee.{sub, neg}
 
 -- diffuse 100, beam 100, altitude 0: clearness 2, row 4
 pub clearness-2 : clearness (whole 100) (whole 100) (whole 0) ≡ whole 2
@@ -20,12 +18,3 @@ row-4 = refl
 pub row-1 : tableRow (decimal 1065 3) ≡ 1
 unfolding tableRow lt decimal
 row-1 = refl
-
--- orientation 0 becomes 180, 360 becomes −180
-pub from-north : orientation180 (whole 0) ≡ whole 180
-unfolding orientation180 sub add neg
-from-north = refl
-
-pub all-round : orientation180 (whole 360) ≡ neg (whole 180)
-unfolding orientation180 sub add neg
-all-round = refl

@@ -10,11 +10,6 @@ use Rattle.angles.specs.Arcsine.{arccosine}
 use Rattle.sun.specs.declared.hour.Hour.{Hour}
 use Rattle.irradiance.specs.declared.surface.Incidence.{Incidence}
 
--- orientation from north, 0 to 360, as an angle from south: 0 becomes 180, 360 becomes −180
-unfoldable pub orientation180 : Float → Float
-unfolding whole
-orientation180 orientation = whole 180 ⊖ orientation
-
 unfoldable pub incidenceAngle : SinCos → SinCos → SinCos → SinCos → SinCos → Float
 incidenceAngle l d t o w =
     toDegrees (arccosine (

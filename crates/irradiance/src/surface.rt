@@ -1,15 +1,8 @@
 // The sun on an inclined surface: incidence, and the ratio of the solid angles a and b.
 ghost use mathlib.Core.Path.{_≡_};
-ghost use Rattle.irradiance.specs.Surface.{orientation180, incidenceAngle, aOverB, incidenceOf};
+ghost use Rattle.irradiance.specs.Surface.{incidenceAngle, aOverB, incidenceOf};
 use angles::SinCos;
 use sun::hour::Hour;
-
-// The orientation from north as an angle from south, eastwards positive.
-pub fn transform_to_180(orientation: f64) -> f64
-    ensures { λ r. ⌜ r ≡ orientation180 orientation ⌝ }
-{
-    180.0 - orientation
-}
 
 // By the sines and cosines of latitude, declination, tilt, orientation and hour angle.
 fn solar_angle_of_incidence(l: SinCos, d: SinCos, t: SinCos, o: SinCos, w: SinCos) -> f64

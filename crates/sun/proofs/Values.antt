@@ -7,6 +7,7 @@ use Rattle.doubles.specs.Arithmetic.{whole, decimal}
 use Rattle.angles.specs.Sine.{cosine}
 use Rattle.sun.specs.Day.{equationOfTime}
 use Rattle.sun.specs.Hour.{timeShift, hourAngle}
+use Rattle.sun.specs.Orientation.{orientation180}
 
 -- day number 359 gives 0
 pub equation-359 : equationOfTime 359 ≡ whole 0
@@ -34,3 +35,12 @@ shift-0 = refl
 pub shift-west : lt (whole 0) (timeShift (pos 0) (neg (decimal 5 1))) ≡ true
 unfolding timeShift sub div ofInt lt neg decimal
 shift-west = refl
+
+-- orientation 0 becomes 180, 360 becomes −180
+pub from-north : orientation180 (whole 0) ≡ whole 180
+unfolding orientation180 sub add neg
+from-north = refl
+
+pub all-round : orientation180 (whole 360) ≡ neg (whole 180)
+unfolding orientation180 sub add neg
+all-round = refl

@@ -1,8 +1,8 @@
 use lib.Ieee.{ofBits}
 use mathlib.Core.Path.{refl}
-use Rattle.irradiance.specs.Surface.{orientation180}
-use Rattle.irradiance.proofs.surface.transform_to_180.Statement.{statement}
-use Rattle.irradiance.proofs.surface.transform_to_180.Tie as tie
+use Rattle.sun.specs.Orientation.{orientation180}
+use Rattle.sun.proofs.orientation.transform_to_180.Statement.{statement}
+use Rattle.sun.proofs.orientation.transform_to_180.Tie as tie
 
 returns : tie.Need-returns
 unfolding orientation180 ofBits
