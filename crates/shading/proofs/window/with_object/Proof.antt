@@ -1,0 +1,78 @@
+use Rattle.shading.specs.Steps.{sunOf, windowStep}
+use borrow.Author.Needs.{needs}
+use Rattle.shading.proofs.window.with_object.Statement.{statement}
+use Rattle.shading.proofs.window.with_object.Tie as tie
+
+enum-told : tie.Need-enum-told
+enum-told c = search needs
+
+enum-told-2 : tie.Need-enum-told-2
+enum-told-2 c = search needs
+
+window-overhang-height-requires : tie.Need-window-overhang-height-requires
+window-overhang-height-requires c κs = search needs
+
+max-of-2-requires : tie.Need-max-of-2-requires
+max-of-2-requires c κs = search needs
+
+enum-told-3 : tie.Need-enum-told-3
+enum-told-3 c = search needs
+
+right-fin-width-requires : tie.Need-right-fin-width-requires
+right-fin-width-requires c κs = search needs
+
+max-of-2-requires-2 : tie.Need-max-of-2-requires-2
+max-of-2-requires-2 c κs = search needs
+
+enum-told-4 : tie.Need-enum-told-4
+enum-told-4 c = search needs
+
+left-fin-width-requires : tie.Need-left-fin-width-requires
+left-fin-width-requires c κs = search needs
+
+max-of-2-requires-3 : tie.Need-max-of-2-requires-3
+max-of-2-requires-3 c κs = search needs
+
+enum-told-5 : tie.Need-enum-told-5
+enum-told-5 c = search needs
+
+returns : tie.Need-returns
+unfolding windowStep sunOf
+returns c = rw (c .enum-told .given .1)
+
+returns-2 : tie.Need-returns-2
+unfolding windowStep sunOf
+returns-2 c = rw (c .before .before .enum-told2 .given .1, c .max-of-2 .ensures, c .before .window-overhang-height .ensures)
+
+returns-3 : tie.Need-returns-3
+unfolding windowStep sunOf
+returns-3 c = rw (c .before .before .enum-told3 .given .1, c .max-of-22 .ensures, c .before .right-fin-width .ensures)
+
+returns-4 : tie.Need-returns-4
+unfolding windowStep sunOf
+returns-4 c = rw (c .before .before .enum-told4 .given .1, c .max-of-23 .ensures, c .before .left-fin-width .ensures)
+
+returns-5 : tie.Need-returns-5
+unfolding windowStep sunOf
+returns-5 c = rw (c .enum-told5 .given .1)
+
+pub with-object-spec : {M : Type 1} → statement M
+with-object-spec =
+    tie.close
+    (tie.spec
+    enum-told
+    enum-told-2
+    window-overhang-height-requires
+    max-of-2-requires
+    enum-told-3
+    right-fin-width-requires
+    max-of-2-requires-2
+    enum-told-4
+    left-fin-width-requires
+    max-of-2-requires-3
+    enum-told-5
+    returns
+    returns-2
+    returns-3
+    returns-4
+    returns-5)

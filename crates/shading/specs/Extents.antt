@@ -1,0 +1,54 @@
+-- The beam test and the shade extents of ISO 52016-1 Annex F, in the Rust's order of operations: the height or width that one object
+-- shades. Angles are in degrees, lengths in metres. `tanAltitude` is the tangent of the sun's altitude, and `difference` the
+-- sun's azimuth less the surface's orientation from south, not wrapped.
+use mathlib.Core.Bool.{Bool, cond, not, _&&_, _||_}
+use lib.Ieee.{Float, neg, lt, le}
+use Rattle.doubles.specs.Arithmetic.{_⊕_, _⊖_, _⊗_, _⊘_, whole}
+use Rattle.doubles.specs.Functions.{floatMax}
+use Rattle.sun.specs.Orientation.{orientation180}
+
+-- from −90 to 90; NaN is not
+unfoldable pub withinRight : Float → Bool
+unfolding whole neg
+withinRight x = le (neg (whole 90)) x && le x (whole 90)
+
+-- brought into −180..180 by one turn
+unfoldable pub wrapped : Float → Float
+unfolding whole neg
+wrapped x = cond (lt (whole 180) x) (x ⊖ whole 360) (cond (lt x (neg (whole 180))) (x ⊕ whole 360) x)
+
+-- the sun is behind the surface, beside it or NaN
+unfoldable pub outsideSolarBeam : Float → Float → Float → Float → Bool
+unfolding withinRight wrapped
+outsideSolarBeam tilt orientation altitude azimuth =
+    not (withinRight (wrapped (orientation180 orientation ⊖ azimuth))) || not (withinRight (tilt ⊖ altitude))
+
+-- the height that an obstacle shades, distant or near
+unfoldable pub obstacleHeight : Float → Float → Float → Float → Float
+unfolding whole
+obstacleHeight base height distance tanAltitude =
+    let h = height ⊖ base ⊖ distance ⊗ tanAltitude in
+    cond (lt h (whole 0)) (whole 0) h
+
+-- the height that a distant overhang with its lower edge at `lowest` shades
+unfoldable pub overhangHeight : Float → Float → Float → Float → Float → Float
+unfolding whole
+overhangHeight surface base lowest distance tanAltitude =
+    floatMax (whole 0) (surface ⊕ base ⊖ lowest ⊕ distance ⊗ tanAltitude)
+
+-- the height that an overhang at the window shades
+unfoldable pub windowOverhangHeight : Float → Float → Float → Float → Float
+windowOverhangHeight depth distance tanAltitude cosDifference = depth ⊗ tanAltitude ⊘ cosDifference ⊖ distance
+
+-- the width that a fin shades: a right fin not where the difference is above 0, a left fin not where it is below
+unfoldable pub finWidth : Bool → Float → Float → Float → Float
+unfolding whole
+finWidth elsewhere depth distance tanDifference = cond elsewhere (whole 0) (depth ⊗ tanDifference ⊖ distance)
+
+unfoldable pub rightFinWidth : Float → Float → Float → Float → Float
+unfolding finWidth whole
+rightFinWidth depth distance difference tanDifference = finWidth (lt (whole 0) difference) depth distance tanDifference
+
+unfoldable pub leftFinWidth : Float → Float → Float → Float → Float
+unfolding finWidth whole
+leftFinWidth depth distance difference tanDifference = finWidth (lt difference (whole 0)) depth distance tanDifference

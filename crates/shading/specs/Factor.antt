@@ -1,0 +1,194 @@
+-- The direct shading reduction factor at one step (ISO 52016-1 Annex F), in the Rust's order of operations.
+use mathlib.Core.Bool.{Bool, true, false, cond, _||_}
+use mathlib.Core.List.{List, [], _∷_, _++_}
+use Prim.Native.Nat.{ℕ}
+use lib.ListN.{take}
+use lib.Ieee.{Float}
+use Rattle.doubles.specs.Arithmetic.{_⊕_, _⊖_, _⊗_, _⊘_, whole}
+use Rattle.doubles.specs.Functions.{minOf2, maxOf2, floatMin, floatMax, largestOf, toRadians}
+use Rattle.angles.specs.Sine.{cosine, tangent}
+use Rattle.shading.specs.declared.objects.Surface.{Surface}
+use Rattle.shading.specs.declared.objects.ShadingObject.{ShadingObject}
+use Rattle.shading.specs.declared.objects.ShadingObjectType.{ShadingObjectType}
+use Rattle.shading.specs.declared.objects.ShadingObjectType.the-variants as distant
+use Rattle.shading.specs.declared.objects.ShadingSegment.{ShadingSegment}
+use Rattle.shading.specs.declared.objects.WindowShadingObject.{WindowShadingObject}
+use Rattle.shading.specs.declared.objects.WindowShadingType.{WindowShadingType}
+use Rattle.shading.specs.declared.objects.WindowShading.{WindowShading}
+use Rattle.shading.specs.declared.objects.WindowShadingType.the-variants as near
+use Rattle.shading.specs.declared.objects.Refusal.{Refusal}
+use Rattle.shading.specs.declared.objects.Refusal.the-variants as refusal
+use Rattle.shading.specs.declared.objects.FactorAnswer.{FactorAnswer}
+use Rattle.shading.specs.declared.objects.FactorAnswer.the-variants.{Factor, Refused}
+use Rattle.sun.specs.Orientation.{orientation180}
+use Rattle.shading.specs.Extents.{outsideSolarBeam, obstacleHeight, overhangHeight, windowOverhangHeight, rightFinWidth, leftFinWidth}
+use Rattle.shading.specs.Segments.{Segment, found, gap, turned, noSector, segmentOf}
+
+-- the specification's number of each refusal
+unfoldable pub numberOf : Refusal → ℕ
+numberOf refusal.Site = 1
+numberOf refusal.Run = 2
+numberOf refusal.Surface = 3
+numberOf refusal.Object = 4
+numberOf refusal.Series = 5
+numberOf refusal.Reading = 6
+numberOf refusal.Results = 7
+numberOf refusal.Gap = 8
+numberOf refusal.Turned = 9
+numberOf refusal.NoSector = 10
+numberOf refusal.Reveal = 11
+numberOf refusal.Line = 12
+
+-- ---- the shade extents of a list of objects
+
+-- the extents of those objects of a list that are of one kind, in list order
+unfoldable pub extents : {Object : Type 0} → (Object → Bool) → (Object → Float) → List Object → List Float
+extents kind extent [] = []
+extents kind extent (o ∷ rest) = let later = extents kind extent rest in cond (kind o) (extent o ∷ later) later
+
+-- a distant object is an obstacle, or else an overhang
+unfoldable pub isObstacle : ShadingObject → Bool
+isObstacle o = elim (o .«object_type») [ distant.Obstacle ↦ true | distant.Overhang ↦ false ]
+
+unfoldable pub isOverhang : ShadingObject → Bool
+isOverhang o = elim (o .«object_type») [ distant.Obstacle ↦ false | distant.Overhang ↦ true ]
+
+-- one of the five kinds at the window
+pub data Kind : Type 0 where
+  obstacle overhang rightFin leftFin reveal : Kind
+
+unfoldable pub kindIs : Kind → WindowShadingType → Bool
+kindIs obstacle t = elim t [ near.Obstacle ↦ true | near.Overhang ↦ false | near.SideFinRight ↦ false | near.SideFinLeft ↦ false | near.Reveal ↦ false ]
+kindIs overhang t = elim t [ near.Obstacle ↦ false | near.Overhang ↦ true | near.SideFinRight ↦ false | near.SideFinLeft ↦ false | near.Reveal ↦ false ]
+kindIs rightFin t = elim t [ near.Obstacle ↦ false | near.Overhang ↦ false | near.SideFinRight ↦ true | near.SideFinLeft ↦ false | near.Reveal ↦ false ]
+kindIs leftFin t = elim t [ near.Obstacle ↦ false | near.Overhang ↦ false | near.SideFinRight ↦ false | near.SideFinLeft ↦ true | near.Reveal ↦ false ]
+kindIs reveal t = elim t [ near.Obstacle ↦ false | near.Overhang ↦ false | near.SideFinRight ↦ false | near.SideFinLeft ↦ false | near.Reveal ↦ true ]
+
+unfoldable pub ofKind : Kind → WindowShadingObject → Bool
+unfolding kindIs
+ofKind k o = kindIs k (o .«object_type»)
+
+-- The sun as the extents need it: the tangent of its altitude, its azimuth less the surface's orientation from south, not wrapped,
+-- and that difference's cosine and tangent.
+pub record Sun : Type 0 where
+  pub tanAltitude : Float
+  pub difference : Float
+  pub cosDifference : Float
+  pub tanDifference : Float
+
+unfoldable pub sunOn : Surface → Float → Float → Sun
+sunOn surface altitude azimuth =
+    let difference = azimuth ⊖ orientation180 (surface .orientation) in
+    record {
+      tanAltitude = tangent (toRadians altitude);
+      difference = difference;
+      cosDifference = cosine (toRadians difference);
+      tanDifference = tangent (toRadians difference);
+    }
+
+unfoldable pub obstacleExtents : Surface → Sun → List ShadingObject → List Float
+unfolding extents isObstacle obstacleHeight
+obstacleExtents surface sun = extents isObstacle (λ o. obstacleHeight (surface .«base_height») (o .height) (o .distance) (sun .tanAltitude))
+
+unfoldable pub overhangExtents : Surface → Sun → List ShadingObject → List Float
+unfolding extents isOverhang overhangHeight
+overhangExtents surface sun =
+    extents isOverhang (λ o. overhangHeight (surface .height) (surface .«base_height») (o .height) (o .distance) (sun .tanAltitude))
+
+unfoldable pub windowOverhangExtents : Sun → List WindowShadingObject → List Float
+unfolding extents ofKind windowOverhangHeight
+windowOverhangExtents sun =
+    extents (ofKind overhang) (λ o. windowOverhangHeight (o .size) (o .distance) (sun .tanAltitude) (sun .cosDifference))
+
+unfoldable pub rightFinExtents : Sun → List WindowShadingObject → List Float
+unfolding extents ofKind rightFinWidth
+rightFinExtents sun = extents (ofKind rightFin) (λ o. rightFinWidth (o .size) (o .distance) (sun .difference) (sun .tanDifference))
+
+unfoldable pub leftFinExtents : Sun → List WindowShadingObject → List Float
+unfolding extents ofKind leftFinWidth
+leftFinExtents sun = extents (ofKind leftFin) (λ o. leftFinWidth (o .size) (o .distance) (sun .difference) (sun .tanDifference))
+
+-- ---- what is left in the sun
+
+-- the height that the largest overhang shades, distant or at the window, up to the surface's own
+unfoldable pub overhangShade : Surface → Sun → List ShadingObject → List WindowShadingObject → Float
+unfolding overhangExtents windowOverhangExtents largestOf minOf2 whole
+overhangShade surface sun distants window =
+    minOf2 (surface .height) (largestOf (whole 0) (overhangExtents surface sun distants ++ windowOverhangExtents sun window))
+
+-- what two shades leave of a height or a width
+unfoldable pub sunlitBetween : Float → Float → Float → Float
+unfolding maxOf2 whole
+sunlitBetween all one other = maxOf2 (whole 0) (all ⊖ (one ⊕ other))
+
+-- the height between the largest obstacle's shade and the largest overhang's
+unfoldable pub sunlitHeight : Surface → Sun → List ShadingObject → Float → Float
+unfolding obstacleExtents largestOf minOf2 whole sunlitBetween
+sunlitHeight surface sun distants hkOverhang =
+    let hkObstacle = minOf2 (surface .height) (largestOf (whole 0) (obstacleExtents surface sun distants)) in
+    sunlitBetween (surface .height) hkObstacle hkOverhang
+
+-- the width between the largest fins' shades
+unfoldable pub sunlitWidth : Surface → Sun → List WindowShadingObject → Float
+unfolding rightFinExtents leftFinExtents largestOf minOf2 whole sunlitBetween
+sunlitWidth surface sun window =
+    let wkRight = minOf2 (surface .width) (largestOf (whole 0) (rightFinExtents sun window)) in
+    let wkLeft = minOf2 (surface .width) (largestOf (whole 0) (leftFinExtents sun window)) in
+    sunlitBetween (surface .width) wkRight wkLeft
+
+-- the part of the surface that a sunlit height and width make
+unfoldable pub sunlitPart : Surface → Float → Float → Float
+sunlitPart surface height width = height ⊗ width ⊘ (surface .height ⊗ surface .width)
+
+-- the factor that a near obstacle allows: what it lets through counts by its transparency
+unfoldable pub nearFactor : Surface → Sun → Float → Float → WindowShadingObject → Float
+unfolding obstacleHeight floatMin floatMax sunlitPart whole
+nearFactor surface sun hkOverhang wkSun o =
+    let hkObstacle = floatMin (surface .height) (obstacleHeight (surface .«base_height») (o .size) (o .distance) (sun .tanAltitude)) in
+    let hkSun =
+    floatMax (whole 0) (surface .height ⊖ (hkObstacle ⊕ hkOverhang)) ⊕ floatMin hkObstacle (surface .height ⊖ hkOverhang) ⊗ o .transparency
+    in
+    sunlitPart surface hkSun wkSun
+
+-- the least of a factor and a list of factors, by the float method
+unfoldable pub leastOf : Float → List Float → Float
+unfolding floatMin
+leastOf first [] = first
+leastOf first (x ∷ xs) = leastOf (floatMin first x) xs
+
+-- distant objects and those at the window first, and last the near obstacles, each against the largest overhang
+unfoldable pub reductionFactor : Surface → Sun → List ShadingObject → List WindowShadingObject → Float
+unfolding overhangShade sunlitHeight sunlitWidth sunlitPart nearFactor leastOf extents ofKind
+reductionFactor surface sun distants window =
+    let hkOverhang = overhangShade surface sun distants window in
+    let wkSun = sunlitWidth surface sun window in
+    leastOf (sunlitPart surface (sunlitHeight surface sun distants hkOverhang) wkSun) (extents (ofKind obstacle) (nearFactor surface sun hkOverhang wkSun) window)
+
+-- ---- the factor, or a refusal
+
+unfoldable pub hasReveal : List WindowShadingObject → Bool
+unfolding ofKind
+hasReveal [] = false
+hasReveal (o ∷ rest) = ofKind reveal o || hasReveal rest
+
+-- the counted objects of a sector
+unfoldable pub counted : ShadingSegment → List ShadingObject
+counted s = take (s .count) (s .«shading_objects»)
+
+-- the counted objects at the window
+unfoldable pub placed : WindowShading → List WindowShadingObject
+placed w = take (w .count) (w .objects)
+
+-- once the walk has come to a sector: a reveal is refused
+unfoldable pub factorIn : Surface → Sun → List WindowShadingObject → Segment → FactorAnswer
+factorIn surface sun window (found s) = cond (hasReveal window) (Refused refusal.Reveal) (Factor (reductionFactor surface sun (counted s) window))
+factorIn surface sun window gap = Refused refusal.Gap
+factorIn surface sun window turned = Refused refusal.Turned
+factorIn surface sun window noSector = Refused refusal.NoSector
+
+-- outside the beam the answer is 1 and nothing else is looked at
+unfoldable pub shadingFactor : Surface → Float → Float → List ShadingSegment → List WindowShadingObject → FactorAnswer
+unfolding whole
+shadingFactor surface altitude azimuth sectors window =
+    cond (outsideSolarBeam (surface .tilt) (surface .orientation) altitude azimuth) (Factor (whole 1))
+    (factorIn surface (sunOn surface altitude azimuth) window (segmentOf azimuth sectors))

@@ -1,0 +1,6 @@
+pub mod Extents
+pub mod Segments
+pub mod Factor
+pub mod Steps
+pub mod Records
+pub mod Walk

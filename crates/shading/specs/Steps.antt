@@ -1,0 +1,35 @@
+-- What the loops over objects do at one object. Each step moves the largest extents so far past that object's.
+use mathlib.Core.Bool.{true, cond}
+use lib.Ieee.{Float}
+use Rattle.doubles.specs.Functions.{maxOf2}
+use Rattle.shading.specs.declared.objects.Surface.{Surface}
+use Rattle.shading.specs.declared.objects.ShadingObject.{ShadingObject}
+use Rattle.shading.specs.declared.objects.SunOnSurface.{SunOnSurface}
+use Rattle.shading.specs.declared.distant.DistantShades.{DistantShades}
+use Rattle.shading.specs.declared.objects.WindowShadingObject.{WindowShadingObject}
+use Rattle.shading.specs.declared.window.WindowShades.{WindowShades}
+use Rattle.shading.specs.Extents.{obstacleHeight, overhangHeight, windowOverhangHeight, rightFinWidth, leftFinWidth}
+use Rattle.shading.specs.Factor.{Sun, isObstacle, isOverhang, ofKind, overhang, rightFin, leftFin, reveal}
+
+-- the sun as the definitions name it
+unfoldable pub sunOf : SunOnSurface → Sun
+sunOf s = record { tanAltitude = s .«tan_altitude»; difference = s .difference; cosDifference = s .«cos_difference»; tanDifference = s .«tan_difference» }
+
+unfoldable pub distantStep : Surface → Sun → DistantShades → ShadingObject → DistantShades
+unfolding isObstacle isOverhang
+distantStep surface sun shades o = record {
+  obstacle = cond (isObstacle o) (maxOf2 (shades .obstacle) (obstacleHeight (surface .«base_height») (o .height) (o .distance) (sun .tanAltitude))) (shades .obstacle);
+  overhang =
+      cond (isOverhang o)
+      (maxOf2 (shades .overhang) (overhangHeight (surface .height) (surface .«base_height») (o .height) (o .distance) (sun .tanAltitude)))
+      (shades .overhang);
+}
+
+unfoldable pub windowStep : Sun → WindowShades → WindowShadingObject → WindowShades
+unfolding ofKind
+windowStep sun shades o = record {
+  overhang = cond (ofKind overhang o) (maxOf2 (shades .overhang) (windowOverhangHeight (o .size) (o .distance) (sun .tanAltitude) (sun .cosDifference))) (shades .overhang);
+  right = cond (ofKind rightFin o) (maxOf2 (shades .right) (rightFinWidth (o .size) (o .distance) (sun .difference) (sun .tanDifference))) (shades .right);
+  left = cond (ofKind leftFin o) (maxOf2 (shades .left) (leftFinWidth (o .size) (o .distance) (sun .difference) (sun .tanDifference))) (shades .left);
+  reveal = cond (ofKind reveal o) true (shades .reveal);
+}

@@ -1,0 +1,13 @@
+-- What the walk's code answers, as the walk over records has it: a place in the list stands for the sector there.
+use mathlib.Core.List.{List}
+use Prim.Native.Nat.{ℕ}
+use Rattle.shading.specs.declared.segments.Place.{Place}
+use Rattle.shading.specs.declared.segments.Place.the-variants as place
+use Rattle.shading.specs.Segments.{Segment, found, gap, turned, noSector}
+use Rattle.shading.specs.Records.{segmentAt}
+
+unfoldable pub segmentFor : List ℕ → Place → Segment
+segmentFor l (place.At i) = found (segmentAt l i)
+segmentFor l place.Gap = gap
+segmentFor l place.Turned = turned
+segmentFor l place.NoSector = noSector

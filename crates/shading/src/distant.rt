@@ -1,0 +1,86 @@
+// The shade of a sector's objects.
+ghost use mathlib.Core.Path.{_≡_};
+ghost use Prim.Native.Nat.{min};
+ghost use Rattle.doubles.specs.Arithmetic.{whole};
+ghost use Rattle.doubles.specs.Functions.{largestOf};
+ghost use Rattle.shading.specs.Factor.{obstacleExtents, overhangExtents, counted};
+ghost use Rattle.shading.specs.Steps.{distantStep, sunOf};
+use crate::extents;
+use crate::objects::ShadingObject;
+use crate::objects::ShadingObjectType;
+use crate::objects::ShadingSegment;
+use crate::objects::SunOnSurface;
+use crate::objects::Surface;
+
+// The largest heights shaded so far, by obstacles and by overhangs.
+pub struct DistantShades {
+    pub obstacle: f64,
+    pub overhang: f64,
+}
+
+fn with_object(
+    shades: DistantShades,
+    surface: Surface,
+    sun: SunOnSurface,
+    object: ShadingObject,
+) -> DistantShades
+    ensures { λ r. ⌜ r ≡ distantStep surface (sunOf sun) shades object ⌝ }
+{
+    let object_type = object.object_type;
+    match object_type {
+        ShadingObjectType::Obstacle => {
+            let height = extents::obstacle_shading_height(
+                surface.base_height,
+                object.height,
+                object.distance,
+                sun.tan_altitude,
+            );
+            DistantShades {
+                obstacle: doubles::max_of_2(shades.obstacle, height),
+                overhang: shades.overhang,
+            }
+        }
+        ShadingObjectType::Overhang => {
+            let height = extents::overhang_shading_height(
+                surface.height,
+                surface.base_height,
+                object.height,
+                object.distance,
+                sun.tan_altitude,
+            );
+            DistantShades {
+                obstacle: shades.obstacle,
+                overhang: doubles::max_of_2(shades.overhang, height),
+            }
+        }
+    }
+}
+
+fn at_most_8(count: u64) -> usize
+    ensures { λ r. ⌜ r ≡ min count 8 ⌝ }
+{
+    if count < 8 {
+        return count as usize;
+    }
+    8
+}
+
+// The largest shades of a sector's counted objects.
+pub fn distant_shades(surface: Surface, sun: SunOnSurface, segment: ShadingSegment) -> DistantShades
+    ensures { λ r. ⌜ (r .obstacle ≡ largestOf (whole 0) (obstacleExtents surface (sunOf sun) (counted segment)))
+        × (r .overhang ≡ largestOf (whole 0) (overhangExtents surface (sunOf sun) (counted segment))) ⌝ }
+{
+    let objects = segment.shading_objects;
+    let n = at_most_8(segment.count);
+    let mut shades = DistantShades {
+        obstacle: 0.0,
+        overhang: 0.0,
+    };
+    let mut i: usize = 0;
+    while i < n {
+        let object = objects[i];
+        shades = with_object(shades, surface, sun, object);
+        i += 1;
+    }
+    shades
+}

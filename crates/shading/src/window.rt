@@ -1,0 +1,111 @@
+// The shade of the objects at the window, near obstacles left aside.
+ghost use mathlib.Core.Path.{_≡_};
+ghost use Prim.Native.Nat.{min};
+ghost use Rattle.doubles.specs.Arithmetic.{whole};
+ghost use Rattle.doubles.specs.Functions.{largestOf};
+ghost use Rattle.shading.specs.Factor.{windowOverhangExtents, rightFinExtents, leftFinExtents, hasReveal, placed};
+ghost use Rattle.shading.specs.Steps.{sunOf, windowStep};
+use crate::extents;
+use crate::objects::SunOnSurface;
+use crate::objects::WindowShading;
+use crate::objects::WindowShadingObject;
+use crate::objects::WindowShadingType;
+
+// The largest extents so far, of overhangs and of right and left fins, and whether there was a reveal.
+pub struct WindowShades {
+    pub overhang: f64,
+    pub right: f64,
+    pub left: f64,
+    pub reveal: bool,
+}
+
+fn with_object(shades: WindowShades, sun: SunOnSurface, object: WindowShadingObject) -> WindowShades
+    ensures { λ r. ⌜ r ≡ windowStep (sunOf sun) shades object ⌝ }
+{
+    let object_type = object.object_type;
+    match object_type {
+        WindowShadingType::Obstacle => shades,
+        WindowShadingType::Overhang => {
+            let height = extents::window_overhang_height(
+                object.size,
+                object.distance,
+                sun.tan_altitude,
+                sun.cos_difference,
+            );
+            WindowShades {
+                overhang: doubles::max_of_2(shades.overhang, height),
+                right: shades.right,
+                left: shades.left,
+                reveal: shades.reveal,
+            }
+        }
+        WindowShadingType::SideFinRight => {
+            let width = extents::right_fin_width(
+                object.size,
+                object.distance,
+                sun.difference,
+                sun.tan_difference,
+            );
+            WindowShades {
+                overhang: shades.overhang,
+                right: doubles::max_of_2(shades.right, width),
+                left: shades.left,
+                reveal: shades.reveal,
+            }
+        }
+        WindowShadingType::SideFinLeft => {
+            let width = extents::left_fin_width(
+                object.size,
+                object.distance,
+                sun.difference,
+                sun.tan_difference,
+            );
+            WindowShades {
+                overhang: shades.overhang,
+                right: shades.right,
+                left: doubles::max_of_2(shades.left, width),
+                reveal: shades.reveal,
+            }
+        }
+        WindowShadingType::Reveal => WindowShades {
+            overhang: shades.overhang,
+            right: shades.right,
+            left: shades.left,
+            reveal: true,
+        },
+    }
+}
+
+// How many of sixteen places are counted.
+pub fn at_most_16(count: u64) -> usize
+    ensures { λ r. ⌜ r ≡ min count 16 ⌝ }
+{
+    if count < 16 {
+        return count as usize;
+    }
+    16
+}
+
+// The largest extents of the objects at the window; the overhangs' from that of the distant ones on.
+pub fn window_shades(sun: SunOnSurface, overhang: f64, window: WindowShading) -> WindowShades
+    ensures { λ r. ⌜ (r .overhang ≡ largestOf overhang (windowOverhangExtents (sunOf sun) (placed window)))
+        × (r .right ≡ largestOf (whole 0) (rightFinExtents (sunOf sun) (placed window)))
+        × (r .left ≡ largestOf (whole 0) (leftFinExtents (sunOf sun) (placed window)))
+        × (r .reveal ≡ hasReveal (placed window)) ⌝ }
+{
+    let objects = window.objects;
+    let n = at_most_16(window.count);
+    let mut shades = WindowShades {
+        overhang: overhang,
+        right: 0.0,
+        left: 0.0,
+        reveal: false,
+    };
+    let mut i: usize = 0;
+    while i < n {
+        let object = objects[i];
+        shades = with_object(shades, sun, object);
+        i += 1;
+    }
+    shades
+}
