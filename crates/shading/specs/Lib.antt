@@ -3,4 +3,6 @@ pub mod Segments
 pub mod Factor
 pub mod Steps
 pub mod Records
+pub mod Checks
+pub mod Call
 pub mod Walk

@@ -125,7 +125,7 @@ pub fn factor_in(
 }
 
 // The sun as it stands to the surface.
-fn sun_on(surface: Surface, altitude: f64, azimuth: f64) -> SunOnSurface
+pub fn sun_on(surface: Surface, altitude: f64, azimuth: f64) -> SunOnSurface
     ensures { λ r. ⌜ sunOf r ≡ sunOn surface altitude azimuth ⌝ }
 {
     let difference = azimuth - sun::orientation::transform_to_180(surface.orientation);

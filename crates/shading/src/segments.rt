@@ -2,7 +2,7 @@
 ghost use mathlib.Core.Path.{_≡_};
 ghost use Rattle.shading.specs.Segments.{betweenEnds, segmentOf};
 ghost use Rattle.shading.specs.Records.{sectorsOf};
-ghost use Rattle.shading.specs.Walk.{segmentFor};
+ghost use Rattle.shading.specs.Walk.{segmentFor, InList};
 
 // Where the walk ends: at the sector with the sun, or for one of three reasons at none.
 pub enum Place {
@@ -22,7 +22,7 @@ fn between_ends(azimuth: f64, start360: f64, end360: f64) -> bool
 
 // Gap, then turned, then match, at one sector after the other; it stops at the match.
 pub fn get_segment(azimuth: f64, sectors: &[u8]) -> Place
-    ensures { λ r. ⌜ segmentFor (now (sectors .entry)) r ≡ segmentOf azimuth (sectorsOf (now (sectors .entry))) ⌝ }
+    ensures { λ r. ⌜ (segmentFor (now (sectors .entry)) r ≡ segmentOf azimuth (sectorsOf (now (sectors .entry)))) × InList (now (sectors .entry)) r ⌝ }
 {
     let n = words::word_count(sectors) / 27;
     let mut last: f64 = 0.0;

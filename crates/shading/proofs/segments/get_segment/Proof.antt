@@ -62,19 +62,21 @@ step d =
 
 returns : tie.Need-returns Inv-loop μ-loop
 unfolding segmentFor
-returns c = sym (rw (c .if1 .taken) at (step (c .before)))
+returns c = (sym (rw (c .if1 .taken) at (step (c .before))), tt)
 
 returns-2 : tie.Need-returns-2 Inv-loop μ-loop
 unfolding segmentFor
-returns-2 c = sym (rw (c .before .if1 .left, c .if2 .taken) at (step (c .before .before)))
+returns-2 c = (sym (rw (c .before .if1 .left, c .if2 .taken) at (step (c .before .before))), tt)
 
 between-ends-requires : tie.Need-between-ends-requires Inv-loop μ-loop
 between-ends-requires c κs = tt
 
 returns-3 : tie.Need-returns-3 Inv-loop μ-loop
 unfolding segmentFor
-returns-3 c =
-    sym (rw (c .before .before .before .if1 .left, c .before .before .if2 .left, ← (c .before .between-ends .ensures), c .if3 .taken) at (step (c .before .before .before .before)))
+returns-3 c = (
+  sym (rw (c .before .before .before .if1 .left, c .before .before .if2 .left, ← (c .before .between-ends .ensures), c .if3 .taken) at (step (c .before .before .before .before))),
+  omega (arith, c .before .before .before .before .before .before .before .before .word-count .ensures),
+)
 
 add-i : tie.Need-add-i Inv-loop μ-loop
 add-i c = omega arith
@@ -94,7 +96,7 @@ unfolding segmentFor
 returns-4 c =
     let q = c .before in
     let a = q .before .before .before .args in
-    sym (left-none (a .azimuth) (q .loop .last) (a .sectors .now) (q .before .word-count .result / 27) (q .loop .i) (omega arith)) ∙ q .loop .inv .2
+    (sym (left-none (a .azimuth) (q .loop .last) (a .sectors .now) (q .before .word-count .result / 27) (q .loop .i) (omega arith)) ∙ q .loop .inv .2, tt)
 
 pub get-segment-spec : {M : Type 1} → statement M
 get-segment-spec =

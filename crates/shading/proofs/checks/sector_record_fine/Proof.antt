@@ -1,0 +1,51 @@
+-- `sector_record_fine` meets its contract: the words are those of the definition.
+use Rattle.shading.specs.Checks.{sectorRecordFine}
+use borrow.Author.Needs.{needs}
+use Rattle.shading.proofs.checks.sector_record_fine.Statement.{statement}
+use Rattle.shading.proofs.checks.sector_record_fine.Tie as tie
+
+mul-k : tie.Need-mul-k
+mul-k c = search needs
+
+add-word-at : tie.Need-add-word-at
+add-word-at c = search needs
+
+word-at-requires : tie.Need-word-at-requires
+word-at-requires c κs = search needs
+
+double-at-requires : tie.Need-double-at-requires
+double-at-requires c κs = search needs
+
+add-double-at : tie.Need-add-double-at
+add-double-at c = search needs
+
+double-at-requires-2 : tie.Need-double-at-requires-2
+double-at-requires-2 c κs = search needs
+
+bounds-fine-requires : tie.Need-bounds-fine-requires
+bounds-fine-requires c κs = search needs
+
+add-triples-fine : tie.Need-add-triples-fine
+add-triples-fine c = search needs
+
+triples-fine-requires : tie.Need-triples-fine-requires
+triples-fine-requires c κs = search needs
+
+returns : tie.Need-returns
+unfolding sectorRecordFine
+returns c = cc
+
+pub sector-record-fine-spec : {M : Type 1} → statement M
+sector-record-fine-spec =
+    tie.close
+    (tie.spec
+    mul-k
+    add-word-at
+    word-at-requires
+    double-at-requires
+    add-double-at
+    double-at-requires-2
+    bounds-fine-requires
+    add-triples-fine
+    triples-fine-requires
+    returns)

@@ -1,0 +1,70 @@
+// The factor of one step, from the lent lists.
+ghost use mathlib.Core.Path.{_≡_};
+ghost use Prim.Native.Nat.{_/_, _≤_};
+ghost use Rattle.words.specs.Words.{wordCount};
+ghost use Rattle.shading.specs.Factor.{shadingFactor, placed};
+ghost use Rattle.shading.specs.Checks.{sunFine};
+ghost use Rattle.shading.specs.Call.{factorCall};
+ghost use Rattle.shading.specs.Records.{sectorsOf};
+use crate::beam;
+use crate::checks;
+use crate::factor;
+use crate::objects::FactorAnswer;
+use crate::objects::Refusal;
+use crate::objects::Surface;
+use crate::objects::WindowShading;
+use crate::records;
+use crate::segments;
+use crate::segments::Place;
+
+// The direct shading reduction factor at one step, or why there is none. The sectors are a checked list.
+pub fn direct_shading_reduction_factor(
+    surface: Surface,
+    altitude: f64,
+    azimuth: f64,
+    sectors: &[u8],
+    window: WindowShading,
+) -> FactorAnswer
+    requires { ⌜ wordCount (now sectors) / 27 ≤ 36 ⌝ }
+    ensures { λ r. ⌜ r ≡ shadingFactor surface altitude azimuth (sectorsOf (now (sectors .entry))) (placed window) ⌝ }
+{
+    if beam::outside_solar_beam(surface.tilt, surface.orientation, altitude, azimuth) {
+        return FactorAnswer::Factor(1.0);
+    }
+    match segments::get_segment(azimuth, sectors) {
+        Place::At(i) => {
+            let sun = factor::sun_on(surface, altitude, azimuth);
+            let segment = records::segment_at(sectors, i);
+            factor::factor_in(surface, sun, segment, window)
+        }
+        Place::Gap => FactorAnswer::Refused(Refusal::Gap),
+        Place::Turned => FactorAnswer::Refused(Refusal::Turned),
+        Place::NoSector => FactorAnswer::Refused(Refusal::NoSector),
+    }
+}
+
+fn sun_fine(altitude: f64, azimuth: f64) -> bool
+    ensures { λ r. ⌜ r ≡ sunFine altitude azimuth ⌝ }
+{
+    (0.0 <= altitude) & (altitude <= 90.0) & ((-360.0 <= azimuth) & (azimuth <= 360.0))
+}
+
+// The factor for any sun, surface and lists, each checked here.
+pub fn factor_call(
+    altitude: f64,
+    azimuth: f64,
+    surface: Surface,
+    sectors: &[u8],
+    window: &[u8],
+) -> FactorAnswer
+    ensures { λ r. ⌜ r ≡ factorCall altitude azimuth surface (now (sectors .entry)) (now (window .entry)) ⌝ }
+{
+    if sun_fine(altitude, azimuth) & checks::surface_fine(surface) {
+        if checks::sectors_fine(sectors) & checks::window_fine(window) {
+            let objects = records::window_of(window);
+            return direct_shading_reduction_factor(surface, altitude, azimuth, sectors, objects);
+        }
+        return FactorAnswer::Refused(Refusal::Object);
+    }
+    FactorAnswer::Refused(Refusal::Surface)
+}
