@@ -25,6 +25,16 @@ distantStep surface sun shades o = record {
       (shades .overhang);
 }
 
+-- one of the window's extents moved past another, the rest as it was
+unfoldable pub withOverhang : WindowShades → Float → WindowShades
+withOverhang shades height = record { overhang = maxOf2 (shades .overhang) height; right = shades .right; left = shades .left; reveal = shades .reveal }
+
+unfoldable pub withRightFin : WindowShades → Float → WindowShades
+withRightFin shades width = record { overhang = shades .overhang; right = maxOf2 (shades .right) width; left = shades .left; reveal = shades .reveal }
+
+unfoldable pub withLeftFin : WindowShades → Float → WindowShades
+withLeftFin shades width = record { overhang = shades .overhang; right = shades .right; left = maxOf2 (shades .left) width; reveal = shades .reveal }
+
 unfoldable pub windowStep : Sun → WindowShades → WindowShadingObject → WindowShades
 unfolding ofKind
 windowStep sun shades o = record {

@@ -4,7 +4,7 @@ ghost use Prim.Native.Nat.{min};
 ghost use Rattle.doubles.specs.Arithmetic.{whole};
 ghost use Rattle.doubles.specs.Functions.{largestOf};
 ghost use Rattle.shading.specs.Factor.{windowOverhangExtents, rightFinExtents, leftFinExtents, hasReveal, placed};
-ghost use Rattle.shading.specs.Steps.{sunOf, windowStep};
+ghost use Rattle.shading.specs.Steps.{sunOf, withOverhang, withRightFin, withLeftFin, windowStep};
 use crate::extents;
 use crate::objects::SunOnSurface;
 use crate::objects::WindowShading;
@@ -19,54 +19,59 @@ pub struct WindowShades {
     pub reveal: bool,
 }
 
+fn with_overhang(shades: WindowShades, height: f64) -> WindowShades
+    ensures { λ r. ⌜ r ≡ withOverhang shades height ⌝ }
+{
+    WindowShades {
+        overhang: doubles::max_of_2(shades.overhang, height),
+        right: shades.right,
+        left: shades.left,
+        reveal: shades.reveal,
+    }
+}
+
+fn with_right_fin(shades: WindowShades, width: f64) -> WindowShades
+    ensures { λ r. ⌜ r ≡ withRightFin shades width ⌝ }
+{
+    WindowShades {
+        overhang: shades.overhang,
+        right: doubles::max_of_2(shades.right, width),
+        left: shades.left,
+        reveal: shades.reveal,
+    }
+}
+
+fn with_left_fin(shades: WindowShades, width: f64) -> WindowShades
+    ensures { λ r. ⌜ r ≡ withLeftFin shades width ⌝ }
+{
+    WindowShades {
+        overhang: shades.overhang,
+        right: shades.right,
+        left: doubles::max_of_2(shades.left, width),
+        reveal: shades.reveal,
+    }
+}
+
 fn with_object(shades: WindowShades, sun: SunOnSurface, object: WindowShadingObject) -> WindowShades
     ensures { λ r. ⌜ r ≡ windowStep (sunOf sun) shades object ⌝ }
 {
+    let size = object.size;
+    let away = object.distance;
     let object_type = object.object_type;
     match object_type {
         WindowShadingType::Obstacle => shades,
-        WindowShadingType::Overhang => {
-            let height = extents::window_overhang_height(
-                object.size,
-                object.distance,
-                sun.tan_altitude,
-                sun.cos_difference,
-            );
-            WindowShades {
-                overhang: doubles::max_of_2(shades.overhang, height),
-                right: shades.right,
-                left: shades.left,
-                reveal: shades.reveal,
-            }
-        }
-        WindowShadingType::SideFinRight => {
-            let width = extents::right_fin_width(
-                object.size,
-                object.distance,
-                sun.difference,
-                sun.tan_difference,
-            );
-            WindowShades {
-                overhang: shades.overhang,
-                right: doubles::max_of_2(shades.right, width),
-                left: shades.left,
-                reveal: shades.reveal,
-            }
-        }
-        WindowShadingType::SideFinLeft => {
-            let width = extents::left_fin_width(
-                object.size,
-                object.distance,
-                sun.difference,
-                sun.tan_difference,
-            );
-            WindowShades {
-                overhang: shades.overhang,
-                right: shades.right,
-                left: doubles::max_of_2(shades.left, width),
-                reveal: shades.reveal,
-            }
-        }
+        WindowShadingType::Overhang => with_overhang(
+            shades,
+            extents::window_overhang_height(size, away, sun.tan_altitude, sun.cos_difference),
+        ),
+        WindowShadingType::SideFinRight => with_right_fin(
+            shades,
+            extents::right_fin_width(size, away, sun.difference, sun.tan_difference),
+        ),
+        WindowShadingType::SideFinLeft => with_left_fin(
+            shades,
+            extents::left_fin_width(size, away, sun.difference, sun.tan_difference),
+        ),
         WindowShadingType::Reveal => WindowShades {
             overhang: shades.overhang,
             right: shades.right,

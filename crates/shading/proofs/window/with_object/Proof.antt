@@ -1,4 +1,4 @@
-use Rattle.shading.specs.Steps.{sunOf, windowStep}
+use Rattle.shading.specs.Steps.{sunOf, withOverhang, withRightFin, withLeftFin, windowStep}
 use borrow.Author.Needs.{needs}
 use Rattle.shading.proofs.window.with_object.Statement.{statement}
 use Rattle.shading.proofs.window.with_object.Tie as tie
@@ -12,8 +12,8 @@ enum-told-2 c = search needs
 window-overhang-height-requires : tie.Need-window-overhang-height-requires
 window-overhang-height-requires c κs = search needs
 
-max-of-2-requires : tie.Need-max-of-2-requires
-max-of-2-requires c κs = search needs
+with-overhang-requires : tie.Need-with-overhang-requires
+with-overhang-requires c κs = search needs
 
 enum-told-3 : tie.Need-enum-told-3
 enum-told-3 c = search needs
@@ -21,8 +21,8 @@ enum-told-3 c = search needs
 right-fin-width-requires : tie.Need-right-fin-width-requires
 right-fin-width-requires c κs = search needs
 
-max-of-2-requires-2 : tie.Need-max-of-2-requires-2
-max-of-2-requires-2 c κs = search needs
+with-right-fin-requires : tie.Need-with-right-fin-requires
+with-right-fin-requires c κs = search needs
 
 enum-told-4 : tie.Need-enum-told-4
 enum-told-4 c = search needs
@@ -30,8 +30,8 @@ enum-told-4 c = search needs
 left-fin-width-requires : tie.Need-left-fin-width-requires
 left-fin-width-requires c κs = search needs
 
-max-of-2-requires-3 : tie.Need-max-of-2-requires-3
-max-of-2-requires-3 c κs = search needs
+with-left-fin-requires : tie.Need-with-left-fin-requires
+with-left-fin-requires c κs = search needs
 
 enum-told-5 : tie.Need-enum-told-5
 enum-told-5 c = search needs
@@ -41,16 +41,16 @@ unfolding windowStep sunOf
 returns c = rw (c .enum-told .given .1)
 
 returns-2 : tie.Need-returns-2
-unfolding windowStep sunOf
-returns-2 c = rw (c .before .before .enum-told2 .given .1, c .max-of-2 .ensures, c .before .window-overhang-height .ensures)
+unfolding windowStep sunOf withOverhang
+returns-2 c = rw (c .before .before .enum-told2 .given .1, c .with-overhang .ensures, c .before .window-overhang-height .ensures)
 
 returns-3 : tie.Need-returns-3
-unfolding windowStep sunOf
-returns-3 c = rw (c .before .before .enum-told3 .given .1, c .max-of-22 .ensures, c .before .right-fin-width .ensures)
+unfolding windowStep sunOf withRightFin
+returns-3 c = rw (c .before .before .enum-told3 .given .1, c .with-right-fin .ensures, c .before .right-fin-width .ensures)
 
 returns-4 : tie.Need-returns-4
-unfolding windowStep sunOf
-returns-4 c = rw (c .before .before .enum-told4 .given .1, c .max-of-23 .ensures, c .before .left-fin-width .ensures)
+unfolding windowStep sunOf withLeftFin
+returns-4 c = rw (c .before .before .enum-told4 .given .1, c .with-left-fin .ensures, c .before .left-fin-width .ensures)
 
 returns-5 : tie.Need-returns-5
 unfolding windowStep sunOf
@@ -63,13 +63,13 @@ with-object-spec =
     enum-told
     enum-told-2
     window-overhang-height-requires
-    max-of-2-requires
+    with-overhang-requires
     enum-told-3
     right-fin-width-requires
-    max-of-2-requires-2
+    with-right-fin-requires
     enum-told-4
     left-fin-width-requires
-    max-of-2-requires-3
+    with-left-fin-requires
     enum-told-5
     returns
     returns-2
