@@ -139,21 +139,17 @@ inf-times (fin true m e) h n = go (eqb m 0) (eq→eqb m 0 (first-zero m (up e) (
     go true s t = absurd t
     go false s t = absurd s
 
+-- the same, whichever side the infinity stands on
+inf-commutes : (x : Float) → x ⊗ inf false ≡ inf false ⊗ x
+unfolding mul
+inf-commutes nan = refl
+inf-commutes (inf false) = refl
+inf-commutes (inf true) = refl
+inf-commutes (fin false m e) = refl
+inf-commutes (fin true m e) = refl
+
 times-inf : (x : Float) → whole 0 ≼ x → Number (x ⊗ inf false) → x ⊗ inf false ≡ inf false
-unfolding mul whole le isNan
-times-inf nan h n = absurd (h .holds)
-times-inf (inf true) h n = absurd (h .holds)
-times-inf (inf false) h n = refl
-times-inf (fin false m e) h n = go (eqb m 0) (n .holds)
-  where
-    go : (b : Bool) → T (not (isNan (cond b nan (inf false)))) → cond b nan (inf false) ≡ inf false
-    go true t = absurd t
-    go false t = refl
-times-inf (fin true m e) h n = go (eqb m 0) (eq→eqb m 0 (first-zero m (up e) (up-pos e) (no-negative-part (fin true m e) tt h))) (n .holds)
-  where
-    go : (b : Bool) → T b → T (not (isNan (cond b nan (inf true)))) → cond b nan (inf true) ≡ inf false
-    go true s t = absurd t
-    go false s t = absurd s
+times-inf x h n = inf-commutes x ∙ inf-times x h (rw (← inf-commutes x) n)
 
 mul-all : (x x′ y y′ : Float) → whole 0 ≼ x → whole 0 ≼ y → x ≼ x′ → y ≼ y′ → Number (x ⊗ y) → Number (x′ ⊗ y′) → x ⊗ y ≼ x′ ⊗ y′
 unfolding le whole isNan

@@ -1,11 +1,11 @@
 // The shade of a sector's objects.
 ghost use mathlib.Core.Path.{_≡_};
-ghost use Prim.Native.Nat.{min};
 ghost use Rattle.doubles.specs.Arithmetic.{whole};
 ghost use Rattle.doubles.specs.Functions.{largestOf};
 ghost use Rattle.shading.specs.Factor.{obstacleExtents, overhangExtents, counted};
 ghost use Rattle.shading.specs.Steps.{distantStep, sunOf};
 use crate::extents;
+use crate::objects;
 use crate::objects::ShadingObject;
 use crate::objects::ShadingObjectType;
 use crate::objects::ShadingSegment;
@@ -56,22 +56,13 @@ fn with_object(
     }
 }
 
-fn at_most_8(count: u64) -> usize
-    ensures { λ r. ⌜ r ≡ min count 8 ⌝ }
-{
-    if count < 8 {
-        return count as usize;
-    }
-    8
-}
-
 // The largest shades of a sector's counted objects.
 pub fn distant_shades(surface: Surface, sun: SunOnSurface, segment: ShadingSegment) -> DistantShades
     ensures { λ r. ⌜ (r .obstacle ≡ largestOf (whole 0) (obstacleExtents surface (sunOf sun) (counted segment)))
         × (r .overhang ≡ largestOf (whole 0) (overhangExtents surface (sunOf sun) (counted segment))) ⌝ }
 {
     let objects = segment.shading_objects;
-    let n = at_most_8(segment.count);
+    let n = objects::counted_places(segment.count, 8);
     let mut shades = DistantShades {
         obstacle: 0.0,
         overhang: 0.0,

@@ -7,6 +7,7 @@ ghost use Rattle.shading.specs.Segments.{found};
 ghost use Rattle.shading.specs.Steps.{sunOf};
 use crate::distant;
 use crate::extents;
+use crate::objects;
 use crate::objects::FactorAnswer;
 use crate::objects::Refusal;
 use crate::objects::ShadingSegment;
@@ -81,7 +82,7 @@ fn least_factor(
     ensures { λ r. ⌜ r ≡ leastOf first (extents (ofKind obstacle) (nearFactor surface (sunOf sun) «hk_ovh» «wk_sun») (placed window)) ⌝ }
 {
     let objects = window.objects;
-    let n = window::at_most_16(window.count);
+    let n = objects::counted_places(window.count, 16);
     let mut factor = first;
     let mut i: usize = 0;
     while i < n {

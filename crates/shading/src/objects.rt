@@ -1,4 +1,6 @@
 // What may shade a surface, and the surface itself, once their fields are checked.
+ghost use mathlib.Core.Path.{_≡_};
+ghost use Prim.Native.Nat.{min};
 
 // The shaded surface: angles in degrees, lengths in metres.
 pub struct Surface {
@@ -80,4 +82,14 @@ pub enum Refusal {
 pub enum FactorAnswer {
     Factor(f64),
     Refused(Refusal),
+}
+
+// How many of a list's places are counted.
+pub fn counted_places(count: u64, places: u64) -> usize
+    ensures { λ r. ⌜ r ≡ min count places ⌝ }
+{
+    if count < places {
+        return count as usize;
+    }
+    places as usize
 }

@@ -1,11 +1,11 @@
 // The shade of the objects at the window, near obstacles left aside.
 ghost use mathlib.Core.Path.{_≡_};
-ghost use Prim.Native.Nat.{min};
 ghost use Rattle.doubles.specs.Arithmetic.{whole};
 ghost use Rattle.doubles.specs.Functions.{largestOf};
 ghost use Rattle.shading.specs.Factor.{windowOverhangExtents, rightFinExtents, leftFinExtents, hasReveal, placed};
 ghost use Rattle.shading.specs.Steps.{sunOf, withOverhang, withRightFin, withLeftFin, windowStep};
 use crate::extents;
+use crate::objects;
 use crate::objects::SunOnSurface;
 use crate::objects::WindowShading;
 use crate::objects::WindowShadingObject;
@@ -81,16 +81,6 @@ fn with_object(shades: WindowShades, sun: SunOnSurface, object: WindowShadingObj
     }
 }
 
-// How many of sixteen places are counted.
-pub fn at_most_16(count: u64) -> usize
-    ensures { λ r. ⌜ r ≡ min count 16 ⌝ }
-{
-    if count < 16 {
-        return count as usize;
-    }
-    16
-}
-
 // The largest extents of the objects at the window; the overhangs' from that of the distant ones on.
 pub fn window_shades(sun: SunOnSurface, overhang: f64, window: WindowShading) -> WindowShades
     ensures { λ r. ⌜ (r .overhang ≡ largestOf overhang (windowOverhangExtents (sunOf sun) (placed window)))
@@ -99,7 +89,7 @@ pub fn window_shades(sun: SunOnSurface, overhang: f64, window: WindowShading) ->
         × (r .reveal ≡ hasReveal (placed window)) ⌝ }
 {
     let objects = window.objects;
-    let n = at_most_16(window.count);
+    let n = objects::counted_places(window.count, 16);
     let mut shades = WindowShades {
         overhang: overhang,
         right: 0.0,

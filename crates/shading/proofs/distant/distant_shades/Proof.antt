@@ -25,12 +25,12 @@ Inv-loop surface sun objects n shades₀ i₀ shades i =
 abbrev μ-loop : tie.MeasureT-loop
 μ-loop surface sun objects n shades₀ i₀ shades i = n - i
 
-at-most-8-requires : tie.Need-at-most-8-requires Inv-loop μ-loop
-at-most-8-requires c κs = tt
+counted-places-requires : tie.Need-counted-places-requires Inv-loop μ-loop
+counted-places-requires c κs = tt
 
 loop-holds : tie.Need-loop-holds Inv-loop μ-loop
 unfolding ofBits whole
-loop-holds c = (omega arith, omega (arith, c .at-most-8 .ensures), refl, refl)
+loop-holds c = (omega arith, omega (arith, c .counted-places .ensures), refl, refl)
 
 mul-object : tie.Need-mul-object Inv-loop μ-loop
 mul-object c = omega arith
@@ -55,7 +55,7 @@ loop-again : tie.Need-loop-again Inv-loop μ-loop
 loop-again c =
     let b = c .before .before .before in
     let a = b .before .before .before .args in
-    let n = b .before .at-most-8 .result in
+    let n = b .before .counted-places .result in
     let i = b .loop .i in
     let objects = a .segment .«shading_objects» in
     let size : length objects ≡ 8 = eight (b .before .before .before) in
@@ -72,10 +72,10 @@ unfolding counted
 returns c =
     let b = c .before in
     let a = b .before .before .before .args in
-    let n = b .before .at-most-8 .result in
+    let n = b .before .counted-places .result in
     let objects = a .segment .«shading_objects» in
     let size : length objects ≡ 8 = eight (b .before .before .before) in
-    let first = counted-first objects (a .segment .count) 8 n size (b .before .at-most-8 .ensures) in
+    let first = counted-first objects (a .segment .count) 8 n size (b .before .counted-places .ensures) in
     let done : b .loop .i ≡ length (take n objects) = at-end n (b .loop .i) objects (omega arith) (omega arith) in
     rw (← first) (
       sym (obstacle-end (a .surface) (sunOf (a .sun)) (b .loop .shades .obstacle) (take n objects) (b .loop .i) done) ∙ b .loop .inv .2,
@@ -88,7 +88,7 @@ distant-shades-spec =
     (tie.spec
     Inv-loop
     μ-loop
-    at-most-8-requires
+    counted-places-requires
     loop-holds
     mul-object
     array-copy-out-object

@@ -18,11 +18,11 @@ Inv-loop first surface sun hk-ovh wk-sun objects n factor₀ i₀ factor i =
 abbrev μ-loop : tie.MeasureT-loop
 μ-loop first surface sun hk-ovh wk-sun objects n factor₀ i₀ factor i = n - i
 
-at-most-16-requires : tie.Need-at-most-16-requires Inv-loop μ-loop
-at-most-16-requires c κs = tt
+counted-places-requires : tie.Need-counted-places-requires Inv-loop μ-loop
+counted-places-requires c κs = tt
 
 loop-holds : tie.Need-loop-holds Inv-loop μ-loop
-loop-holds c = (omega arith, omega (arith, c .at-most-16 .ensures), refl)
+loop-holds c = (omega arith, omega (arith, c .counted-places .ensures), refl)
 
 mul-object : tie.Need-mul-object Inv-loop μ-loop
 mul-object c = omega arith
@@ -47,7 +47,7 @@ loop-again : tie.Need-loop-again Inv-loop μ-loop
 loop-again c =
     let b = c .before .before .before in
     let a = b .before .before .before .args in
-    let n = b .before .at-most-16 .result in
+    let n = b .before .counted-places .result in
     let i = b .loop .i in
     let objects = a .window .objects in
     let size : length objects ≡ 16 = sixteen (b .before .before .before) in (
@@ -61,11 +61,11 @@ unfolding placed
 returns c =
     let b = c .before in
     let a = b .before .before .before .args in
-    let n = b .before .at-most-16 .result in
+    let n = b .before .counted-places .result in
     let i = b .loop .i in
     let objects = a .window .objects in
     let size : length objects ≡ 16 = sixteen (b .before .before .before) in
-    let counted = counted-first objects (a .window .count) 16 n size (b .before .at-most-16 .ensures) in
+    let counted = counted-first objects (a .window .count) 16 n size (b .before .counted-places .ensures) in
     let done : i ≡ length (take n objects) = at-end n i objects (omega arith) (omega arith) in
     rw (← counted) (sym (near-end (nearFactor (a .surface) (sunOf (a .sun)) (a .hk-ovh) (a .wk-sun)) (b .loop .factor) objects n i done) ∙ b .loop .inv .2)
 
@@ -75,7 +75,7 @@ least-factor-spec =
     (tie.spec
     Inv-loop
     μ-loop
-    at-most-16-requires
+    counted-places-requires
     loop-holds
     mul-object
     array-copy-out-object

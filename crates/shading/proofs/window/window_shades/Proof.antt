@@ -24,12 +24,12 @@ Inv-loop sun overhang objects n shades₀ i₀ shades i =
 abbrev μ-loop : tie.MeasureT-loop
 μ-loop sun overhang objects n shades₀ i₀ shades i = n - i
 
-at-most-16-requires : tie.Need-at-most-16-requires Inv-loop μ-loop
-at-most-16-requires c κs = tt
+counted-places-requires : tie.Need-counted-places-requires Inv-loop μ-loop
+counted-places-requires c κs = tt
 
 loop-holds : tie.Need-loop-holds Inv-loop μ-loop
 unfolding ofBits whole
-loop-holds c = (omega arith, omega (arith, c .at-most-16 .ensures), refl, refl, refl, refl)
+loop-holds c = (omega arith, omega (arith, c .counted-places .ensures), refl, refl, refl, refl)
 
 mul-object : tie.Need-mul-object Inv-loop μ-loop
 mul-object c = omega arith
@@ -54,7 +54,7 @@ loop-again : tie.Need-loop-again Inv-loop μ-loop
 loop-again c =
     let b = c .before .before .before in
     let a = b .before .before .before .args in
-    let n = b .before .at-most-16 .result in
+    let n = b .before .counted-places .result in
     let i = b .loop .i in
     let objects = a .window .objects in
     let size : length objects ≡ 16 = sixteen (b .before .before .before) in
@@ -74,11 +74,11 @@ unfolding placed
 returns c =
     let b = c .before in
     let a = b .before .before .before .args in
-    let n = b .before .at-most-16 .result in
+    let n = b .before .counted-places .result in
     let i = b .loop .i in
     let objects = a .window .objects in
     let size : length objects ≡ 16 = sixteen (b .before .before .before) in
-    let first = counted-first objects (a .window .count) 16 n size (b .before .at-most-16 .ensures) in
+    let first = counted-first objects (a .window .count) 16 n size (b .before .counted-places .ensures) in
     let done : i ≡ length (take n objects) = at-end n i objects (omega arith) (omega arith) in
     let shades = b .loop .shades in
     rw (← first) (
@@ -94,7 +94,7 @@ window-shades-spec =
     (tie.spec
     Inv-loop
     μ-loop
-    at-most-16-requires
+    counted-places-requires
     loop-holds
     mul-object
     array-copy-out-object
