@@ -4,6 +4,7 @@
 ghost use mathlib.Core.Path.{_≡_};
 ghost use mathlib.Core.List.{[], _∷_};
 ghost use Prim.Native.Nat.{_%_};
+ghost use lib.Ieee.{binary64, ofBits, toBits};
 ghost use Rattle.words.specs.Words.{number, wordCount, wordAt, putWord, doubleAt, putDouble};
 ghost use Rattle.words.specs.Hexadecimal.{digit, digitValue, digitsAt, putDigits};
 
@@ -72,26 +73,38 @@ pub fn store_word(bytes: &mut [u8], k: usize, w: u64)
     }
 }
 
-// The k-th word's double. A NaN's pattern, with the sign taken off, is above the infinity's.
-pub fn double_at(bytes: &[u8], k: usize) -> f64
-    ensures { λ r. ⌜ r ≡ doubleAt (now (bytes .entry)) k ⌝ }
+// The double whose bits are w. A NaN's pattern, with the sign taken off, is above the infinity's.
+pub fn double_of_bits(w: u64) -> f64
+    ensures { λ r. ⌜ r ≡ ofBits binary64 w ⌝ }
 {
-    let w = word_at(bytes, k);
     if 0x7FF0_0000_0000_0000 < w % 0x8000_0000_0000_0000 {
         return 0.0 / 0.0;
     }
     f64::from_bits(w)
 }
 
-// Writes the bits of x as the k-th word, one pattern for every NaN.
+// The bits of x, one pattern for every NaN.
+pub fn bits_of_double(x: f64) -> u64
+    ensures { λ r. ⌜ r ≡ toBits binary64 x ⌝ }
+{
+    if x != x {
+        return 0x7FF8_0000_0000_0000;
+    }
+    f64::to_bits(x)
+}
+
+// The k-th word's double.
+pub fn double_at(bytes: &[u8], k: usize) -> f64
+    ensures { λ r. ⌜ r ≡ doubleAt (now (bytes .entry)) k ⌝ }
+{
+    double_of_bits(word_at(bytes, k))
+}
+
+// Writes the bits of x as the k-th word.
 pub fn store_double(bytes: &mut [u8], k: usize, x: f64)
     ensures { λ _. ⌜ now (bytes .exit) ≡ putDouble (now (bytes .entry)) k x ⌝ }
 {
-    if x != x {
-        store_word(bytes, k, 0x7FF8_0000_0000_0000);
-        return;
-    }
-    store_word(bytes, k, f64::to_bits(x));
+    store_word(bytes, k, bits_of_double(x));
 }
 
 // What stands where sixteen digits are looked for.
