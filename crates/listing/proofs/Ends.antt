@@ -1,0 +1,26 @@
+-- Where a line ends, found byte by byte.
+use mathlib.Core.Path.{_≡_, refl, _∙_, ap, sym}
+use mathlib.Core.Logic.{_≢_}
+use mathlib.Core.List.{List}
+use Prim.Native.Nat.{ℕ, suc, _+_, _-_, _≤_, _<_}
+use native.Mathlib.Numerals.{add-one}
+use native.Mathlib.Omega.{arith}
+use borrow.Author.Tests.{eq-eqb, ne-eqb}
+use lib.ListN.{length, getD}
+use Rattle.listing.specs.Reading.{lineEnd}
+
+module _ (l : List ℕ) (i : ℕ) where
+  one-left : i < length l → length l - i ≡ suc (length l - (i + 1))
+  one-left h = omega arith
+
+  pub here : i < length l → getD l i 0 ≡ 10 → i ≡ lineEnd l i (length l - i)
+  unfolding lineEnd
+  here h e = rw (one-left h, eq-eqb _ _ e)
+
+  pub further : i < length l → getD l i 0 ≢ 10 → lineEnd l (i + 1) (length l - (i + 1)) ≡ lineEnd l i (length l - i)
+  unfolding lineEnd
+  further h e = rw (one-left h, ne-eqb _ _ e) (ap (λ j. lineEnd l j (length l - (i + 1))) (add-one i))
+
+  pub at-the-end : length l ≤ i → i ≡ lineEnd l i (length l - i)
+  unfolding lineEnd
+  at-the-end h = let z : length l - i ≡ 0 = omega arith in rw z

@@ -1,0 +1,5 @@
+pub mod Ends
+pub mod Numerals
+pub mod Pieces
+pub mod Cuts
+pub mod Readings

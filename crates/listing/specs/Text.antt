@@ -1,0 +1,33 @@
+-- Texts as lists of bytes.
+use mathlib.Core.Bool.{Bool, cond, _&&_}
+use mathlib.Core.List.{List, [], _∷_, _++_}
+use Prim.Native.Nat.{ℕ}
+use Prim.Native.Char.{code}
+use Prim.Native.String as string
+use lib.Dec.{eqb}
+use lib.ListN.{length, getD}
+use Rattle.shading.specs.Checks.{firstFine}
+
+-- the bytes of an ASCII text
+unfoldable pub ascii : string.String → List ℕ
+ascii string.[] = []
+ascii (string._∷_ c rest) = code c ∷ ascii rest
+
+-- two texts are the same: equally long, and the same byte at every place
+unfoldable pub sameByte : List ℕ → List ℕ → ℕ → Bool
+sameByte l m i = eqb (getD l i 0) (getD m i 0)
+
+unfoldable pub sameText : List ℕ → List ℕ → Bool
+sameText l m = eqb (length l) (length m) && firstFine (sameByte l m) (length l)
+
+-- the lines of a text of which `line` was read so far: each ends in a line feed, which the last may lack
+unfoldable pub lastLine : List ℕ → List (List ℕ)
+lastLine [] = []
+lastLine (a ∷ l) = (a ∷ l) ∷ []
+
+unfoldable pub linesFrom : List ℕ → List ℕ → List (List ℕ)
+linesFrom line [] = lastLine line
+linesFrom line (b ∷ rest) = cond (eqb b 10) (line ∷ linesFrom [] rest) (linesFrom (line ++ b ∷ []) rest)
+
+unfoldable pub linesOf : List ℕ → List (List ℕ)
+linesOf text = linesFrom [] text

@@ -1,0 +1,106 @@
+// Lines that are printed.
+ghost use mathlib.Core.Path.{_≡_};
+ghost use mathlib.Core.List.{[]};
+ghost use Prim.Native.Nat.{_+_, _-_, min};
+ghost use lib.ListN.{length};
+ghost use lib.Seq.{paste};
+ghost use Rattle.shading.specs.Factor.{numberOf};
+ghost use Rattle.shading.specs.declared.objects.FactorAnswer.the-variants.{Factor, Refused};
+ghost use Rattle.listing.specs.Line.{outputLine};
+ghost use Rattle.listing.specs.Reading.{bytesOf};
+use crate::parts::append;
+use shading::objects::FactorAnswer;
+use shading::objects::Refusal;
+
+// A line with its line feed: the first `count` bytes.
+pub struct OutputLine {
+    pub count: usize,
+    pub bytes: [u8; 19],
+}
+
+pub fn nothing() -> OutputLine
+    ensures { λ r. ⌜ bytesOf r ≡ [] ⌝ }
+{
+    OutputLine {
+        count: 0,
+        bytes: [0; 19],
+    }
+}
+
+fn number_of(refusal: Refusal) -> u64
+    ensures { λ r. ⌜ r ≡ numberOf refusal ⌝ }
+{
+    match refusal {
+        Refusal::Site => 1,
+        Refusal::Run => 2,
+        Refusal::Surface => 3,
+        Refusal::Object => 4,
+        Refusal::Series => 5,
+        Refusal::Reading => 6,
+        Refusal::Results => 7,
+        Refusal::Gap => 8,
+        Refusal::Turned => 9,
+        Refusal::NoSector => 10,
+        Refusal::Reveal => 11,
+        Refusal::Line => 12,
+    }
+}
+
+fn factor_line(x: f64) -> OutputLine
+    ensures { λ r. ⌜ bytesOf r ≡ outputLine (Factor x) ⌝ }
+{
+    let mut bytes = *b"0                 \n";
+    words::store_digits(&mut bytes, 2, words::bits_of_double(x));
+    OutputLine {
+        count: 19,
+        bytes: bytes,
+    }
+}
+
+fn refused_line(refusal: Refusal) -> OutputLine
+    ensures { λ r. ⌜ bytesOf r ≡ outputLine (Refused refusal) ⌝ }
+{
+    let n = number_of(refusal);
+    if n < 10 {
+        let mut short = *b"  -\n               ";
+        short[0] = (48 + n) as u8;
+        return OutputLine {
+            count: 4,
+            bytes: short,
+        };
+    }
+    let mut bytes = *b"   -\n              ";
+    bytes[0] = (48 + n / 10) as u8;
+    bytes[1] = (48 + n % 10) as u8;
+    OutputLine {
+        count: 5,
+        bytes: bytes,
+    }
+}
+
+pub fn output_line(answer: FactorAnswer) -> OutputLine
+    ensures { λ r. ⌜ bytesOf r ≡ outputLine answer ⌝ }
+{
+    match answer {
+        FactorAnswer::Factor(x) => factor_line(x),
+        FactorAnswer::Refused(refusal) => refused_line(refusal),
+    }
+}
+
+fn counted(count: usize) -> usize
+    ensures { λ r. ⌜ r ≡ min count 19 ⌝ }
+{
+    if count < 19 {
+        return count;
+    }
+    19
+}
+
+// Puts a line behind the first `used` bytes of a list, as far as there is room. Answers how many are used then.
+pub fn put(list: &mut [u8], used: usize, output: OutputLine) -> usize
+    ensures { λ r. ⌜ (r ≡ used + min (length (bytesOf output)) (length (now (list .entry)) - used)) × (now (list .exit) ≡ paste (now (list .entry)) used (bytesOf output) (min (length (bytesOf output)) (length (now (list .entry)) - used))) ⌝ }
+{
+    let bytes = output.bytes;
+    let n = counted(output.count);
+    append(list, used, &bytes[..n])
+}

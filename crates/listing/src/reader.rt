@@ -1,0 +1,139 @@
+// A listing read piece by piece. All that is kept of the input is a part of one line, so a line may have any length.
+ghost use mathlib.Core.Path.{_≡_};
+ghost use Prim.Native.Nat.{min};
+ghost use Rattle.listing.specs.declared.reader.Stage.the-variants.{Names};
+ghost use Rattle.listing.specs.Text.{sameText};
+ghost use Rattle.listing.specs.Listing.{names};
+ghost use Rattle.listing.specs.Reading.{lineStart, withPart, after, lineOver, printed, lastPrinted, readingOf, bytesOf};
+use crate::line::line_answer;
+use crate::output::OutputLine;
+use crate::output::nothing;
+use crate::output::output_line;
+use crate::parts::append;
+use crate::parts::same_text;
+use shading::objects::FactorAnswer;
+use shading::objects::Refusal;
+
+// The names line is awaited, or a line with values, or the listing has ended.
+pub enum Stage {
+    Names,
+    Values,
+    Over,
+}
+
+// What is kept between two pieces: the first `count` bytes of a line.
+pub struct Reader {
+    pub stage: Stage,
+    pub count: usize,
+    pub line: [u8; 170],
+}
+
+// What the end of a line brings: the reader after it, and what is printed.
+pub struct Turn {
+    pub reader: Reader,
+    pub output: OutputLine,
+}
+
+fn is_names(line: &[u8]) -> bool
+    ensures { λ r. ⌜ r ≡ sameText (now (line .entry)) names ⌝ }
+{
+    same_text(
+        line,
+        b"altitude azimuth base height width tilt orientation shade distance transparency",
+    )
+}
+
+// How many bytes of a line are kept.
+fn counted(count: usize) -> usize
+    ensures { λ r. ⌜ r ≡ min count 170 ⌝ }
+{
+    if count < 170 {
+        return count;
+    }
+    170
+}
+
+// At the start of a line: of the names line, to begin with.
+pub fn line_start(stage: Stage) -> Reader
+    ensures { λ r. ⌜ readingOf r ≡ lineStart stage ⌝ }
+{
+    Reader {
+        stage: stage,
+        count: 0,
+        line: [0; 170],
+    }
+}
+
+// More of the line that is being read.
+pub fn with_part(reader: Reader, part: &[u8]) -> Reader
+    ensures { λ r. ⌜ readingOf r ≡ withPart (readingOf reader) (now (part .entry)) ⌝ }
+{
+    let stage = reader.stage;
+    let mut line = reader.line;
+    let count = append(&mut line, reader.count, part);
+    Reader {
+        stage: stage,
+        count: count,
+        line: line,
+    }
+}
+
+// The names line has ended.
+fn names_over(line: &[u8]) -> Turn
+    ensures { λ r. ⌜ (readingOf (r .reader) ≡ lineStart (after Names (now (line .entry)))) × (bytesOf (r .output) ≡ printed Names (now (line .entry))) ⌝ }
+{
+    if is_names(line) {
+        return Turn {
+            reader: line_start(Stage::Values),
+            output: nothing(),
+        };
+    }
+    Turn {
+        reader: line_start(Stage::Over),
+        output: output_line(FactorAnswer::Refused(Refusal::Line)),
+    }
+}
+
+// A line has ended.
+fn turn_at(stage: Stage, line: &[u8]) -> Turn
+    ensures { λ r. ⌜ (readingOf (r .reader) ≡ lineStart (after stage (now (line .entry)))) × (bytesOf (r .output) ≡ printed stage (now (line .entry))) ⌝ }
+{
+    match stage {
+        Stage::Names => names_over(line),
+        Stage::Values => Turn {
+            reader: line_start(Stage::Values),
+            output: output_line(line_answer(line)),
+        },
+        Stage::Over => Turn {
+            reader: line_start(Stage::Over),
+            output: nothing(),
+        },
+    }
+}
+
+// The line that is being read has ended.
+pub fn line_over(reader: Reader) -> Turn
+    ensures { λ r. ⌜ (readingOf (r .reader) ≡ lineOver (readingOf reader)) × (bytesOf (r .output) ≡ printed (reader .stage) (readingOf reader .held)) ⌝ }
+{
+    let stage = reader.stage;
+    let line = reader.line;
+    let n = counted(reader.count);
+    turn_at(stage, &line[..n])
+}
+
+// The input has ended. Its last line may lack a line feed.
+pub fn input_over(reader: Reader) -> OutputLine
+    ensures { λ r. ⌜ bytesOf r ≡ lastPrinted (reader .stage) (readingOf reader .held) ⌝ }
+{
+    let stage = reader.stage;
+    match stage {
+        Stage::Names => line_over(reader).output,
+        Stage::Values => {
+            if reader.count == 0 {
+                return nothing();
+            }
+            line_over(reader).output
+        }
+        Stage::Over => nothing(),
+    }
+}

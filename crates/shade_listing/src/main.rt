@@ -1,0 +1,87 @@
+// Answers a shade listing: lines with ten values on standard input, lines with a number and a factor on standard output.
+use listing::output::put;
+use listing::parts::line_end;
+use listing::reader::Reader;
+use listing::reader::Stage;
+use listing::reader::input_over;
+use listing::reader::line_over;
+use listing::reader::line_start;
+use listing::reader::with_part;
+
+// The reader after a piece of the input, and whether to go on.
+struct Progress {
+    reader: Reader,
+    going: bool,
+}
+
+fn write_out(bytes: &[u8]) -> bool {
+    let written = io::write_all(libc::STDOUT_FILENO, bytes);
+    if !written {
+        os::fail(b"standard output");
+    }
+    written
+}
+
+// Answers the lines that end in a piece. A piece of 2,048 bytes has at most as many lines, each answered by at most 19 bytes, so
+// that there is room for all answers.
+fn answer_piece(reader: Reader, piece: &[u8]) -> Progress {
+    let mut out = io::large_buffer();
+    let mut current = reader;
+    let mut used = 0;
+    let mut at = 0;
+    while at < piece.len() {
+        let end = line_end(piece, at);
+        current = with_part(current, &piece[at..end]);
+        at = end;
+        if end < piece.len() {
+            let turn = line_over(current);
+            current = turn.reader;
+            used = put(&mut out, used, turn.output);
+            at = end + 1;
+        }
+    }
+    Progress {
+        reader: current,
+        going: write_out(&out[..used]),
+    }
+}
+
+// Reads a piece and answers its lines.
+fn read_piece(reader: Reader) -> Progress {
+    let mut piece = [0u8; 2048];
+    let got = libc::read(libc::STDIN_FILENO, &mut piece);
+    if got < 0 {
+        os::fail(b"standard input");
+    }
+    if got <= 0 {
+        return Progress {
+            reader: reader,
+            going: false,
+        };
+    }
+    let n = io::count(got, &piece);
+    answer_piece(reader, &piece[..n])
+}
+
+// Nothing says that the input ends, so the loop counts its turns down from a number that no run uses up.
+fn read_all(first: Reader) -> Reader {
+    let mut reader = first;
+    let mut going = true;
+    let mut turns = u64::MAX;
+    while turns > 0 && going {
+        let progress = read_piece(reader);
+        reader = progress.reader;
+        going = progress.going;
+        turns -= 1;
+    }
+    reader
+}
+
+fn main() {
+    if !write_out(b"number factor\n") {
+        return;
+    }
+    let mut out = io::buffer();
+    let n = put(&mut out, 0, input_over(read_all(line_start(Stage::Names))));
+    write_out(&out[..n]);
+}
