@@ -64,6 +64,13 @@ module _ (d : List ℕ) (at : ℕ) (p : List ℕ) where
   pub unchanged : length d ≤ at → d ≡ paste d at p moved
   unchanged h = paste-zero d at p ∙ ap (paste d at p) (sym (none-moved h))
 
+  -- the list stays as long as it was, and no more of it is used than there is
+  pub as-long : (l : List ℕ) → l ≡ paste d at p moved → at ≤ length d → length l ≡ length d
+  as-long l e h = let few : at + moved ≤ length d = omega (arith, h) in let fits : moved ≤ length p = omega arith in ap length e ∙ length-paste d at p moved few fits
+
+  pub used-within : (n : ℕ) → n ≡ at + moved → at ≤ length d → n ≤ length d
+  used-within n e h = omega (arith, e, h)
+
   module _ (l : List ℕ) (i : ℕ) (e : l ≡ paste d at p i) where
     pub kept-length : at + i ≤ length d → i ≤ length p → length l ≡ length d
     kept-length h k = ap length e ∙ length-paste d at p i h k

@@ -1,95 +1,85 @@
+-- `answer_piece` is safe and ends. The measure is the number of bytes that are left of the piece.
+use mathlib.Core.Path.{_≡_, sym}
+use Prim.Native.Nat.{_-_, _≤_}
+use native.Mathlib.Omega.{arith}
+use denote.Ref.{now}
+use lib.ListN.{length}
+use lib.Seq.{length-take-le}
+use Rattle.listing.specs.Reading.{bytesOf}
+use Rattle.listing.proofs.Pieces.{as-long, used-within}
+use Rattle.listing.proofs.Ends.{end-from, end-within}
 use Rattle.shade_listing.proofs.answer_piece.Statement.{statement}
 use Rattle.shade_listing.proofs.answer_piece.Tie as tie
-use Rattle.shade_listing.proofs.answer_piece.Reads as reads
-use Rattle.shade_listing.proofs.answer_piece.Lts as lts
-use Rattle.io.proofs.large_buffer.Reads as large-buffer-reads
-use Rattle.listing.proofs.output.put.Reads as put-reads
-use Rattle.listing.proofs.parts.line_end.Reads as line-end-reads
-use Rattle.listing.proofs.reader.line_over.Reads as line-over-reads
-use Rattle.listing.proofs.reader.with_part.Reads as with-part-reads
-use Rattle.shade_listing.proofs.write_out.Reads as write-out-reads
 
 abbrev Inv-loop : tie.InvT-loop
-Inv-loop piece out₀ current₀ used₀ at₀ out current used at = ?
+Inv-loop piece out₀ current₀ used₀ at₀ out current used at = (at ≤ length piece) × (used ≤ 65536) × (length out ≡ 65536)
 
 abbrev μ-loop : tie.MeasureT-loop
-μ-loop piece out₀ current₀ used₀ at₀ out current used at = ?
+μ-loop piece out₀ current₀ used₀ at₀ out current used at = length piece - at
 
--- src/main.rt:28:19
 large-buffer-requires : tie.Need-large-buffer-requires Inv-loop μ-loop
-large-buffer-requires c κs = ?
+large-buffer-requires c κs = tt
 
--- src/main.rt:32:5
 loop-holds : tie.Need-loop-holds Inv-loop μ-loop
-loop-holds c = ?
+loop-holds c = (omega arith, omega arith, sym (c .large-buffer .ensures))
 
--- src/main.rt:33:13
 line-end-requires : tie.Need-line-end-requires Inv-loop μ-loop
-line-end-requires c κs = ?
+line-end-requires c κs = tt
 
--- src/main.rt:34:38
 sub-with-part : tie.Need-sub-with-part Inv-loop μ-loop
-sub-with-part c = ?
+sub-with-part c = let z = end-from (now (c .before .before .before .before .before .args .piece)) (c .before .before .loop .at) in omega (arith, z, c .line-end .ensures)
 
--- src/main.rt:34:38
 part-with-part-start : tie.Need-part-with-part-start Inv-loop μ-loop
-part-with-part-start c = ?
+part-with-part-start c = let z = end-from (now (c .before .before .before .before .before .args .piece)) (c .before .before .loop .at) in omega (arith, z, c .line-end .ensures)
 
--- src/main.rt:34:38
 part-with-part-end : tie.Need-part-with-part-end Inv-loop μ-loop
-part-with-part-end c = ?
+part-with-part-end c = let z = end-within (now (c .before .before .before .before .before .args .piece)) (c .before .before .loop .at) (omega arith) in omega (arith, z, c .line-end .ensures)
 
--- src/main.rt:34:9
 with-part-requires : tie.Need-with-part-requires Inv-loop μ-loop
-with-part-requires c κs = ?
+with-part-requires c κs = tt
 
--- src/main.rt:37:17
 line-over-requires : tie.Need-line-over-requires Inv-loop μ-loop
-line-over-requires c κs = ?
+line-over-requires c κs = tt
 
--- src/main.rt:39:24
 slice-aggregate-put : tie.Need-slice-aggregate-put Inv-loop μ-loop
-slice-aggregate-put c = ?
+slice-aggregate-put c = sym (c .before .before .before .before .before .before .before .before .loop .inv .2)
 
--- src/main.rt:39:13
 put-requires : tie.Need-put-requires Inv-loop μ-loop
-put-requires c κs = ?
+put-requires c κs = tt
 
--- src/main.rt:40:18
 add-at : tie.Need-add-at Inv-loop μ-loop
-add-at c = ?
+add-at c = omega arith
 
--- src/main.rt:32:5
 loop-less : tie.Need-loop-less Inv-loop μ-loop
-loop-less c = ?
+loop-less c = let z = end-from (now (c .before .before .before .before .before .before .before .before .before .before .before .before .before .args .piece)) (c .before .before .before .before .before .before .before .before .before .before .loop .at) in omega (arith, z, c .before .before .before .before .before .before .before .before .line-end .ensures)
 
--- src/main.rt:32:5
 loop-again : tie.Need-loop-again Inv-loop μ-loop
-loop-again c = ?
+loop-again c =
+    let q = c .before .before .before .before .before .before .before .before .before .before .loop in
+    let p = c .before .put in
+    let out = bytesOf (c .before .before .before .before .line-over .result .output) in (
+      omega arith,
+      let z = used-within (q .out) (q .used) out (p .result) (p .ensures .0) (omega arith) in omega (arith, z),
+      let z = as-long (q .out) (q .used) out (p .last .0) (p .ensures .1) (omega arith) in omega (arith, z),
+    )
 
--- src/main.rt:32:5
 loop-less-2 : tie.Need-loop-less-2 Inv-loop μ-loop
-loop-less-2 c = ?
+loop-less-2 c = let z = end-from (now (c .before .before .before .before .before .before .before .before .args .piece)) (c .before .before .before .before .before .loop .at) in omega (arith, z, c .before .before .before .line-end .ensures)
 
--- src/main.rt:32:5
 loop-again-2 : tie.Need-loop-again-2 Inv-loop μ-loop
-loop-again-2 c = ?
+loop-again-2 c = (let z = end-within (now (c .before .before .before .before .before .before .before .before .args .piece)) (c .before .before .before .before .before .loop .at) (omega arith) in omega (arith, z, c .before .before .before .line-end .ensures), omega arith, omega arith)
 
--- src/main.rt:45:26
 array-share-prefix-out : tie.Need-array-share-prefix-out Inv-loop μ-loop
-array-share-prefix-out c = ?
+array-share-prefix-out c = omega arith
 
--- src/main.rt:45:26
 slice-aggregate-write-out : tie.Need-slice-aggregate-write-out Inv-loop μ-loop
-slice-aggregate-write-out c = ?
+slice-aggregate-write-out c = let q = c .before .before .loop in sym (length-take-le (q .used) (q .out) (omega arith))
 
--- src/main.rt:45:16
 write-out-requires : tie.Need-write-out-requires Inv-loop μ-loop
-write-out-requires c κs = ?
+write-out-requires c κs = tt
 
--- src/main.rt:27:1
 returns : tie.Need-returns Inv-loop μ-loop
-returns c = ?
+returns c = tt
 
 pub answer-piece-spec : {M : Type 1} → statement M
 answer-piece-spec =
