@@ -90,7 +90,7 @@ sub-mono {x} {x′} {y} {y′} h k n m = add-all x x′ (neg y) (neg y′) h (ne
 
 -- ---- products of doubles that are not negative
 
-no-negative-part : (x : Float) → T (finite x) → whole 0 ≼ x → negativePart x ≡ 0
+pub no-negative-part : (x : Float) → T (finite x) → whole 0 ≼ x → negativePart x ≡ 0
 unfolding whole
 no-negative-part nan f h = absurd f
 no-negative-part (inf s) f h = absurd f
@@ -177,7 +177,7 @@ div-sides : (p n d p′ n′ d′ q e : ℕ) → p * d′ + n′ * d ≤ p′ * 
     → p * e * (q * d′) + n′ * e * (q * d) ≤ p′ * e * (q * d) + n * e * (q * d′)
 div-sides p n d p′ n′ d′ q e h = omega (arith, spread (p * d′) (n′ * d) (p′ * d) (n * d′) (e * q) h)
 
-positive-part : (y : Float) → T (positive y) → 0 < positivePart y
+pub positive-part : (y : Float) → T (positive y) → 0 < positivePart y
 positive-part nan g = absurd g
 positive-part (inf s) g = absurd g
 positive-part (fin true m e) g = absurd g

@@ -1,0 +1,103 @@
+-- The hours of a run's steps, and what a run has that is not turned down. Assumes nothing.
+use mathlib.Core.Path.{_≡_, refl, sym, ap, _∙_, subst}
+use mathlib.Core.Bool.{Bool, true, _&&_, _||_, and-true, and-false}
+use Prim.Native.Nat.{ℕ, zero, suc, _+_, _-_, _/_, _≤_, _<_}
+use native.Mathlib.Decide.{decLt}
+use native.Mathlib.Omega.{arith}
+use borrow.Author.Tests.{lt-ltb, le-ltb, ltb-true}
+use lib.Dec.{T, ltb, eqb, eqb·suc-zero}
+use lib.Ieee.{Float, toUnsigned}
+use lib.Ieee.Bits.{is-true}
+use lib.Ieee.Fits.{and-l, and-r}
+use Rattle.doubles.specs.Arithmetic.{whole}
+use Rattle.doubles.specs.Order.{_≼_, Fits}
+use Rattle.simulation_time.specs.declared.run.Run.{Run}
+use Rattle.simulation_time.specs.Steps.{runFine, stepCount, timeAt, timesFrom, times}
+use Rattle.simulation_time.specs.Timestep.{currentHour, currentDay}
+use Rattle.simulation_time.specs.Checks.{hoursBelow, hoursFine, runAccepted, checkedRun}
+use Rattle.doubles.proofs.Casts.{cast-mono, cast-floor}
+use Rattle.simulation_time.proofs.Accepted.{Accepted}
+use Rattle.simulation_time.proofs.Times.{reached, never-falls}
+
+-- the floor makes no difference, since what is negative becomes 0
+pub hour-is : {time : Float} → Fits time → currentHour time ≡ toUnsigned 32 time
+unfolding currentHour
+hour-is f = cast-floor 32 f
+
+-- the day is that of the hour
+pub day-is : {time : Float} → Fits time → currentDay time ≡ currentHour time / 24
+unfolding currentDay
+day-is f = ap (λ (n : ℕ). n / 24) (sym (hour-is f))
+
+-- a later time has no earlier hour
+pub hour-mono : {x y : Float} → Fits x → Fits y → x ≼ y → currentHour x ≤ currentHour y
+hour-mono f g h = rw (hour-is f, hour-is g) (cast-mono 32 h)
+
+-- a time of the year has an hour up to 8784
+pub hour-few : {time : Float} → Fits time → time ≼ whole 8784 → currentHour time ≤ 8784
+hour-few f h = rw (hour-is f) (unfold toUnsigned whole in cast-mono 32 h)
+
+-- of two hours only the later counts
+later-counts : (m n hours : ℕ) → m ≤ n → ltb m hours && ltb n hours ≡ ltb n hours
+later-counts m n hours h =
+    elim (decLt n hours) [
+      | yes l ↦ let k : m < hours = omega arith in rw (lt-ltb m hours k, lt-ltb n hours l)
+      | no l ↦ let k : hours ≤ n = omega arith in rw (le-ltb n hours k) (and-false (ltb m hours))
+    ]
+
+module _ {run : Run} (a : Accepted run) (hours : ℕ) where
+  -- from step i on, n more after it: the last one's hour decides
+  by-last : (n i : ℕ) → i + n < stepCount run → hoursBelow hours (timesFrom (suc n) (run .step) (timeAt run i)) ≡ ltb (currentHour (timeAt run (i + n))) hours
+  unfolding hoursBelow timesFrom timeAt
+  by-last zero i h =
+      let e : i + 0 ≡ i = omega arith in
+      rw e (and-true (ltb (currentHour (timeAt run i)) hours))
+  by-last (suc n) i h =
+      let e : suc i + n ≡ i + suc n = omega arith in
+      let later : timeAt run i ≼ timeAt run (i + suc n) = never-falls a i (i + suc n) (omega arith) h in
+      let l : currentHour (timeAt run i) ≤ currentHour (timeAt run (i + suc n)) = hour-mono (reached a i (omega arith) .fits) (reached a (i + suc n) h .fits) later in
+      ap (λ (b : Bool). ltb (currentHour (timeAt run i)) hours && b) (by-last n (suc i) (omega arith) ∙ ap (λ (k : ℕ). ltb (currentHour (timeAt run k)) hours) e)
+      ∙ later-counts (currentHour (timeAt run i)) (currentHour (timeAt run (i + suc n))) hours l
+
+  -- only the last step's hour needs a look
+  pub hours-by-last : hoursFine hours run ≡ eqb (stepCount run) 0 || ltb (currentHour (timeAt run (stepCount run - 1))) hours
+  unfolding hoursFine times
+  hours-by-last = go (stepCount run) refl
+    where
+      go : (n : ℕ) → stepCount run ≡ n → hoursBelow hours (timesFrom n (run .step) (run .start)) ≡ eqb n 0 || ltb (currentHour (timeAt run (n - 1))) hours
+      go zero e = unfold hoursBelow timesFrom in refl
+      go (suc n) e =
+          let k : suc n - 1 ≡ n = omega arith in
+          let z : 0 + n ≡ n = omega arith in
+          let last : hoursBelow hours (timesFrom (suc n) (run .step) (run .start)) ≡ ltb (currentHour (timeAt run (0 + n))) hours = unfold timeAt in by-last n 0 (omega arith) in
+          rw (eqb·suc-zero n, k) (last ∙ ap (λ (i : ℕ). ltb (currentHour (timeAt run i)) hours) z)
+
+  -- where the check passes, every step's hour is below the limit
+  pub step-hour : hoursFine hours run ≡ true → (i : ℕ) → i < stepCount run → currentHour (timeAt run i) < hours
+  step-hour fine i h = go (stepCount run) refl h
+    where
+      go : (n : ℕ) → stepCount run ≡ n → i < n → currentHour (timeAt run i) < hours
+      go zero e l = absurd (omega arith)
+      go (suc n) e l =
+          let k : suc n - 1 ≡ n = omega arith in
+          let t : eqb (suc n) 0 || ltb (currentHour (timeAt run (suc n - 1))) hours ≡ true = rw e at (sym hours-by-last ∙ fine) in
+          let last : currentHour (timeAt run n) < hours = ltb-true (currentHour (timeAt run n)) hours (rw (eqb·suc-zero n, k) at t) in
+          let m : currentHour (timeAt run i) ≤ currentHour (timeAt run n) =
+          hour-mono (reached a i h .fits) (reached a n (omega arith) .fits) (never-falls a i n (omega arith) (omega arith)) in
+          omega arith
+
+-- ---- refusal 2 does not hold
+
+module _ (hours : ℕ) (run : Run) (h : runAccepted hours run ≡ true) where
+  pub fields-fine : runFine run ≡ true
+  unfolding runAccepted
+  fields-fine = is-true (runFine run) (and-l (runFine run) (hoursFine hours run) (subst T (sym h) tt))
+
+  pub hours-fine : hoursFine hours run ≡ true
+  unfolding runAccepted
+  hours-fine = is-true (hoursFine hours run) (and-r (runFine run) (hoursFine hours run) (subst T (sym h) tt))
+
+  -- the count that the check hands out
+  pub checked-count : checkedRun hours run .count ≡ stepCount run
+  unfolding checkedRun
+  checked-count = rw fields-fine
