@@ -20,7 +20,7 @@ use Rattle.shading.specs.Extents.{outsideSolarBeam}
 use Rattle.shading.specs.Segments.{Segment, found, gap, turned, noSector, segmentOf}
 use Rattle.shading.specs.Factor.{sunOn, hasReveal, counted, reductionFactor, factorIn, shadingFactor}
 use Rattle.shading.proofs.Premises.{AcceptedSurface, NoNanAt, AcceptedNear, Holds, SameBounds, PlaceByPlace, MoreInSector, SameInSector}
-use Rattle.shading.proofs.Refusals.{SameWalk, both-found, both-gap, both-turned, both-none, segment-alike}
+use Rattle.shading.proofs.Walks.{SameWalk, both-found, both-gap, both-turned, both-none, segment-alike}
 use Rattle.shading.proofs.Bounds.{factor-nonneg, factor-le-one}
 use Rattle.shading.proofs.NoObjects.{factor-no-objects}
 use Rattle.shading.proofs.MoreObjects.{factor-more-objects}

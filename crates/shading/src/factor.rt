@@ -122,7 +122,8 @@ pub fn factor_in(
     let wk_finl = doubles::min_of_2(surface.width, near.left);
     let wk_sun = between(surface.width, wk_finr, wk_finl);
     let first = sunlit_part(surface, hk_sun, wk_sun);
-    FactorAnswer::Factor(least_factor(first, surface, sun, hk_ovh, wk_sun, window))
+    let factor = least_factor(first, surface, sun, hk_ovh, wk_sun, window);
+    FactorAnswer::Factor(factor)
 }
 
 // The sun as it stands to the surface.
