@@ -9,17 +9,18 @@ use lib.Dec.{T}
 use lib.Ieee.{Float}
 use Rattle.doubles.specs.Arithmetic.{whole}
 use Rattle.doubles.proofs.Order.{or-right}
-use Rattle.shading.specs.declared.objects.Surface.{Surface}
-use Rattle.shading.specs.declared.objects.ShadingSegment.{ShadingSegment}
-use Rattle.shading.specs.declared.objects.WindowShadingObject.{WindowShadingObject}
-use Rattle.shading.specs.declared.objects.Refusal.{Refusal}
-use Rattle.shading.specs.declared.objects.Refusal.the-variants as refusal
-use Rattle.shading.specs.declared.objects.FactorAnswer.{FactorAnswer}
-use Rattle.shading.specs.declared.objects.FactorAnswer.the-variants.{Factor, Refused}
+use Rattle.objects.specs.declared.surface.Surface.{Surface}
+use Rattle.objects.specs.declared.sectors.ShadingSegment.{ShadingSegment}
+use Rattle.objects.specs.declared.window.WindowShadingObject.{WindowShadingObject}
+use Rattle.objects.specs.declared.answers.Refusal.{Refusal}
+use Rattle.objects.specs.declared.answers.Refusal.the-variants as refusal
+use Rattle.objects.specs.declared.answers.FactorAnswer.{FactorAnswer}
+use Rattle.objects.specs.declared.answers.FactorAnswer.the-variants.{Factor, Refused}
 use Rattle.shading.specs.Extents.{outsideSolarBeam}
 use Rattle.shading.specs.Segments.{Segment}
-use Rattle.shading.specs.Factor.{Sun, sunOn, ofKind, reveal, hasReveal, counted, reductionFactor, factorIn, shadingFactor}
-use Rattle.shading.proofs.Premises.{Holds, SameBounds, PlaceByPlace}
+use Rattle.objects.specs.Objects.{ofKind, reveal, counted}
+use Rattle.shading.specs.Factor.{Sun, sunOn, hasReveal, reductionFactor, factorIn, shadingFactor}
+use Rattle.shading.specs.Comparison.{Holds, SameBounds, PlaceByPlace}
 use Rattle.shading.proofs.Walks.{SameWalk, both-found, both-gap, both-turned, both-none, segment-alike}
 
 -- two answers: 1 outside the beam, the factors of two sectors so related, or the same refusal

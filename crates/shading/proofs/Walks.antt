@@ -3,7 +3,7 @@
 use mathlib.Core.Path.{_≡_, refl, sym, ap, _∙_}
 use mathlib.Core.Bool.{Bool, true, false, not, _&&_, cond}
 use mathlib.Core.List.{List, [], _∷_}
-use Prim.Native.Nat.{ℕ, zero, suc, _+_, _-_, _*_, _/_, _<_, _≤_}
+use Prim.Native.Nat.{ℕ, suc, _+_, _-_, _*_, _/_, _<_}
 use native.Mathlib.Nat.{sub-self, sub-zero}
 use native.Mathlib.Numerals.{add-one}
 use native.Mathlib.Omega.{arith}
@@ -12,10 +12,10 @@ use lib.Dec.{eqb}
 use lib.Ieee.{Float, lt, ne}
 use Rattle.words.specs.Words.{wordCount, doubleAt}
 use Rattle.sun.specs.Orientation.{orientation180}
-use Rattle.shading.specs.declared.objects.ShadingSegment.{ShadingSegment}
+use Rattle.objects.specs.declared.sectors.ShadingSegment.{ShadingSegment}
 use Rattle.shading.specs.Segments.{Segment, found, gap, turned, noSector, betweenEnds, holdsAzimuth, visit, walkFrom, segmentOf}
-use Rattle.shading.specs.Records.{recordsFrom, segmentAt, sectorsOf}
-use Rattle.shading.proofs.Premises.{SameBounds, PlaceByPlace, none, and-then}
+use Rattle.objects.specs.Records.{recordsFrom, segmentAt, sectorsOf}
+use Rattle.shading.specs.Comparison.{SameBounds, PlaceByPlace, none, and-then}
 
 -- the walk from a sector on, which may be the first
 walkAt : Float → Bool → Float → List ShadingSegment → Segment

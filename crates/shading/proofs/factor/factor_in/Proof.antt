@@ -1,8 +1,9 @@
 use mathlib.Core.Path.{_≡_, ap}
-use Rattle.shading.specs.declared.objects.FactorAnswer.the-variants.{Factor}
-use Rattle.shading.specs.Factor.{factorIn, reductionFactor, overhangShade, sunlitHeight, sunlitWidth, counted, placed}
+use Rattle.objects.specs.declared.answers.FactorAnswer.the-variants.{Factor}
+use Rattle.objects.specs.Objects.{counted, placed}
+use Rattle.shading.specs.Factor.{factorIn, reductionFactor, overhangShade, sunlitHeight, sunlitWidth}
 use Rattle.shading.specs.Steps.{sunOf}
-use Rattle.shading.proofs.Loops.{largest-append}
+use Rattle.doubles.proofs.Lists.{largest-append}
 use Rattle.shading.proofs.factor.factor_in.Statement.{statement}
 use Rattle.shading.proofs.factor.factor_in.Tie as tie
 

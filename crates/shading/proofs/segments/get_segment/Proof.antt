@@ -1,9 +1,9 @@
 use mathlib.Core.Path.{_≡_, sym, ap, _∙_}
-use Prim.Native.Nat.{ℕ, _+_, _-_, _*_, _/_, _≤_}
+use Prim.Native.Nat.{ℕ, _-_, _*_, _/_, _≤_}
 use native.Mathlib.Omega.{arith}
 use lib.ListN.{length}
 use Rattle.words.specs.Words.{wordCount}
-use Rattle.shading.specs.Records.{sectorsOf}
+use Rattle.objects.specs.Records.{sectorsOf}
 use Rattle.shading.specs.Segments.{segmentOf}
 use Rattle.shading.specs.Walk.{segmentFor}
 use Rattle.shading.proofs.Walks.{left, left-first, left-none, AtSector, at-sector}
