@@ -9,9 +9,9 @@ use borrow.Author.Tests.{leb-true, leb-false, ne-eqb}
 use lib.Dec.{leb}
 use lib.ListN.{length, take}
 use lib.Seq.{take-all, length-take-le}
-use Rattle.shading.specs.declared.objects.FactorAnswer.{FactorAnswer}
-use Rattle.shading.specs.declared.objects.FactorAnswer.the-variants.{Refused}
-use Rattle.shading.specs.declared.objects.Refusal.the-variants as refusal
+use Rattle.objects.specs.declared.answers.FactorAnswer.{FactorAnswer}
+use Rattle.objects.specs.declared.answers.FactorAnswer.the-variants.{Refused}
+use Rattle.objects.specs.declared.answers.Refusal.the-variants as refusal
 use Rattle.listing.specs.Text.{ascii, sameText}
 use Rattle.listing.specs.Line.{lineFine, lineAnswer}
 use Rattle.listing.specs.Listing.{names}

@@ -5,9 +5,9 @@ use Prim.Native.Nat.{ℕ, _+_, _/_, _%_, _≤_, _<_}
 use native.Mathlib.Omega.{arith}
 use borrow.Author.Tests.{lt-ltb, le-ltb}
 use Rattle.words.specs.Hexadecimal.{digit}
-use Rattle.shading.specs.declared.objects.Refusal.{Refusal}
-use Rattle.shading.specs.declared.objects.Refusal.the-variants as refusal
-use Rattle.shading.specs.Factor.{numberOf}
+use Rattle.objects.specs.declared.answers.Refusal.{Refusal}
+use Rattle.objects.specs.declared.answers.Refusal.the-variants as refusal
+use Rattle.objects.specs.Refusals.{numberOf}
 use Rattle.listing.specs.Text.{ascii}
 use Rattle.listing.specs.Line.{numeral}
 

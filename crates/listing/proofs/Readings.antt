@@ -11,8 +11,8 @@ use lib.Seq.{take-all}
 use lib.ListN.{length, take, length-take}
 use Rattle.listing.specs.declared.reader.Stage.{Stage}
 use Rattle.listing.specs.declared.reader.Stage.the-variants.{Names, Values, Over}
-use Rattle.shading.specs.declared.objects.FactorAnswer.the-variants.{Refused}
-use Rattle.shading.specs.declared.objects.Refusal.the-variants as refusal
+use Rattle.objects.specs.declared.answers.FactorAnswer.the-variants.{Refused}
+use Rattle.objects.specs.declared.answers.Refusal.the-variants as refusal
 use Rattle.listing.specs.Text.{ascii, sameText, lastLine, linesFrom, linesOf}
 use Rattle.listing.specs.Line.{lineAnswer, outputLine}
 use Rattle.listing.specs.Listing.{names, header, answered, body, listingOf}

@@ -10,12 +10,12 @@ use Rattle.words.specs.declared.Digits.{Digits}
 use Rattle.words.specs.declared.Digits.the-variants.{Word, NotDigits}
 use Rattle.words.specs.Words.{putDouble}
 use Rattle.words.specs.Hexadecimal.{digit, digitsOf, digitsAt}
-use Rattle.shading.specs.declared.objects.FactorAnswer.{FactorAnswer}
-use Rattle.shading.specs.declared.objects.FactorAnswer.the-variants.{Factor, Refused}
-use Rattle.shading.specs.declared.objects.Refusal.the-variants as refusal
-use Rattle.shading.specs.declared.objects.Surface.{Surface}
-use Rattle.shading.specs.Checks.{firstFine}
-use Rattle.shading.specs.Factor.{numberOf}
+use Rattle.objects.specs.declared.answers.FactorAnswer.{FactorAnswer}
+use Rattle.objects.specs.declared.answers.FactorAnswer.the-variants.{Factor, Refused}
+use Rattle.objects.specs.declared.answers.Refusal.the-variants as refusal
+use Rattle.objects.specs.declared.surface.Surface.{Surface}
+use Rattle.objects.specs.Checks.{firstFine}
+use Rattle.objects.specs.Refusals.{numberOf}
 use Rattle.shading.specs.Call.{factorCall}
 use Rattle.listing.specs.Text.{ascii}
 

@@ -2,8 +2,8 @@
 use mathlib.Core.Bool.{cond}
 use mathlib.Core.List.{List, [], _∷_, _++_}
 use Prim.Native.Nat.{ℕ}
-use Rattle.shading.specs.declared.objects.FactorAnswer.the-variants.{Refused}
-use Rattle.shading.specs.declared.objects.Refusal.the-variants as refusal
+use Rattle.objects.specs.declared.answers.FactorAnswer.the-variants.{Refused}
+use Rattle.objects.specs.declared.answers.Refusal.the-variants as refusal
 use Rattle.listing.specs.Text.{ascii, sameText, linesOf}
 use Rattle.listing.specs.Line.{lineAnswer, outputLine}
 

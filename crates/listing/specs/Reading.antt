@@ -5,8 +5,8 @@ use mathlib.Core.List.{List, [], _∷_, _++_}
 use Prim.Native.Nat.{ℕ, zero, suc}
 use lib.Dec.{eqb}
 use lib.ListN.{length, getD, take}
-use Rattle.shading.specs.declared.objects.FactorAnswer.the-variants.{Refused}
-use Rattle.shading.specs.declared.objects.Refusal.the-variants as refusal
+use Rattle.objects.specs.declared.answers.FactorAnswer.the-variants.{Refused}
+use Rattle.objects.specs.declared.answers.Refusal.the-variants as refusal
 use Rattle.listing.specs.declared.reader.Stage.{Stage}
 use Rattle.listing.specs.declared.reader.Stage.the-variants.{Names, Values, Over}
 use Rattle.listing.specs.declared.reader.Reader.{Reader}

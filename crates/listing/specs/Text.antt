@@ -6,7 +6,7 @@ use Prim.Native.Char.{code}
 use Prim.Native.String as string
 use lib.Dec.{eqb}
 use lib.ListN.{length, getD}
-use Rattle.shading.specs.Checks.{firstFine}
+use Rattle.objects.specs.Checks.{firstFine}
 
 -- the bytes of an ASCII text
 unfoldable pub ascii : string.String → List ℕ

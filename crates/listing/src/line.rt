@@ -2,12 +2,12 @@
 ghost use mathlib.Core.Path.{_≡_};
 ghost use Prim.Native.Nat.{_<_};
 ghost use lib.ListN.{length};
-ghost use Rattle.shading.specs.Checks.{firstFine};
+ghost use Rattle.objects.specs.Checks.{firstFine};
 ghost use Rattle.shading.specs.Call.{factorCall};
 ghost use Rattle.listing.specs.Line.{valueFine, parted, lineFine, valueAt, wholeHorizon, oneObstacle, lineAnswer};
-use shading::objects::FactorAnswer;
-use shading::objects::Refusal;
-use shading::objects::Surface;
+use objects::answers::FactorAnswer;
+use objects::answers::Refusal;
+use objects::surface::Surface;
 use words::Digits;
 
 // Whether sixteen digits stand in the k-th value's place.

@@ -4,13 +4,13 @@ ghost use mathlib.Core.List.{[]};
 ghost use Prim.Native.Nat.{_+_, _-_, min};
 ghost use lib.ListN.{length};
 ghost use lib.Seq.{paste};
-ghost use Rattle.shading.specs.Factor.{numberOf};
-ghost use Rattle.shading.specs.declared.objects.FactorAnswer.the-variants.{Factor, Refused};
+ghost use Rattle.objects.specs.declared.answers.FactorAnswer.the-variants.{Factor, Refused};
 ghost use Rattle.listing.specs.Line.{outputLine};
 ghost use Rattle.listing.specs.Reading.{bytesOf};
 use crate::parts::append;
-use shading::objects::FactorAnswer;
-use shading::objects::Refusal;
+use objects::answers::FactorAnswer;
+use objects::answers::Refusal;
+use objects::answers::number_of;
 
 // A line with its line feed: the first `count` bytes.
 pub struct OutputLine {
@@ -24,25 +24,6 @@ pub fn nothing() -> OutputLine
     OutputLine {
         count: 0,
         bytes: [0; 19],
-    }
-}
-
-fn number_of(refusal: Refusal) -> u64
-    ensures { λ r. ⌜ r ≡ numberOf refusal ⌝ }
-{
-    match refusal {
-        Refusal::Site => 1,
-        Refusal::Run => 2,
-        Refusal::Surface => 3,
-        Refusal::Object => 4,
-        Refusal::Series => 5,
-        Refusal::Reading => 6,
-        Refusal::Results => 7,
-        Refusal::Gap => 8,
-        Refusal::Turned => 9,
-        Refusal::NoSector => 10,
-        Refusal::Reveal => 11,
-        Refusal::Line => 12,
     }
 }
 

@@ -11,8 +11,8 @@ use crate::output::nothing;
 use crate::output::output_line;
 use crate::parts::append;
 use crate::parts::same_text;
-use shading::objects::FactorAnswer;
-use shading::objects::Refusal;
+use objects::answers::FactorAnswer;
+use objects::answers::Refusal;
 
 // The names line is awaited, or a line with values, or the listing has ended.
 pub enum Stage {

@@ -9,24 +9,25 @@ use Rattle.doubles.specs.Arithmetic.{whole}
 use Rattle.doubles.specs.Order.{_≼_, _≺_, Fits}
 use Rattle.doubles.proofs.Order.{le-refl}
 use Rattle.doubles.proofs.Bounds.{one-number, zero-le-one}
-use Rattle.shading.specs.declared.objects.Surface.{Surface}
-use Rattle.shading.specs.declared.objects.ShadingSegment.{ShadingSegment}
-use Rattle.shading.specs.declared.objects.WindowShadingObject.{WindowShadingObject}
-use Rattle.shading.specs.declared.objects.Refusal.{Refusal}
-use Rattle.shading.specs.declared.objects.Refusal.the-variants as refusal
-use Rattle.shading.specs.declared.objects.FactorAnswer.{FactorAnswer}
-use Rattle.shading.specs.declared.objects.FactorAnswer.the-variants.{Factor, Refused}
+use Rattle.objects.specs.declared.surface.Surface.{Surface}
+use Rattle.objects.specs.declared.sectors.ShadingSegment.{ShadingSegment}
+use Rattle.objects.specs.declared.window.WindowShadingObject.{WindowShadingObject}
+use Rattle.objects.specs.declared.answers.Refusal.{Refusal}
+use Rattle.objects.specs.declared.answers.Refusal.the-variants as refusal
+use Rattle.objects.specs.declared.answers.FactorAnswer.{FactorAnswer}
+use Rattle.objects.specs.declared.answers.FactorAnswer.the-variants.{Factor, Refused}
 use Rattle.shading.specs.Extents.{outsideSolarBeam}
 use Rattle.shading.specs.Segments.{Segment, found, gap, turned, noSector, segmentOf}
-use Rattle.shading.specs.Factor.{sunOn, hasReveal, counted, reductionFactor, factorIn, shadingFactor}
-use Rattle.shading.proofs.Premises.{AcceptedSurface, NoNanAt, AcceptedNear, Holds, SameBounds, PlaceByPlace, MoreInSector, SameInSector}
-use Rattle.shading.proofs.Refusals.{SameWalk, both-found, both-gap, both-turned, both-none, segment-alike}
+use Rattle.objects.specs.Objects.{counted}
+use Rattle.shading.specs.Factor.{sunOn, hasReveal, reductionFactor, factorIn, shadingFactor}
+use Rattle.shading.specs.Comparison.{AcceptedSurface, NoNanAt, AcceptedNear, Holds, SameBounds, PlaceByPlace, MoreInSector, SameInSector}
+use Rattle.shading.proofs.Walks.{SameWalk, both-found, both-gap, both-turned, both-none, segment-alike}
 use Rattle.shading.proofs.Bounds.{factor-nonneg, factor-le-one}
 use Rattle.shading.proofs.NoObjects.{factor-no-objects}
 use Rattle.shading.proofs.MoreObjects.{factor-more-objects}
 use Rattle.shading.proofs.SameObjects.{factor-unsigned, factor-same-objects}
 use Rattle.shading.proofs.Doubles.{factor-fits}
-use Rattle.shading.proofs.Signs.{Unsigned, positive-unsigned}
+use Rattle.doubles.proofs.Signs.{Unsigned, positive-unsigned}
 
 -- ---- an answer that is a factor is no refusal, and has one value
 

@@ -10,14 +10,19 @@ use Rattle.doubles.specs.Order.{_≼_, Number}
 use Rattle.doubles.proofs.Order.{le-trans, right-number}
 use Rattle.doubles.proofs.Bounds.{zero-number, cut-below}
 use Rattle.doubles.proofs.Folds.{Numbers, smallest-member, smallest-bound}
-use Rattle.shading.specs.declared.objects.Surface.{Surface}
-use Rattle.shading.specs.declared.objects.ShadingObject.{ShadingObject}
-use Rattle.shading.specs.declared.objects.WindowShadingObject.{WindowShadingObject}
+use Rattle.doubles.proofs.Lists.{append-numbers, largest-nonneg}
+use Rattle.doubles.proofs.MinMax.{float-min-is}
+use Rattle.doubles.proofs.Ranges.{Between}
+use Rattle.objects.specs.declared.surface.Surface.{Surface}
+use Rattle.objects.specs.declared.sectors.ShadingObject.{ShadingObject}
+use Rattle.objects.specs.declared.window.WindowShadingObject.{WindowShadingObject}
 use Rattle.shading.specs.Extents.{obstacleHeight}
-use Rattle.shading.specs.Factor.{Sun, extents, ofKind, obstacle, obstacleExtents, overhangExtents, windowOverhangExtents, rightFinExtents, leftFinExtents, overhangShade, sunlitBetween, sunlitHeight, sunlitWidth, sunlitPart, nearFactor, reductionFactor}
-use Rattle.shading.proofs.Premises.{AcceptedSurface, NoNanExtent, AcceptedNear, nearObstacleHeight}
-use Rattle.shading.proofs.Steps.{Between, Side, cut-between, remains-between, part, part-nonneg, part-le-one, nearHeight, near-between, float-min-is, side-number, high}
-use Rattle.shading.proofs.Members.{Extent, extents-from, append-numbers, largest-nonneg, least-is}
+use Rattle.objects.specs.Objects.{ofKind, obstacle}
+use Rattle.shading.specs.Factor.{Sun, extents, obstacleExtents, overhangExtents, windowOverhangExtents, rightFinExtents, leftFinExtents, overhangShade, sunlitBetween, sunlitHeight, sunlitWidth, sunlitPart, nearFactor, reductionFactor}
+use Rattle.shading.specs.Factor.{nearObstacleHeight}
+use Rattle.shading.specs.Comparison.{AcceptedSurface, NoNanExtent, AcceptedNear}
+use Rattle.shading.proofs.Steps.{Side, cut-between, remains-between, part, part-nonneg, part-le-one, nearHeight, near-between, side-number, high}
+use Rattle.shading.proofs.Members.{Extent, extents-from, least-is}
 
 pub height-side : {surface : Surface} → AcceptedSurface surface → Side (surface .height)
 height-side a = record { least = a .height-from; most = a .height-to; double = a .height-fits }

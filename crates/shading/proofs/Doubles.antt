@@ -1,27 +1,20 @@
 -- The factor is a double, whatever goes in: NaN, infinities and surfaces that no job accepts included. Assumes nothing.
 use mathlib.Core.Path.{refl, sym, subst}
 use mathlib.Core.List.{List, [], _∷_, List·Memᴰ, List·Memᴰ·head, List·Memᴰ·tail}
-use mathlib.Core.Bool.{cond}
-use lib.Ieee.{Float, binary64, lt, isNan}
-use lib.Ieee.Fits.{cond-fits, div-fits}
+use lib.Ieee.{Float, binary64}
+use lib.Ieee.Fits.{div-fits}
 use Rattle.doubles.specs.Arithmetic.{_⊗_}
-use Rattle.doubles.specs.Functions.{minOf2, floatMin}
+use Rattle.doubles.specs.Functions.{floatMin}
 use Rattle.doubles.specs.Order.{Fits}
-use Rattle.shading.specs.declared.objects.Surface.{Surface}
-use Rattle.shading.specs.declared.objects.ShadingObject.{ShadingObject}
-use Rattle.shading.specs.declared.objects.WindowShadingObject.{WindowShadingObject}
-use Rattle.shading.specs.Factor.{Sun, ofKind, obstacle, overhangShade, sunlitHeight, sunlitWidth, sunlitPart, nearFactor, leastOf, reductionFactor}
+use Rattle.doubles.proofs.MinMax.{float-min-fits}
+use Rattle.objects.specs.declared.surface.Surface.{Surface}
+use Rattle.objects.specs.declared.sectors.ShadingObject.{ShadingObject}
+use Rattle.objects.specs.declared.window.WindowShadingObject.{WindowShadingObject}
+use Rattle.objects.specs.Objects.{ofKind, obstacle}
+use Rattle.shading.specs.Factor.{Sun, overhangShade, sunlitHeight, sunlitWidth, sunlitPart, nearFactor, leastOf, reductionFactor}
 use Rattle.shading.proofs.Members.{Extent, extents-from}
 use Rattle.shading.proofs.Steps.{part, nearHeight}
 use Rattle.shading.proofs.Bounds.{base, near, nears, nearShade, near-factor-is}
-
-float-min-fits : {x y : Float} → Fits x → Fits y → Fits (floatMin x y)
-unfolding floatMin minOf2
-float-min-fits {x} {y} f g = record {
-  holds =
-      cond-fits binary64 (isNan x) y (cond (isNan y) x (cond (lt x y) x y)) (g .holds)
-      (cond-fits binary64 (isNan y) x (cond (lt x y) x y) (f .holds) (cond-fits binary64 (lt x y) x y (f .holds) (g .holds)));
-}
 
 least-fits : (first : Float) (xs : List Float) → Fits first → ((x : Float) → List·Memᴰ x xs → Fits x) → Fits (leastOf first xs)
 unfolding leastOf

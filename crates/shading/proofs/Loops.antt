@@ -2,7 +2,7 @@
 -- whole list from 0. Assumes nothing.
 use mathlib.Core.Path.{_≡_, refl, sym, ap, _∙_}
 use mathlib.Core.Bool.{Bool, true, false, _||_, cond, or-false}
-use mathlib.Core.List.{List, [], _∷_, _++_, map}
+use mathlib.Core.List.{List, [], _∷_, map}
 use Prim.Native.Nat.{ℕ, suc, _+_, _<_, _≤_, min}
 use native.Mathlib.Numerals.{add-one}
 use lib.ListN.{length, getD, take, drop, length-map}
@@ -12,12 +12,13 @@ use native.Mathlib.Nat.{min-eq-left}
 use native.Mathlib.Omega.{arith}
 use lib.Ieee.{Float}
 use Rattle.doubles.specs.Functions.{maxOf2, floatMin, largestOf}
-use Rattle.shading.specs.declared.objects.Surface.{Surface}
-use Rattle.shading.specs.declared.objects.ShadingObject.{ShadingObject}
+use Rattle.objects.specs.declared.surface.Surface.{Surface}
+use Rattle.objects.specs.declared.sectors.ShadingObject.{ShadingObject}
 use Rattle.shading.specs.declared.distant.DistantShades.{DistantShades}
-use Rattle.shading.specs.declared.objects.WindowShadingObject.{WindowShadingObject}
+use Rattle.objects.specs.declared.window.WindowShadingObject.{WindowShadingObject}
 use Rattle.shading.specs.declared.window.WindowShades.{WindowShades}
-use Rattle.shading.specs.Factor.{Sun, extents, leastOf, nearFactor, obstacle, isObstacle, isOverhang, ofKind, overhang, rightFin, leftFin, reveal, obstacleExtents, overhangExtents, windowOverhangExtents, rightFinExtents, leftFinExtents, hasReveal}
+use Rattle.objects.specs.Objects.{obstacle, isObstacle, isOverhang, ofKind, overhang, rightFin, leftFin, reveal}
+use Rattle.shading.specs.Factor.{Sun, extents, leastOf, obstacleExtents, overhangExtents, windowOverhangExtents, rightFinExtents, leftFinExtents, hasReveal}
 use Rattle.shading.specs.Steps.{distantStep, windowStep}
 
 -- a value kept over a list, one member after the other
@@ -51,11 +52,6 @@ largest = record { none = λ first. refl; more = λ first x xs. refl }
 least : Keeps leastOf floatMin
 unfolding leastOf
 least = record { none = λ first. refl; more = λ first x xs. refl }
-
-pub largest-append : (first : Float) (xs ys : List Float) → largestOf first (xs ++ ys) ≡ largestOf (largestOf first xs) ys
-unfolding largestOf
-largest-append first [] ys = refl
-largest-append first (x ∷ xs) ys = largest-append (maxOf2 first x) xs ys
 
 -- ---- a sector's objects: the first n of them
 

@@ -1,20 +1,17 @@
--- Extents as members of their lists, and the folds over them: an extent is there where its object is, so that more objects make no
--- smaller a largest extent. Assumes nothing.
+-- Extents as members of their lists: an extent is there where its object is, so that more objects have more extents. Assumes nothing.
 use mathlib.Core.Path.{_≡_, refl, ap, _∙_, subst}
 use mathlib.Core.Logic.{_⊎_, inl, inr}
 use mathlib.Core.Bool.{Bool, true, false, cond}
-use mathlib.Core.List.{List, [], _∷_, _++_, List·Memᴰ, List·Memᴰ·head, List·Memᴰ·tail, List·Memᴰ·not-nil, List·Memᴰ·cases-cons, List·Memᴰ·append-cases, Memᴰ·append-left, Memᴰ·append-right, Memᴰ·cast}
+use mathlib.Core.List.{List, [], _∷_, List·Memᴰ, List·Memᴰ·head, List·Memᴰ·tail, List·Memᴰ·not-nil, List·Memᴰ·cases-cons, Memᴰ·cast}
 use lib.Dec.{T}
 use lib.Ieee.{Float}
-use Rattle.doubles.specs.Arithmetic.{whole}
-use Rattle.doubles.specs.Functions.{minOf2, largestOf, smallestOf}
-use Rattle.doubles.specs.Order.{_≼_, Number}
+use Rattle.doubles.specs.Functions.{minOf2, smallestOf}
+use Rattle.doubles.specs.Order.{Number}
 use Rattle.doubles.proofs.Order.{left-number}
-use Rattle.doubles.proofs.Bounds.{zero-number}
-use Rattle.doubles.proofs.Folds.{Numbers, Within, min-left, largest-bound, largest-more}
+use Rattle.doubles.proofs.Folds.{Numbers, Within, min-left}
 use Rattle.shading.specs.Factor.{extents, leastOf}
-use Rattle.shading.proofs.Premises.{Holds}
-use Rattle.shading.proofs.Steps.{float-min-is}
+use Rattle.shading.specs.Comparison.{Holds}
+use Rattle.doubles.proofs.MinMax.{float-min-is}
 
 -- an extent of a list is that of one of its objects
 pub record Extent {Object : Type 0} (kind : Object → Bool) (extent : Object → Float) (xs : List Object) (x : Float) : Type 0 where
@@ -58,27 +55,6 @@ module _ {Object : Type 0} (kind : Object → Bool) (extent : Object → Float) 
   extents-within xs ys h x m =
       let e = extents-from xs x m in
       Memᴰ·cast (e .value) (extents-into ys (e .object) (h (e .object) (e .member)) (e .of-kind))
-
--- ---- the largest, from 0 on
-
-pub cons-within : (first : Float) {xs ys : List Float} → Within xs ys → Within (first ∷ xs) (first ∷ ys)
-cons-within first h x m = elim (List·Memᴰ·cases-cons m) [ inl e ↦ List·Memᴰ·head e | inr k ↦ List·Memᴰ·tail (h x k) ]
-
-pub cons-numbers : (first : Float) {xs : List Float} → Number first → Numbers xs → Numbers (first ∷ xs)
-cons-numbers first n h x m = elim (List·Memᴰ·cases-cons m) [ inl e ↦ rw e n | inr k ↦ h x k ]
-
-pub append-numbers : (xs ys : List Float) → Numbers xs → Numbers ys → Numbers (xs ++ ys)
-append-numbers xs ys h k x m = elim (List·Memᴰ·append-cases xs m) [ inl a ↦ h x a | inr b ↦ k x b ]
-
-pub append-within : (xs ys xs′ ys′ : List Float) → Within xs xs′ → Within ys ys′ → Within (xs ++ ys) (xs′ ++ ys′)
-append-within xs ys xs′ ys′ h k x m =
-    elim (List·Memᴰ·append-cases xs m) [ inl a ↦ Memᴰ·append-left ys′ (h x a) | inr b ↦ Memᴰ·append-right xs′ (k x b) ]
-
-pub largest-nonneg : (xs : List Float) → Numbers xs → whole 0 ≼ largestOf (whole 0) xs
-largest-nonneg xs n = largest-bound (whole 0) xs (cons-numbers (whole 0) zero-number n) (whole 0) (List·Memᴰ·head refl)
-
-pub largest-grows : (xs ys : List Float) → Numbers ys → Within xs ys → largestOf (whole 0) xs ≼ largestOf (whole 0) ys
-largest-grows xs ys n h = largest-more (whole 0) xs ys (cons-numbers (whole 0) zero-number n) (cons-within (whole 0) h)
 
 -- ---- the least, by the float method: of numbers it is the smallest
 

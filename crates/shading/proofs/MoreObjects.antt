@@ -9,14 +9,17 @@ use Rattle.doubles.specs.Functions.{minOf2, largestOf, smallestOf}
 use Rattle.doubles.specs.Order.{_≼_}
 use Rattle.doubles.proofs.Order.{le-refl, le-trans}
 use Rattle.doubles.proofs.Folds.{Within, smallest-member, smallest-bound}
-use Rattle.shading.specs.declared.objects.Surface.{Surface}
-use Rattle.shading.specs.declared.objects.ShadingObject.{ShadingObject}
-use Rattle.shading.specs.declared.objects.WindowShadingObject.{WindowShadingObject}
+use Rattle.doubles.proofs.Lists.{append-within, largest-grows}
+use Rattle.doubles.proofs.MinMax.{min-mono}
+use Rattle.objects.specs.declared.surface.Surface.{Surface}
+use Rattle.objects.specs.declared.sectors.ShadingObject.{ShadingObject}
+use Rattle.objects.specs.declared.window.WindowShadingObject.{WindowShadingObject}
 use Rattle.shading.specs.Extents.{obstacleHeight, overhangHeight, windowOverhangHeight, rightFinWidth, leftFinWidth}
-use Rattle.shading.specs.Factor.{Sun, ofKind, isObstacle, isOverhang, obstacle, overhang, rightFin, leftFin, obstacleExtents, overhangExtents, windowOverhangExtents, rightFinExtents, leftFinExtents, overhangShade, sunlitBetween, sunlitHeight, sunlitWidth, sunlitPart, reductionFactor}
-use Rattle.shading.proofs.Premises.{AcceptedSurface, NoNanExtent, AcceptedNear, Holds}
-use Rattle.shading.proofs.Steps.{side-number, remains-falls, part, part-mono, near-falls, min-mono, high}
-use Rattle.shading.proofs.Members.{Extent, extents-from, extents-into, extents-within, append-within, largest-grows}
+use Rattle.objects.specs.Objects.{ofKind, isObstacle, isOverhang, obstacle, overhang, rightFin, leftFin}
+use Rattle.shading.specs.Factor.{Sun, obstacleExtents, overhangExtents, windowOverhangExtents, rightFinExtents, leftFinExtents, overhangShade, sunlitBetween, sunlitHeight, sunlitWidth, sunlitPart, reductionFactor}
+use Rattle.shading.specs.Comparison.{AcceptedSurface, NoNanExtent, AcceptedNear, Holds}
+use Rattle.shading.proofs.Steps.{side-number, remains-falls, part, part-mono, near-falls, high}
+use Rattle.shading.proofs.Members.{Extent, extents-from, extents-into, extents-within}
 use Rattle.shading.proofs.Bounds.{height-side, width-side, base, near, nears, near-shade-between, near-factor-is, overhang-numbers, overhang-between, obstacle-between, right-between, left-between, height-between, width-between, near-height-between, nears-numbers, factor-is}
 
 -- ---- more objects, more extents

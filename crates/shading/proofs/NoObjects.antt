@@ -9,9 +9,9 @@ use Rattle.doubles.specs.Order.{_≺_, Zero}
 use Rattle.doubles.proofs.Order.{lt-excludes}
 use Rattle.doubles.proofs.Exact.{sub-zero-same, div-self}
 use Rattle.doubles.proofs.Bounds.{positive-nonzero}
-use Rattle.shading.specs.declared.objects.Surface.{Surface}
+use Rattle.objects.specs.declared.surface.Surface.{Surface}
 use Rattle.shading.specs.Factor.{Sun, extents, obstacleExtents, overhangExtents, windowOverhangExtents, rightFinExtents, leftFinExtents, overhangShade, sunlitBetween, sunlitHeight, sunlitWidth, sunlitPart, leastOf, reductionFactor}
-use Rattle.shading.proofs.Premises.{AcceptedSurface}
+use Rattle.shading.specs.Comparison.{AcceptedSurface}
 use Rattle.shading.proofs.Steps.{Side, side-positive, side-nonneg, part, area-positive, area-finite}
 use Rattle.shading.proofs.Bounds.{height-side, width-side}
 

@@ -1,33 +1,27 @@
 -- A refusal depends on the angles, on where the sectors start and end, and on whether there is a reveal at the window, and on no
 -- other object. Stated of any relation of sectors that says no less than that they start and end alike, so that what else is
 -- known of two sectors at the same place is known of the two that are found. Assumes nothing.
-use mathlib.Core.Path.{_≡_, refl, ap, _∙_, subst}
+use mathlib.Core.Path.{_≡_, refl, subst}
 use mathlib.Core.Logic.{_⊎_, inl, inr}
-use mathlib.Core.Bool.{Bool, true, false, cond, _&&_, _||_}
+use mathlib.Core.Bool.{Bool, true, false, cond, _||_}
 use mathlib.Core.List.{List, [], _∷_, List·Memᴰ, List·Memᴰ·head, List·Memᴰ·tail, List·Memᴰ·not-nil, List·Memᴰ·cases-cons}
 use lib.Dec.{T}
-use lib.Ieee.{Float, lt, ne}
+use lib.Ieee.{Float}
 use Rattle.doubles.specs.Arithmetic.{whole}
 use Rattle.doubles.proofs.Order.{or-right}
-use Rattle.sun.specs.Orientation.{orientation180}
-use Rattle.shading.specs.declared.objects.Surface.{Surface}
-use Rattle.shading.specs.declared.objects.ShadingSegment.{ShadingSegment}
-use Rattle.shading.specs.declared.objects.WindowShadingObject.{WindowShadingObject}
-use Rattle.shading.specs.declared.objects.Refusal.{Refusal}
-use Rattle.shading.specs.declared.objects.Refusal.the-variants as refusal
-use Rattle.shading.specs.declared.objects.FactorAnswer.{FactorAnswer}
-use Rattle.shading.specs.declared.objects.FactorAnswer.the-variants.{Factor, Refused}
+use Rattle.objects.specs.declared.surface.Surface.{Surface}
+use Rattle.objects.specs.declared.sectors.ShadingSegment.{ShadingSegment}
+use Rattle.objects.specs.declared.window.WindowShadingObject.{WindowShadingObject}
+use Rattle.objects.specs.declared.answers.Refusal.{Refusal}
+use Rattle.objects.specs.declared.answers.Refusal.the-variants as refusal
+use Rattle.objects.specs.declared.answers.FactorAnswer.{FactorAnswer}
+use Rattle.objects.specs.declared.answers.FactorAnswer.the-variants.{Factor, Refused}
 use Rattle.shading.specs.Extents.{outsideSolarBeam}
-use Rattle.shading.specs.Segments.{Segment, found, gap, turned, noSector, betweenEnds, holdsAzimuth, visit, walkFrom, segmentOf}
-use Rattle.shading.specs.Factor.{Sun, sunOn, ofKind, reveal, hasReveal, counted, reductionFactor, factorIn, shadingFactor}
-use Rattle.shading.proofs.Premises.{Holds, SameBounds, PlaceByPlace, none, and-then}
-
--- two walks that come to sectors so related, or end the same way
-pub data SameWalk (R : ShadingSegment → ShadingSegment → Type 0) : Segment → Segment → Type 0 where
-  both-found : {s t : ShadingSegment} → R s t → SameWalk R (found s) (found t)
-  both-gap : SameWalk R gap gap
-  both-turned : SameWalk R turned turned
-  both-none : SameWalk R noSector noSector
+use Rattle.shading.specs.Segments.{Segment}
+use Rattle.objects.specs.Objects.{ofKind, reveal, counted}
+use Rattle.shading.specs.Factor.{Sun, sunOn, hasReveal, reductionFactor, factorIn, shadingFactor}
+use Rattle.shading.specs.Comparison.{Holds, SameBounds, PlaceByPlace}
+use Rattle.shading.proofs.Walks.{SameWalk, both-found, both-gap, both-turned, both-none, segment-alike}
 
 -- two answers: 1 outside the beam, the factors of two sectors so related, or the same refusal
 pub data SameAnswer (R : ShadingSegment → ShadingSegment → Type 0) (surface : Surface) (sun : Sun) (ws vs : List WindowShadingObject) : FactorAnswer → FactorAnswer → Type 0 where
@@ -37,51 +31,6 @@ pub data SameAnswer (R : ShadingSegment → ShadingSegment → Type 0) (surface 
   both-refused : (r : Refusal) → SameAnswer R surface sun ws vs (Refused r) (Refused r)
 
 module _ (R : ShadingSegment → ShadingSegment → Type 0) (bounds : (s t : ShadingSegment) → R s t → SameBounds s t) where
-  turned-alike : (s t : ShadingSegment) → SameBounds s t → lt (s .end360) (s .start360) ≡ lt (t .end360) (t .start360)
-  turned-alike s t e = ap (λ (x : Float). lt x (s .start360)) (e .ends) ∙ ap (lt (t .end360)) (e .starts)
-
-  holds-alike : (azimuth : Float) (s t : ShadingSegment) → SameBounds s t → holdsAzimuth azimuth s ≡ holdsAzimuth azimuth t
-  unfolding holdsAzimuth betweenEnds
-  holds-alike azimuth s t e =
-      ap (λ (x : Float). lt azimuth (orientation180 x) && lt (orientation180 (s .end360)) azimuth) (e .starts)
-      ∙ ap (λ (x : Float). lt azimuth (orientation180 (t .start360)) && lt (orientation180 x) azimuth) (e .ends)
-
-  gap-alike : (last last′ : Float) (s t : ShadingSegment) → last ≡ last′ → SameBounds s t → ne last (s .start360) ≡ ne last′ (t .start360)
-  gap-alike last last′ s t l e = ap (λ (x : Float). ne x (s .start360)) l ∙ ap (ne last′) (e .starts)
-
-  visit-alike : (azimuth : Float) (s t : ShadingSegment) {x y : Segment} → R s t → SameWalk R x y → SameWalk R (visit azimuth s x) (visit azimuth t y)
-  unfolding visit
-  visit-alike azimuth s t {x} {y} r w = by-tests (turned-alike s t (bounds s t r)) (holds-alike azimuth s t (bounds s t r))
-    where
-      go : (b c : Bool) → SameWalk R (cond b turned (cond c (found s) x)) (cond b turned (cond c (found t) y))
-      go true c = both-turned
-      go false true = both-found r
-      go false false = w
-
-      by-tests : {b b′ c c′ : Bool} → b ≡ b′ → c ≡ c′ → SameWalk R (cond b turned (cond c (found s) x)) (cond b′ turned (cond c′ (found t) y))
-      by-tests {b} {b′} {c} {c′} e f = rw (e, f) (go b′ c′)
-
-  walk-alike : (azimuth last last′ : Float) {ss ts : List ShadingSegment} → last ≡ last′ → PlaceByPlace R ss ts
-      → SameWalk R (walkFrom azimuth last ss) (walkFrom azimuth last′ ts)
-  unfolding walkFrom
-  walk-alike azimuth last last′ l none = both-none
-  walk-alike azimuth last last′ l (and-then {s} {t} {ss} {ts} r p) =
-      by-test (gap-alike last last′ s t l (bounds s t r)) (visit-alike azimuth s t r (walk-alike azimuth (s .end360) (t .end360) (bounds s t r .ends) p))
-    where
-      go : (b : Bool) {x y : Segment} → SameWalk R x y → SameWalk R (cond b gap x) (cond b gap y)
-      go true w = both-gap
-      go false w = w
-
-      by-test : {b b′ : Bool} {x y : Segment} → b ≡ b′ → SameWalk R x y → SameWalk R (cond b gap x) (cond b′ gap y)
-      by-test {b} {b′} e w = rw e (go b′ w)
-
-  -- the walk comes to sectors at the same place, or stops for the same reason
-  pub segment-alike : (azimuth : Float) {ss ts : List ShadingSegment} → PlaceByPlace R ss ts → SameWalk R (segmentOf azimuth ss) (segmentOf azimuth ts)
-  unfolding segmentOf
-  segment-alike azimuth none = both-none
-  segment-alike azimuth (and-then {s} {t} {ss} {ts} r p) =
-      visit-alike azimuth s t r (walk-alike azimuth (s .end360) (t .end360) (bounds s t r .ends) p)
-
   answer-alike : (surface : Surface) (sun : Sun) (ws vs : List WindowShadingObject) → hasReveal ws ≡ hasReveal vs → {x y : Segment} → SameWalk R x y
       → SameAnswer R surface sun ws vs (factorIn surface sun ws x) (factorIn surface sun vs y)
   unfolding factorIn
@@ -102,7 +51,7 @@ module _ (R : ShadingSegment → ShadingSegment → Type 0) (bounds : (s t : Sha
   unfolding shadingFactor
   refusals-alike surface altitude azimuth {ss} {ts} ws vs p e =
       go (outsideSolarBeam (surface .tilt) (surface .orientation) altitude azimuth)
-      (answer-alike surface (sunOn surface altitude azimuth) ws vs e (segment-alike azimuth p))
+      (answer-alike surface (sunOn surface altitude azimuth) ws vs e (segment-alike R bounds azimuth p))
     where
       go : (b : Bool) {x y : FactorAnswer} → SameAnswer R surface (sunOn surface altitude azimuth) ws vs x y
           → SameAnswer R surface (sunOn surface altitude azimuth) ws vs (cond b (Factor (whole 1)) x) (cond b (Factor (whole 1)) y)

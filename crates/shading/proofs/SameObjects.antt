@@ -6,20 +6,22 @@ use mathlib.Core.List.{List, List·Memᴰ, List·Memᴰ·cases-cons}
 use lib.Dec.{T}
 use lib.Ieee.{Float, binary64}
 use lib.Ieee.Fits.{add-fits}
-use Rattle.doubles.specs.Arithmetic.{_⊗_, whole}
+use Rattle.doubles.specs.Arithmetic.{whole}
 use Rattle.doubles.specs.Functions.{minOf2, largestOf, smallestOf}
 use Rattle.doubles.proofs.Folds.{smallest-member}
-use Rattle.shading.specs.declared.objects.Surface.{Surface}
-use Rattle.shading.specs.declared.objects.ShadingObject.{ShadingObject}
-use Rattle.shading.specs.declared.objects.WindowShadingObject.{WindowShadingObject}
-use Rattle.shading.specs.Factor.{Sun, ofKind, obstacle, obstacleExtents, rightFinExtents, leftFinExtents, overhangShade, sunlitBetween, sunlitHeight, sunlitWidth, sunlitPart, reductionFactor}
-use Rattle.shading.proofs.Premises.{AcceptedSurface, NoNanExtent, AcceptedNear, Holds}
-use Rattle.shading.proofs.Steps.{Between, Side, side-positive, side-finite, area-positive, part, nearHeight, near-shape, covered-between, through-between}
+use Rattle.doubles.proofs.Ranges.{Between}
+use Rattle.objects.specs.declared.surface.Surface.{Surface}
+use Rattle.objects.specs.declared.sectors.ShadingObject.{ShadingObject}
+use Rattle.objects.specs.declared.window.WindowShadingObject.{WindowShadingObject}
+use Rattle.objects.specs.Objects.{ofKind, obstacle}
+use Rattle.shading.specs.Factor.{Sun, obstacleExtents, rightFinExtents, leftFinExtents, overhangShade, sunlitBetween, sunlitHeight, sunlitWidth, sunlitPart, reductionFactor}
+use Rattle.shading.specs.Comparison.{AcceptedSurface, NoNanExtent, AcceptedNear, Holds}
+use Rattle.shading.proofs.Steps.{Side, side-positive, side-finite, area-positive, part, nearHeight, near-shape, covered-between, through-between}
 use Rattle.shading.proofs.Members.{Extent, extents-from}
 use Rattle.shading.proofs.Bounds.{height-side, width-side, base, near, nears, near-shade-between, near-factor-is, overhang-between, factor-is}
 use Rattle.shading.proofs.Doubles.{factor-fits}
 use Rattle.shading.proofs.MoreObjects.{factor-more-objects}
-use Rattle.shading.proofs.Signs.{Unsigned, mul-unsigned, div-unsigned, add-unsigned, cut-unsigned, positive-unsigned, level-same}
+use Rattle.doubles.proofs.Signs.{Unsigned, mul-unsigned, div-unsigned, add-unsigned, cut-unsigned, positive-unsigned, level-same}
 
 -- ---- what is left of a side has no minus sign, and no part of the surface has
 

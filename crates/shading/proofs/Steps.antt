@@ -1,97 +1,21 @@
 -- The steps from shade extents to a part of the surface, on plain doubles: each result lies from 0 to its bound, and falls as the
 -- shades grow. Assumes nothing.
 use mathlib.Core.Path.{_≡_, refl, sym, subst}
-use mathlib.Core.Bool.{Bool, true, false, not, cond}
-use lib.Dec.{T}
-use lib.Ieee.{Float, nan, inf, fin, add, sub, mul, neg, lt, le, isNan}
-use lib.Ieee.Scale.{finite}
+use lib.Ieee.{Float, add, mul, lt, le}
 use Rattle.doubles.specs.Arithmetic.{_⊕_, _⊖_, _⊗_, _⊘_, whole, decimal}
-use Rattle.doubles.specs.Functions.{minOf2, maxOf2, floatMin, floatMax}
+use Rattle.doubles.specs.Functions.{minOf2, floatMin, floatMax}
 use Rattle.doubles.specs.Order.{_≼_, _≺_, Number, Finite, Fits}
-use Rattle.doubles.proofs.Order.{le-refl, le-trans, left-number, right-number, lt-le-trans, lt→le, finite-number}
+use Rattle.doubles.proofs.Order.{le-refl, le-trans, right-number, lt-le-trans, lt→le, finite-number}
 use Rattle.doubles.proofs.Monotone.{add-mono, sub-mono, mul-mono, div-mono}
-use Rattle.doubles.proofs.Bounds.{zero-number, sub-number, mul-number, div-number, add-nonneg-number, add-nonneg, mul-nonneg, div-nonneg, div-le-one, sub-le, sub-nonneg, positive-nonzero}
+use Rattle.doubles.proofs.Bounds.{zero-number, mul-number, div-number, add-nonneg-number, add-nonneg, mul-nonneg, div-nonneg, div-le-one, sub-le, sub-nonneg, positive-nonzero}
 use Rattle.shading.specs.Factor.{sunlitBetween}
-use Rattle.doubles.proofs.Folds.{min-left, min-right, max-left, max-right}
-
--- from 0 to a bound
-pub record Between (most x : Float) : Type 0 where
-  pub low : whole 0 ≼ x
-  pub high : x ≼ most
-
--- ---- finite results
-
-finite-test : (x y : Float) → T (le (whole 0) x) → T (le x y) → T (finite y) → T (finite x)
-unfolding le whole
-finite-test nan y h k f = absurd h
-finite-test (inf true) y h k f = absurd h
-finite-test (inf false) nan h k f = absurd k
-finite-test (inf false) (inf t) h k f = f
-finite-test (inf false) (fin t n d) h k f = absurd k
-finite-test (fin s m e) y h k f = tt
-
-pub finite-between : {x y : Float} → Finite y → Between y x → Finite x
-finite-between {x} {y} f b = record { holds = finite-test x y (b .low .holds) (b .high .holds) (f .holds) }
+use Rattle.doubles.proofs.Folds.{min-left, max-left}
+use Rattle.doubles.proofs.MinMax.{min-greatest, max-least, min-mono, max-mono, float-min-is, float-max-is}
+use Rattle.doubles.proofs.Ranges.{Between, finite-between, finite-minus}
 
 pub finite-1000 : Finite (whole 1000)
 unfolding whole
 finite-1000 = record { holds = tt }
-
-pub finite-minus : {x y : Float} → Finite x → Number y → Number (x ⊖ y)
-unfolding sub add neg isNan
-finite-minus {x} {y} f n = record { holds = go x y (f .holds) (n .holds) }
-  where
-    go : (x y : Float) → T (finite x) → T (not (isNan y)) → T (not (isNan (x ⊖ y)))
-    go nan y f n = absurd f
-    go (inf s) y f n = absurd f
-    go (fin s m e) nan f n = absurd n
-    go (fin s m e) (inf t) f n = tt
-    go (fin s m e) (fin t k d) f n = sub-number {x = fin s m e} {y = fin t k d} (record { holds = tt }) (record { holds = tt }) .holds
-
--- ---- the smaller and the larger of two
-
-pub min-greatest : {w x y : Float} → w ≼ x → w ≼ y → w ≼ minOf2 x y
-unfolding minOf2
-min-greatest {w} {x} {y} h k = go (lt x y)
-  where
-    go : (b : Bool) → w ≼ cond b x y
-    go true = h
-    go false = k
-
-pub max-least : {w x y : Float} → x ≼ w → y ≼ w → maxOf2 x y ≼ w
-unfolding maxOf2
-max-least {w} {x} {y} h k = go (lt y x)
-  where
-    go : (b : Bool) → cond b x y ≼ w
-    go true = h
-    go false = k
-
-pub min-mono : {x x′ y y′ : Float} → x ≼ x′ → y ≼ y′ → minOf2 x y ≼ minOf2 x′ y′
-min-mono h k =
-    min-greatest (le-trans (min-left (left-number h) (left-number k)) h) (le-trans (min-right (left-number h) (left-number k)) k)
-
-pub max-mono : {x x′ y y′ : Float} → x ≼ x′ → y ≼ y′ → maxOf2 x y ≼ maxOf2 x′ y′
-max-mono h k =
-    max-least (le-trans h (max-left (right-number h) (right-number k))) (le-trans k (max-right (right-number h) (right-number k)))
-
--- of numbers the float methods are the plain ones
-pub float-min-is : {x y : Float} → Number x → Number y → floatMin x y ≡ minOf2 x y
-unfolding floatMin
-float-min-is {x} {y} m n = go (isNan x) (isNan y) (m .holds) (n .holds)
-  where
-    go : (p q : Bool) → T (not p) → T (not q) → cond p y (cond q x (minOf2 x y)) ≡ minOf2 x y
-    go true q m n = absurd m
-    go false true m n = absurd n
-    go false false m n = refl
-
-pub float-max-is : {x y : Float} → Number x → Number y → floatMax x y ≡ maxOf2 x y
-unfolding floatMax
-float-max-is {x} {y} m n = go (isNan x) (isNan y) (m .holds) (n .holds)
-  where
-    go : (p q : Bool) → T (not p) → T (not q) → cond p y (cond q x (maxOf2 x y)) ≡ maxOf2 x y
-    go true q m n = absurd m
-    go false true m n = absurd n
-    go false false m n = refl
 
 -- ---- a side of the surface, from 0.001 to 1000
 

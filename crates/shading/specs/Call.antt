@@ -1,15 +1,21 @@
 -- The single-step call: surface and angles are tried first (3), then the lists (4), then the step itself (8 to 11).
-use mathlib.Core.Bool.{cond, _&&_}
+use mathlib.Core.Bool.{Bool, cond, _&&_}
 use mathlib.Core.List.{List}
 use Prim.Native.Nat.{ℕ}
-use lib.Ieee.{Float}
-use Rattle.shading.specs.declared.objects.Surface.{Surface}
-use Rattle.shading.specs.declared.objects.Refusal.the-variants as refusal
-use Rattle.shading.specs.declared.objects.FactorAnswer.{FactorAnswer}
-use Rattle.shading.specs.declared.objects.FactorAnswer.the-variants.{Refused}
-use Rattle.shading.specs.Checks.{surfaceFine, sunFine, sectorsFine, windowFine}
+use lib.Ieee.{Float, neg}
+use Rattle.doubles.specs.Arithmetic.{whole}
+use Rattle.objects.specs.declared.surface.Surface.{Surface}
+use Rattle.objects.specs.declared.answers.Refusal.the-variants as refusal
+use Rattle.objects.specs.declared.answers.FactorAnswer.{FactorAnswer}
+use Rattle.objects.specs.declared.answers.FactorAnswer.the-variants.{Refused}
+use Rattle.objects.specs.Checks.{within, surfaceFine, sectorsFine, windowFine}
 use Rattle.shading.specs.Factor.{shadingFactor}
-use Rattle.shading.specs.Records.{sectorsOf, windowObjectsOf}
+use Rattle.objects.specs.Records.{sectorsOf, windowObjectsOf}
+
+-- altitude 0..90, azimuth −360..360
+unfoldable pub sunFine : Float → Float → Bool
+unfolding within whole neg
+sunFine altitude azimuth = within (whole 0) (whole 90) altitude && within (neg (whole 360)) (whole 360) azimuth
 
 unfoldable pub factorCall : Float → Float → Surface → List ℕ → List ℕ → FactorAnswer
 factorCall altitude azimuth surface sectors window =

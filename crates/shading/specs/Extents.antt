@@ -5,23 +5,18 @@ use mathlib.Core.Bool.{Bool, cond, not, _&&_, _||_}
 use lib.Ieee.{Float, neg, lt, le}
 use Rattle.doubles.specs.Arithmetic.{_⊕_, _⊖_, _⊗_, _⊘_, whole}
 use Rattle.doubles.specs.Functions.{floatMax}
-use Rattle.sun.specs.Orientation.{orientation180}
+use Rattle.sun.specs.Orientation.{orientation180, wrappedOnce}
 
 -- from −90 to 90; NaN is not
 unfoldable pub withinRight : Float → Bool
 unfolding whole neg
 withinRight x = le (neg (whole 90)) x && le x (whole 90)
 
--- brought into −180..180 by one turn
-unfoldable pub wrapped : Float → Float
-unfolding whole neg
-wrapped x = cond (lt (whole 180) x) (x ⊖ whole 360) (cond (lt x (neg (whole 180))) (x ⊕ whole 360) x)
-
 -- the sun is behind the surface, beside it or NaN
 unfoldable pub outsideSolarBeam : Float → Float → Float → Float → Bool
-unfolding withinRight wrapped
+unfolding withinRight
 outsideSolarBeam tilt orientation altitude azimuth =
-    not (withinRight (wrapped (orientation180 orientation ⊖ azimuth))) || not (withinRight (tilt ⊖ altitude))
+    not (withinRight (wrappedOnce (orientation180 orientation ⊖ azimuth))) || not (withinRight (tilt ⊖ altitude))
 
 -- the height that an obstacle shades, distant or near
 unfoldable pub obstacleHeight : Float → Float → Float → Float → Float

@@ -1,43 +1,21 @@
 -- The direct shading reduction factor at one step (ISO 52016-1 Annex F), in the Rust's order of operations.
-use mathlib.Core.Bool.{Bool, true, false, cond, _||_}
+use mathlib.Core.Bool.{Bool, false, cond, _||_}
 use mathlib.Core.List.{List, [], _∷_, _++_}
-use Prim.Native.Nat.{ℕ}
-use lib.ListN.{take}
 use lib.Ieee.{Float}
 use Rattle.doubles.specs.Arithmetic.{_⊕_, _⊖_, _⊗_, _⊘_, whole}
 use Rattle.doubles.specs.Functions.{minOf2, maxOf2, floatMin, floatMax, largestOf, toRadians}
 use Rattle.angles.specs.Sine.{cosine, tangent}
-use Rattle.shading.specs.declared.objects.Surface.{Surface}
-use Rattle.shading.specs.declared.objects.ShadingObject.{ShadingObject}
-use Rattle.shading.specs.declared.objects.ShadingObjectType.{ShadingObjectType}
-use Rattle.shading.specs.declared.objects.ShadingObjectType.the-variants as distant
-use Rattle.shading.specs.declared.objects.ShadingSegment.{ShadingSegment}
-use Rattle.shading.specs.declared.objects.WindowShadingObject.{WindowShadingObject}
-use Rattle.shading.specs.declared.objects.WindowShadingType.{WindowShadingType}
-use Rattle.shading.specs.declared.objects.WindowShading.{WindowShading}
-use Rattle.shading.specs.declared.objects.WindowShadingType.the-variants as near
-use Rattle.shading.specs.declared.objects.Refusal.{Refusal}
-use Rattle.shading.specs.declared.objects.Refusal.the-variants as refusal
-use Rattle.shading.specs.declared.objects.FactorAnswer.{FactorAnswer}
-use Rattle.shading.specs.declared.objects.FactorAnswer.the-variants.{Factor, Refused}
+use Rattle.objects.specs.declared.surface.Surface.{Surface}
+use Rattle.objects.specs.declared.sectors.ShadingObject.{ShadingObject}
+use Rattle.objects.specs.declared.sectors.ShadingSegment.{ShadingSegment}
+use Rattle.objects.specs.declared.window.WindowShadingObject.{WindowShadingObject}
+use Rattle.objects.specs.declared.answers.Refusal.the-variants as refusal
+use Rattle.objects.specs.declared.answers.FactorAnswer.{FactorAnswer}
+use Rattle.objects.specs.declared.answers.FactorAnswer.the-variants.{Factor, Refused}
+use Rattle.objects.specs.Objects.{ofKind, obstacle, overhang, rightFin, leftFin, reveal, isObstacle, isOverhang, counted}
 use Rattle.sun.specs.Orientation.{orientation180}
 use Rattle.shading.specs.Extents.{outsideSolarBeam, obstacleHeight, overhangHeight, windowOverhangHeight, rightFinWidth, leftFinWidth}
 use Rattle.shading.specs.Segments.{Segment, found, gap, turned, noSector, segmentOf}
-
--- the specification's number of each refusal
-unfoldable pub numberOf : Refusal → ℕ
-numberOf refusal.Site = 1
-numberOf refusal.Run = 2
-numberOf refusal.Surface = 3
-numberOf refusal.Object = 4
-numberOf refusal.Series = 5
-numberOf refusal.Reading = 6
-numberOf refusal.Results = 7
-numberOf refusal.Gap = 8
-numberOf refusal.Turned = 9
-numberOf refusal.NoSector = 10
-numberOf refusal.Reveal = 11
-numberOf refusal.Line = 12
 
 -- ---- the shade extents of a list of objects
 
@@ -45,28 +23,6 @@ numberOf refusal.Line = 12
 unfoldable pub extents : {Object : Type 0} → (Object → Bool) → (Object → Float) → List Object → List Float
 extents kind extent [] = []
 extents kind extent (o ∷ rest) = let later = extents kind extent rest in cond (kind o) (extent o ∷ later) later
-
--- a distant object is an obstacle, or else an overhang
-unfoldable pub isObstacle : ShadingObject → Bool
-isObstacle o = elim (o .«object_type») [ distant.Obstacle ↦ true | distant.Overhang ↦ false ]
-
-unfoldable pub isOverhang : ShadingObject → Bool
-isOverhang o = elim (o .«object_type») [ distant.Obstacle ↦ false | distant.Overhang ↦ true ]
-
--- one of the five kinds at the window
-pub data Kind : Type 0 where
-  obstacle overhang rightFin leftFin reveal : Kind
-
-unfoldable pub kindIs : Kind → WindowShadingType → Bool
-kindIs obstacle t = elim t [ near.Obstacle ↦ true | near.Overhang ↦ false | near.SideFinRight ↦ false | near.SideFinLeft ↦ false | near.Reveal ↦ false ]
-kindIs overhang t = elim t [ near.Obstacle ↦ false | near.Overhang ↦ true | near.SideFinRight ↦ false | near.SideFinLeft ↦ false | near.Reveal ↦ false ]
-kindIs rightFin t = elim t [ near.Obstacle ↦ false | near.Overhang ↦ false | near.SideFinRight ↦ true | near.SideFinLeft ↦ false | near.Reveal ↦ false ]
-kindIs leftFin t = elim t [ near.Obstacle ↦ false | near.Overhang ↦ false | near.SideFinRight ↦ false | near.SideFinLeft ↦ true | near.Reveal ↦ false ]
-kindIs reveal t = elim t [ near.Obstacle ↦ false | near.Overhang ↦ false | near.SideFinRight ↦ false | near.SideFinLeft ↦ false | near.Reveal ↦ true ]
-
-unfoldable pub ofKind : Kind → WindowShadingObject → Bool
-unfolding kindIs
-ofKind k o = kindIs k (o .«object_type»)
 
 -- The sun as the extents need it: the tangent of its altitude, its azimuth less the surface's orientation from south, not wrapped,
 -- and that difference's cosine and tangent.
@@ -140,11 +96,16 @@ sunlitWidth surface sun window =
 unfoldable pub sunlitPart : Surface → Float → Float → Float
 sunlitPart surface height width = height ⊗ width ⊘ (surface .height ⊗ surface .width)
 
+-- a near obstacle's own shade
+unfoldable pub nearObstacleHeight : Surface → Sun → WindowShadingObject → Float
+unfolding obstacleHeight
+nearObstacleHeight surface sun o = obstacleHeight (surface .«base_height») (o .size) (o .distance) (sun .tanAltitude)
+
 -- the factor that a near obstacle allows: what it lets through counts by its transparency
 unfoldable pub nearFactor : Surface → Sun → Float → Float → WindowShadingObject → Float
-unfolding obstacleHeight floatMin floatMax sunlitPart whole
+unfolding nearObstacleHeight floatMin floatMax sunlitPart whole
 nearFactor surface sun hkOverhang wkSun o =
-    let hkObstacle = floatMin (surface .height) (obstacleHeight (surface .«base_height») (o .size) (o .distance) (sun .tanAltitude)) in
+    let hkObstacle = floatMin (surface .height) (nearObstacleHeight surface sun o) in
     let hkSun =
     floatMax (whole 0) (surface .height ⊖ (hkObstacle ⊕ hkOverhang)) ⊕ floatMin hkObstacle (surface .height ⊖ hkOverhang) ⊗ o .transparency
     in
@@ -170,14 +131,6 @@ unfoldable pub hasReveal : List WindowShadingObject → Bool
 unfolding ofKind
 hasReveal [] = false
 hasReveal (o ∷ rest) = ofKind reveal o || hasReveal rest
-
--- the counted objects of a sector
-unfoldable pub counted : ShadingSegment → List ShadingObject
-counted s = take (s .count) (s .«shading_objects»)
-
--- the counted objects at the window
-unfoldable pub placed : WindowShading → List WindowShadingObject
-placed w = take (w .count) (w .objects)
 
 -- once the walk has come to a sector: a reveal is refused
 unfoldable pub factorIn : Surface → Sun → List WindowShadingObject → Segment → FactorAnswer

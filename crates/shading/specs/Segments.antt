@@ -1,9 +1,9 @@
 -- The walk along the sectors (`get_segment`): at each, gap, then turned, then match. It stops at the match, so that later sectors
 -- go unexamined. Both ends of a match are strict.
-use mathlib.Core.Bool.{Bool, cond, not, _&&_}
+use mathlib.Core.Bool.{Bool, cond, _&&_}
 use mathlib.Core.List.{List, [], _∷_}
 use lib.Ieee.{Float, lt, ne}
-use Rattle.shading.specs.declared.objects.ShadingSegment.{ShadingSegment}
+use Rattle.objects.specs.declared.sectors.ShadingSegment.{ShadingSegment}
 use Rattle.sun.specs.Orientation.{orientation180}
 
 -- what the walk comes to: the sector that has the sun, or why there is none

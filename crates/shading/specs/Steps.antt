@@ -2,14 +2,15 @@
 use mathlib.Core.Bool.{true, cond}
 use lib.Ieee.{Float}
 use Rattle.doubles.specs.Functions.{maxOf2}
-use Rattle.shading.specs.declared.objects.Surface.{Surface}
-use Rattle.shading.specs.declared.objects.ShadingObject.{ShadingObject}
-use Rattle.shading.specs.declared.objects.SunOnSurface.{SunOnSurface}
+use Rattle.objects.specs.declared.surface.Surface.{Surface}
+use Rattle.objects.specs.declared.sectors.ShadingObject.{ShadingObject}
+use Rattle.shading.specs.declared.extents.SunOnSurface.{SunOnSurface}
 use Rattle.shading.specs.declared.distant.DistantShades.{DistantShades}
-use Rattle.shading.specs.declared.objects.WindowShadingObject.{WindowShadingObject}
+use Rattle.objects.specs.declared.window.WindowShadingObject.{WindowShadingObject}
 use Rattle.shading.specs.declared.window.WindowShades.{WindowShades}
 use Rattle.shading.specs.Extents.{obstacleHeight, overhangHeight, windowOverhangHeight, rightFinWidth, leftFinWidth}
-use Rattle.shading.specs.Factor.{Sun, isObstacle, isOverhang, ofKind, overhang, rightFin, leftFin, reveal}
+use Rattle.objects.specs.Objects.{isObstacle, isOverhang, ofKind, overhang, rightFin, leftFin, reveal}
+use Rattle.shading.specs.Factor.{Sun}
 
 -- the sun as the definitions name it
 unfoldable pub sunOf : SunOnSurface → Sun

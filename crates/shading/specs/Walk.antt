@@ -5,7 +5,7 @@ use Rattle.words.specs.Words.{wordCount}
 use Rattle.shading.specs.declared.segments.Place.{Place}
 use Rattle.shading.specs.declared.segments.Place.the-variants as place
 use Rattle.shading.specs.Segments.{Segment, found, gap, turned, noSector}
-use Rattle.shading.specs.Records.{segmentAt}
+use Rattle.objects.specs.Records.{segmentAt}
 
 unfoldable pub segmentFor : List ℕ → Place → Segment
 segmentFor l (place.At i) = found (segmentAt l i)

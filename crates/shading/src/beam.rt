@@ -1,6 +1,8 @@
 // The beam test.
+use sun::orientation::transform_to_180;
+use sun::orientation::wrap_once;
 ghost use mathlib.Core.Path.{_≡_};
-ghost use Rattle.shading.specs.Extents.{withinRight, wrapped, outsideSolarBeam};
+ghost use Rattle.shading.specs.Extents.{withinRight, outsideSolarBeam};
 
 fn within_right(x: f64) -> bool
     ensures { λ r. ⌜ r ≡ withinRight x ⌝ }
@@ -8,24 +10,11 @@ fn within_right(x: f64) -> bool
     (-90.0 <= x) & (x <= 90.0)
 }
 
-// One turn brings an angle into −180..180.
-fn wrap(x: f64) -> f64
-    ensures { λ r. ⌜ r ≡ wrapped x ⌝ }
-{
-    if x > 180.0 {
-        return x - 360.0;
-    }
-    if x < -180.0 {
-        return x + 360.0;
-    }
-    x
-}
-
 // Whether the surface is outside the solar beam. NaN counts as outside.
 pub fn outside_solar_beam(tilt: f64, orientation: f64, altitude: f64, azimuth: f64) -> bool
     ensures { λ r. ⌜ r ≡ outsideSolarBeam tilt orientation altitude azimuth ⌝ }
 {
-    let beside = within_right(wrap(sun::orientation::transform_to_180(orientation) - azimuth));
+    let beside = within_right(wrap_once(transform_to_180(orientation) - azimuth));
     let above = within_right(tilt - altitude);
     !beside | !above
 }

@@ -2,15 +2,15 @@
 ghost use mathlib.Core.Path.{_≡_};
 ghost use Rattle.doubles.specs.Arithmetic.{whole};
 ghost use Rattle.doubles.specs.Functions.{largestOf};
-ghost use Rattle.shading.specs.Factor.{obstacleExtents, overhangExtents, counted};
+ghost use Rattle.objects.specs.Objects.{counted};
+ghost use Rattle.shading.specs.Factor.{obstacleExtents, overhangExtents};
 ghost use Rattle.shading.specs.Steps.{distantStep, sunOf};
 use crate::extents;
-use crate::objects;
-use crate::objects::ShadingObject;
-use crate::objects::ShadingObjectType;
-use crate::objects::ShadingSegment;
-use crate::objects::SunOnSurface;
-use crate::objects::Surface;
+use crate::extents::SunOnSurface;
+use objects::sectors::ShadingObject;
+use objects::sectors::ShadingObjectType;
+use objects::sectors::ShadingSegment;
+use objects::surface::Surface;
 
 // The largest heights shaded so far, by obstacles and by overhangs.
 pub struct DistantShades {

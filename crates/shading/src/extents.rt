@@ -2,6 +2,15 @@
 ghost use mathlib.Core.Path.{_≡_};
 ghost use Rattle.shading.specs.Extents.{obstacleHeight, overhangHeight, windowOverhangHeight, rightFinWidth, leftFinWidth};
 
+// The sun in an hour, as it stands to the surface: the tangent of its altitude, its azimuth less the surface's orientation from
+// south, not wrapped, and that difference's cosine and tangent.
+pub struct SunOnSurface {
+    pub tan_altitude: f64,
+    pub difference: f64,
+    pub cos_difference: f64,
+    pub tan_difference: f64,
+}
+
 // An obstacle, distant or near.
 pub fn obstacle_shading_height(
     base_height: f64,

@@ -2,21 +2,21 @@
 ghost use mathlib.Core.Path.{_≡_};
 ghost use mathlib.Core.Bool.{cond};
 ghost use Rattle.doubles.specs.Functions.{floatMin};
-ghost use Rattle.shading.specs.Factor.{sunlitPart, sunlitBetween, nearFactor, leastOf, extents, ofKind, obstacle, placed, factorIn, sunOn};
+ghost use Rattle.objects.specs.Objects.{ofKind, obstacle, placed};
+ghost use Rattle.shading.specs.Factor.{sunlitPart, sunlitBetween, nearFactor, leastOf, extents, factorIn, sunOn};
 ghost use Rattle.shading.specs.Segments.{found};
 ghost use Rattle.shading.specs.Steps.{sunOf};
 use crate::distant;
 use crate::extents;
-use crate::objects;
-use crate::objects::FactorAnswer;
-use crate::objects::Refusal;
-use crate::objects::ShadingSegment;
-use crate::objects::SunOnSurface;
-use crate::objects::Surface;
-use crate::objects::WindowShading;
-use crate::objects::WindowShadingObject;
-use crate::objects::WindowShadingType;
+use crate::extents::SunOnSurface;
 use crate::window;
+use objects::answers::FactorAnswer;
+use objects::answers::Refusal;
+use objects::sectors::ShadingSegment;
+use objects::surface::Surface;
+use objects::window::WindowShading;
+use objects::window::WindowShadingObject;
+use objects::window::WindowShadingType;
 
 // The part of the surface that a sunlit height and width make.
 fn sunlit_part(surface: Surface, height: f64, width: f64) -> f64
@@ -122,7 +122,8 @@ pub fn factor_in(
     let wk_finl = doubles::min_of_2(surface.width, near.left);
     let wk_sun = between(surface.width, wk_finr, wk_finl);
     let first = sunlit_part(surface, hk_sun, wk_sun);
-    FactorAnswer::Factor(least_factor(first, surface, sun, hk_ovh, wk_sun, window))
+    let factor = least_factor(first, surface, sun, hk_ovh, wk_sun, window);
+    FactorAnswer::Factor(factor)
 }
 
 // The sun as it stands to the surface.

@@ -1,7 +1,7 @@
 // The walk along the sectors.
 ghost use mathlib.Core.Path.{_≡_};
 ghost use Rattle.shading.specs.Segments.{betweenEnds, segmentOf};
-ghost use Rattle.shading.specs.Records.{sectorsOf};
+ghost use Rattle.objects.specs.Records.{sectorsOf};
 ghost use Rattle.shading.specs.Walk.{segmentFor, InList};
 
 // Where the walk ends: at the sector with the sun, or for one of three reasons at none.

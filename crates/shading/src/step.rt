@@ -2,20 +2,21 @@
 ghost use mathlib.Core.Path.{_≡_};
 ghost use Prim.Native.Nat.{_/_, _≤_};
 ghost use Rattle.words.specs.Words.{wordCount};
-ghost use Rattle.shading.specs.Factor.{shadingFactor, placed};
-ghost use Rattle.shading.specs.Checks.{sunFine};
+ghost use Rattle.objects.specs.Objects.{placed};
+ghost use Rattle.shading.specs.Factor.{shadingFactor};
+ghost use Rattle.shading.specs.Call.{sunFine};
 ghost use Rattle.shading.specs.Call.{factorCall};
-ghost use Rattle.shading.specs.Records.{sectorsOf};
+ghost use Rattle.objects.specs.Records.{sectorsOf};
 use crate::beam;
-use crate::checks;
 use crate::factor;
-use crate::objects::FactorAnswer;
-use crate::objects::Refusal;
-use crate::objects::Surface;
-use crate::objects::WindowShading;
-use crate::records;
 use crate::segments;
 use crate::segments::Place;
+use objects::answers::FactorAnswer;
+use objects::answers::Refusal;
+use objects::checks;
+use objects::records;
+use objects::surface::Surface;
+use objects::window::WindowShading;
 
 // The direct shading reduction factor at one step, or why there is none. The sectors are a checked list.
 pub fn direct_shading_reduction_factor(

@@ -2,14 +2,14 @@
 ghost use mathlib.Core.Path.{_≡_};
 ghost use Rattle.doubles.specs.Arithmetic.{whole};
 ghost use Rattle.doubles.specs.Functions.{largestOf};
-ghost use Rattle.shading.specs.Factor.{windowOverhangExtents, rightFinExtents, leftFinExtents, hasReveal, placed};
+ghost use Rattle.objects.specs.Objects.{placed};
+ghost use Rattle.shading.specs.Factor.{windowOverhangExtents, rightFinExtents, leftFinExtents, hasReveal};
 ghost use Rattle.shading.specs.Steps.{sunOf, withOverhang, withRightFin, withLeftFin, windowStep};
 use crate::extents;
-use crate::objects;
-use crate::objects::SunOnSurface;
-use crate::objects::WindowShading;
-use crate::objects::WindowShadingObject;
-use crate::objects::WindowShadingType;
+use crate::extents::SunOnSurface;
+use objects::window::WindowShading;
+use objects::window::WindowShadingObject;
+use objects::window::WindowShadingType;
 
 // The largest extents so far, of overhangs and of right and left fins, and whether there was a reveal.
 pub struct WindowShades {

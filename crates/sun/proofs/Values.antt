@@ -7,7 +7,7 @@ use Rattle.doubles.specs.Arithmetic.{whole, decimal}
 use Rattle.angles.specs.Sine.{cosine}
 use Rattle.sun.specs.Day.{equationOfTime}
 use Rattle.sun.specs.Hour.{timeShift, hourAngle}
-use Rattle.sun.specs.Orientation.{orientation180}
+use Rattle.sun.specs.Orientation.{orientation180, wrappedOnce}
 
 -- day number 359 gives 0
 pub equation-359 : equationOfTime 359 ≡ whole 0
@@ -16,15 +16,15 @@ equation-359 = refl
 
 -- solar time 0.5 gives hour angle 180, 0 gives −172.5, 24.5 gives −180
 pub hour-angle-half : hourAngle (decimal 5 1) ≡ whole 180
-unfolding hourAngle mul sub add lt
+unfolding hourAngle wrappedOnce mul sub add lt
 hour-angle-half = refl
 
 pub hour-angle-0 : hourAngle (whole 0) ≡ neg (decimal 1725 1)
-unfolding hourAngle mul sub add lt neg
+unfolding hourAngle wrappedOnce mul sub add lt neg
 hour-angle-0 = refl
 
 pub hour-angle-24 : hourAngle (decimal 245 1) ≡ neg (whole 180)
-unfolding hourAngle mul sub add lt neg
+unfolding hourAngle wrappedOnce mul sub add lt neg
 hour-angle-24 = refl
 
 -- longitude 0, timezone 0 gives shift 0; longitude −0.5 a positive shift

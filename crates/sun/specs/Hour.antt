@@ -12,6 +12,7 @@ use Rattle.angles.specs.Sine.{sine, cosine, tangent}
 use Rattle.angles.specs.Arcsine.{arcsine}
 use Rattle.angles.specs.Power.{powMinus1253}
 use Rattle.sun.specs.Day.{dayOf}
+use Rattle.sun.specs.Orientation.{wrappedOnce}
 use Rattle.sun.specs.declared.site.Site.{Site}
 use Rattle.sun.specs.declared.hour.Hour.{Hour}
 
@@ -28,12 +29,10 @@ unfoldable pub solarTime : ℕ → Float → Float → Float
 unfolding whole
 solarTime hour equation shift = whole (hour + 1) ⊖ equation ⊘ whole 60 ⊖ shift
 
--- shifted by 360 once, strictly beyond ±180
+-- 15 degrees an hour, shifted by 360 once
 unfoldable pub hourAngle : Float → Float
-unfolding decimal whole neg
-hourAngle time =
-    let w = whole 15 ⊗ (decimal 125 1 ⊖ time) in
-    cond (lt (whole 180) w) (w ⊖ whole 360) (cond (lt w (neg (whole 180))) (w ⊕ whole 360) w)
+unfolding decimal whole
+hourAngle time = wrappedOnce (whole 15 ⊗ (decimal 125 1 ⊖ time))
 
 -- below 0.0001 it becomes 0; NaN stays
 unfoldable pub altitudeBy : SinCos → SinCos → Float → Float

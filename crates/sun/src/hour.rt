@@ -2,6 +2,7 @@
 ghost use mathlib.Core.Path.{_≡_};
 ghost use Rattle.sun.specs.Hour.{sinCosOf, timeShift, solarTime, hourAngle, altitudeBy, solarAltitude, solarZenith, azimuthBranch, azimuthBy, solarAzimuth, airMassBy, airMass, hourBy, hourOf};
 use crate::day::day_of;
+use crate::orientation::wrap_once;
 use crate::site::Site;
 use angles::SinCos;
 
@@ -27,14 +28,7 @@ pub fn init_solar_time(hour_of_day: u32, equation_of_time: f64, time_shift: f64)
 pub fn init_solar_hour_angle(solar_time: f64) -> f64
     ensures { λ r. ⌜ r ≡ hourAngle «solar_time» ⌝ }
 {
-    let angle = 15.0 * (12.5 - solar_time);
-    if angle > 180.0 {
-        return angle - 360.0;
-    }
-    if angle < -180.0 {
-        return angle + 360.0;
-    }
-    angle
+    wrap_once(15.0 * (12.5 - solar_time))
 }
 
 fn altitude_by(latitude: SinCos, declination: SinCos, cos_hour_angle: f64) -> f64

@@ -5,8 +5,8 @@ use Prim.Native.Nat.{_-_, _≤_}
 use native.Mathlib.Omega.{arith}
 use borrow.Author.Needs.{needs}
 use denote.Ref.{now}
-use Rattle.shading.specs.Checks.{firstFine}
-use Rattle.shading.proofs.RecordLists.{one-more}
+use Rattle.objects.specs.Checks.{firstFine}
+use Rattle.objects.proofs.RecordLists.{one-more}
 use lib.ListN.{length}
 use Rattle.listing.specs.Line.{parted}
 use Rattle.listing.proofs.line.spaces_fine.Statement.{statement}

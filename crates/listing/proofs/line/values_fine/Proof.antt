@@ -5,8 +5,8 @@ use Prim.Native.Nat.{_-_, _≤_}
 use native.Mathlib.Omega.{arith}
 use borrow.Author.Needs.{needs}
 use denote.Ref.{now}
-use Rattle.shading.specs.Checks.{firstFine}
-use Rattle.shading.proofs.RecordLists.{one-more}
+use Rattle.objects.specs.Checks.{firstFine}
+use Rattle.objects.proofs.RecordLists.{one-more}
 use Rattle.listing.specs.Line.{valueFine}
 use Rattle.listing.proofs.line.values_fine.Statement.{statement}
 use Rattle.listing.proofs.line.values_fine.Tie as tie

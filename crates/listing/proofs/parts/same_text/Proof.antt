@@ -7,8 +7,8 @@ use borrow.Author.Needs.{needs}
 use borrow.Author.Tests.{eq-eqb, ne-eqb}
 use denote.Ref.{now}
 use lib.ListN.{length}
-use Rattle.shading.specs.Checks.{firstFine}
-use Rattle.shading.proofs.RecordLists.{one-more}
+use Rattle.objects.specs.Checks.{firstFine}
+use Rattle.objects.proofs.RecordLists.{one-more}
 use Rattle.listing.specs.Text.{sameByte, sameText}
 use Rattle.listing.proofs.parts.same_text.Statement.{statement}
 use Rattle.listing.proofs.parts.same_text.Tie as tie

@@ -1,16 +1,13 @@
 use mathlib.Core.Path.{_≡_, refl, sym, _∙_}
 use lib.Ieee.{ofBits}
-use Prim.Native.Nat.{ℕ, _≤_, _<_, _-_}
-use mathlib.Core.List.{List}
-use borrow.Author.Needs.{needs}
+use Prim.Native.Nat.{_≤_, _<_, _-_}
 use native.Mathlib.Omega.{arith}
 use lib.ListN.{length, take, drop}
-use lib.Seq.{length-take-le}
 use Rattle.doubles.specs.Arithmetic.{whole}
 use Rattle.doubles.specs.Functions.{largestOf}
-use Rattle.shading.specs.Factor.{obstacleExtents, overhangExtents, counted}
+use Rattle.objects.specs.Objects.{counted}
+use Rattle.shading.specs.Factor.{obstacleExtents, overhangExtents}
 use Rattle.shading.specs.Steps.{sunOf}
-use Rattle.shading.specs.declared.objects.ShadingObject.{ShadingObject}
 use Rattle.shading.proofs.Loops.{obstacle-end, overhang-end, obstacle-next, overhang-next, counted-first, at-end, unmapped}
 use Rattle.shading.proofs.distant.distant_shades.Statement.{statement}
 use Rattle.shading.proofs.distant.distant_shades.Tie as tie

@@ -1,5 +1,9 @@
+use mathlib.Core.Path.{_≡_, ap}
+use Rattle.objects.specs.declared.answers.FactorAnswer.the-variants.{Factor}
+use Rattle.objects.specs.Objects.{counted, placed}
 use Rattle.shading.specs.Factor.{factorIn, reductionFactor, overhangShade, sunlitHeight, sunlitWidth}
-use Rattle.shading.proofs.Loops.{largest-append}
+use Rattle.shading.specs.Steps.{sunOf}
+use Rattle.doubles.proofs.Lists.{largest-append}
 use Rattle.shading.proofs.factor.factor_in.Statement.{statement}
 use Rattle.shading.proofs.factor.factor_in.Tie as tie
 
@@ -37,14 +41,19 @@ sunlit-part-requires c κs = tt
 least-factor-requires : tie.Need-least-factor-requires
 least-factor-requires c κs = tt
 
-returns-2 : tie.Need-returns-2
-unfolding factorIn reductionFactor overhangShade sunlitHeight sunlitWidth
-returns-2 c =
+-- the factor, part by part
+reduced : (c : tie.After-least-factor) → c .least-factor .result ≡ reductionFactor (c .before .before .before .before .before .before .before .before .before .before .before .args .surface) (sunOf (c .before .before .before .before .before .before .before .before .before .before .before .args .sun)) (counted (c .before .before .before .before .before .before .before .before .before .before .before .args .segment)) (placed (c .before .before .before .before .before .before .before .before .before .before .before .args .window))
+unfolding reductionFactor overhangShade sunlitHeight sunlitWidth
+reduced c =
     let w = c .before .before .before .before .before .before .before .before .before .window-shades .ensures in
     let d = c .before .before .before .before .before .before .before .before .before .before .distant-shades .ensures in
     rw (
-      ← (w .3),
-      c .before .before .before .before .before .before .before .before .if1 .left,
+      largest-append,
+      ← (d .0),
+      ← (d .1),
+      ← (w .0),
+      ← (w .1),
+      ← (w .2),
       c .least-factor .ensures,
       c .before .sunlit-part .ensures,
       c .before .before .between2 .ensures,
@@ -53,13 +62,11 @@ returns-2 c =
       c .before .before .before .before .before .between .ensures,
       c .before .before .before .before .before .before .min-of-22 .ensures,
       c .before .before .before .before .before .before .before .min-of-2 .ensures,
-      w .0,
-      w .1,
-      w .2,
-      d .0,
-      d .1,
-      largest-append,
     )
+
+returns-2 : tie.Need-returns-2
+unfolding factorIn
+returns-2 c = rw (← (c .before .before .before .before .before .before .before .before .before .window-shades .ensures .3), c .before .before .before .before .before .before .before .before .if1 .left) (ap Factor (reduced c))
 
 pub factor-in-spec : {M : Type 1} → statement M
 factor-in-spec =

@@ -2,7 +2,8 @@ use mathlib.Core.Path.{_≡_, refl, sym, _∙_}
 use Prim.Native.Nat.{_≤_, _-_}
 use native.Mathlib.Omega.{arith}
 use lib.ListN.{length, take, drop}
-use Rattle.shading.specs.Factor.{leastOf, extents, ofKind, obstacle, nearFactor, placed}
+use Rattle.objects.specs.Objects.{ofKind, obstacle, placed}
+use Rattle.shading.specs.Factor.{leastOf, extents, nearFactor}
 use Rattle.shading.specs.Steps.{sunOf}
 use Rattle.shading.proofs.Loops.{counted-first, at-end, unmapped, near-next, near-end}
 use Rattle.shading.proofs.factor.least_factor.Statement.{statement}

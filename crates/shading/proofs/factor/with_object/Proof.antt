@@ -1,4 +1,4 @@
-use Rattle.shading.specs.Factor.{ofKind}
+use Rattle.objects.specs.Objects.{ofKind}
 use borrow.Author.Needs.{needs}
 use Rattle.shading.proofs.factor.with_object.Statement.{statement}
 use Rattle.shading.proofs.factor.with_object.Tie as tie

@@ -1,15 +1,12 @@
 use mathlib.Core.Path.{_≡_, sym, ap, _∙_}
-use Prim.Native.Nat.{ℕ, _+_, _-_, _*_, _/_, _≤_}
+use Prim.Native.Nat.{ℕ, _-_, _*_, _/_, _≤_}
 use native.Mathlib.Omega.{arith}
-use mathlib.Core.Bool.{not, _&&_, cond}
-use lib.Dec.{eqb}
-use lib.Ieee.{lt, ne}
 use lib.ListN.{length}
 use Rattle.words.specs.Words.{wordCount}
-use Rattle.shading.specs.Records.{segmentAt, sectorsOf}
-use Rattle.shading.specs.Segments.{found, gap, turned, betweenEnds, segmentOf}
+use Rattle.objects.specs.Records.{sectorsOf}
+use Rattle.shading.specs.Segments.{segmentOf}
 use Rattle.shading.specs.Walk.{segmentFor}
-use Rattle.shading.proofs.Walks.{left, left-first, left-none, left-next}
+use Rattle.shading.proofs.Walks.{left, left-first, left-none, AtSector, at-sector}
 use Rattle.shading.proofs.segments.get_segment.Statement.{statement}
 use Rattle.shading.proofs.segments.get_segment.Tie as tie
 
@@ -46,27 +43,23 @@ double-at-requires-2 c κs = tt
 
 -- the walk at one sector, by the two doubles that were read
 step : (d : tie.After-double-at2 Inv-loop μ-loop)
-    → segmentOf (d .before .before .before .before .before .before .args .azimuth) (sectorsOf (d .before .before .before .before .before .before .args .sectors .now))
-    ≡ cond (not (eqb (d .before .before .before .loop .i) 0) && ne (d .before .before .before .loop .last) (d .before .double-at .result)) gap
-    (cond (lt (d .double-at2 .result) (d .before .double-at .result)) turned
-    (cond (betweenEnds (d .before .before .before .before .before .before .args .azimuth) (d .before .double-at .result) (d .double-at2 .result))
-    (found (segmentAt (d .before .before .before .before .before .before .args .sectors .now) (d .before .before .before .loop .i)))
-    (left (d .before .before .before .before .before .before .args .azimuth) (d .before .before .before .before .before .before .args .sectors .now)
-    (d .before .before .before .before .word-count .result / 27) (d .double-at2 .result) (d .before .before .before .loop .i + 1))))
-step d =
-    let q = d .before .before .before in
-    let a = q .before .before .before .args in
-    let n = q .before .word-count .result / 27 in
-    rw (d .double-at2 .ensures, d .before .double-at .ensures)
-    (sym (q .loop .inv .2) ∙ left-next (a .azimuth) (q .loop .last) (a .sectors .now) n (q .loop .i) (omega arith))
+    → AtSector (segmentOf (d .before .before .before .before .before .before .args .azimuth) (sectorsOf (d .before .before .before .before .before .before .args .sectors .now)))
+    (d .before .before .before .before .before .before .args .azimuth)
+    (d .before .before .before .loop .last)
+    (d .before .before .before .before .before .before .args .sectors .now)
+    (d .before .before .before .before .word-count .result / 27)
+    (d .before .before .before .loop .i)
+    (d .before .double-at .result)
+    (d .double-at2 .result)
+step d = at-sector (d .before .before .before .loop .inv .2) (omega arith) (d .before .double-at .ensures) (d .double-at2 .ensures)
 
 returns : tie.Need-returns Inv-loop μ-loop
 unfolding segmentFor
-returns c = (sym (rw (c .if1 .taken) at (step (c .before))), tt)
+returns c = (step (c .before) .at-gap (c .if1 .taken), tt)
 
 returns-2 : tie.Need-returns-2 Inv-loop μ-loop
 unfolding segmentFor
-returns-2 c = (sym (rw (c .before .if1 .left, c .if2 .taken) at (step (c .before .before))), tt)
+returns-2 c = (step (c .before .before) .at-turned (c .before .if1 .left) (c .if2 .taken), tt)
 
 between-ends-requires : tie.Need-between-ends-requires Inv-loop μ-loop
 between-ends-requires c κs = tt
@@ -74,7 +67,7 @@ between-ends-requires c κs = tt
 returns-3 : tie.Need-returns-3 Inv-loop μ-loop
 unfolding segmentFor
 returns-3 c = (
-  sym (rw (c .before .before .before .if1 .left, c .before .before .if2 .left, ← (c .before .between-ends .ensures), c .if3 .taken) at (step (c .before .before .before .before))),
+  step (c .before .before .before .before) .at-match (c .before .before .before .if1 .left) (c .before .before .if2 .left) (sym (c .before .between-ends .ensures) ∙ c .if3 .taken),
   omega (arith, c .before .before .before .before .before .before .before .before .word-count .ensures),
 )
 
@@ -88,7 +81,7 @@ loop-again : tie.Need-loop-again Inv-loop μ-loop
 loop-again c = (
   omega arith,
   omega arith,
-  sym (rw (c .before .before .before .if1 .left, c .before .before .if2 .left, ← (c .before .between-ends .ensures), c .if3 .left) at (step (c .before .before .before .before))),
+  step (c .before .before .before .before) .at-next (c .before .before .before .if1 .left) (c .before .before .if2 .left) (sym (c .before .between-ends .ensures) ∙ c .if3 .left),
 )
 
 returns-4 : tie.Need-returns-4 Inv-loop μ-loop

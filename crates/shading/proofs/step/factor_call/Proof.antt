@@ -1,12 +1,12 @@
-use mathlib.Core.Path.{_≡_, sym, ap, _∙_, subst}
+use mathlib.Core.Path.{_≡_, sym, subst}
 use mathlib.Core.Bool.{true, _&&_}
 use lib.Dec.{T}
 use lib.Ieee.Fits.{and-l, and-r}
 use Rattle.shading.specs.Call.{factorCall}
-use Rattle.shading.specs.Checks.{sectorsFine, windowFine}
-use Rattle.shading.specs.Factor.{placed}
-use Rattle.shading.proofs.AcceptedSectors.{sector-count}
-use Rattle.shading.proofs.AcceptedWindow.{window-places}
+use Rattle.objects.specs.Checks.{sectorsFine, windowFine}
+use Rattle.objects.specs.Objects.{placed}
+use Rattle.objects.proofs.AcceptedSectors.{sector-count}
+use Rattle.objects.proofs.AcceptedWindow.{window-places}
 use borrow.Author.Needs.{needs}
 use Rattle.shading.proofs.step.factor_call.Statement.{statement}
 use Rattle.shading.proofs.step.factor_call.Tie as tie

@@ -1,6 +1,6 @@
 use mathlib.Core.Path.{refl}
 use lib.Ieee.{ofBits, neg}
-use Rattle.shading.specs.Checks.{sunFine}
+use Rattle.shading.specs.Call.{sunFine}
 use Rattle.shading.proofs.step.sun_fine.Statement.{statement}
 use Rattle.shading.proofs.step.sun_fine.Tie as tie
 

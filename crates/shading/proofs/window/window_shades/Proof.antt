@@ -6,7 +6,8 @@ use lib.ListN.{length, take, drop}
 use lib.Ieee.{ofBits}
 use Rattle.doubles.specs.Arithmetic.{whole}
 use Rattle.doubles.specs.Functions.{largestOf}
-use Rattle.shading.specs.Factor.{windowOverhangExtents, rightFinExtents, leftFinExtents, hasReveal, placed}
+use Rattle.objects.specs.Objects.{placed}
+use Rattle.shading.specs.Factor.{windowOverhangExtents, rightFinExtents, leftFinExtents, hasReveal}
 use Rattle.shading.specs.Steps.{sunOf}
 use Rattle.shading.proofs.Loops.{counted-first, at-end, unmapped, window-overhang-next, right-next, left-next, reveal-next, window-overhang-end, right-end, left-end, reveal-end}
 use Rattle.shading.proofs.window.window_shades.Statement.{statement}

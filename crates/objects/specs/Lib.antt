@@ -1,0 +1,4 @@
+pub mod Objects
+pub mod Records
+pub mod Checks
+pub mod Refusals

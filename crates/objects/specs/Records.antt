@@ -1,0 +1,75 @@
+-- The records of the sector list and of the window list, in words of 8 bytes. What is past the end of a list reads as 0.
+use mathlib.Core.Bool.{cond}
+use mathlib.Core.List.{List, [], _∷_}
+use Prim.Native.Nat.{ℕ, zero, suc, _+_, _*_, _/_}
+use lib.Dec.{eqb}
+use Rattle.words.specs.Words.{wordCount, wordAt, doubleAt}
+use Rattle.objects.specs.declared.sectors.ShadingObject.{ShadingObject}
+use Rattle.objects.specs.declared.sectors.ShadingObjectType.{ShadingObjectType}
+use Rattle.objects.specs.declared.sectors.ShadingObjectType.the-variants as distant
+use Rattle.objects.specs.declared.sectors.ShadingSegment.{ShadingSegment}
+use Rattle.objects.specs.declared.window.WindowShadingObject.{WindowShadingObject}
+use Rattle.objects.specs.declared.window.WindowShading.{WindowShading}
+use Rattle.objects.specs.declared.window.WindowShadingType.{WindowShadingType}
+use Rattle.objects.specs.declared.window.WindowShadingType.the-variants as near
+
+-- n records from the i-th on
+unfoldable pub recordsFrom : {Record : Type 0} → (ℕ → Record) → ℕ → ℕ → List Record
+recordsFrom place i zero = []
+recordsFrom place i (suc n) = place i ∷ recordsFrom place (suc i) n
+
+-- ---- the sector list
+
+-- 0 obstacle, 1 overhang
+unfoldable pub distantKind : ℕ → ShadingObjectType
+distantKind kind = cond (eqb kind 0) distant.Obstacle distant.Overhang
+
+-- the triple from word k on: kind, height, distance
+unfoldable pub objectAt : List ℕ → ℕ → ShadingObject
+objectAt l k = record { «object_type» = distantKind (wordAt l k); height = doubleAt l (k + 1); distance = doubleAt l (k + 2) }
+
+-- n triples, the first at word k
+unfoldable pub objectsFrom : List ℕ → ℕ → ℕ → List ShadingObject
+objectsFrom l k n = recordsFrom (λ (j : ℕ). objectAt l (k + 3 * j)) 0 n
+
+-- the i-th sector, of 27 words: start, end, count, then eight triples
+unfoldable pub segmentAt : List ℕ → ℕ → ShadingSegment
+segmentAt l i =
+    let k = 27 * i in
+    record {
+      start360 = doubleAt l k;
+      end360 = doubleAt l (k + 1);
+      count = wordAt l (k + 2);
+      «shading_objects» = objectsFrom l (k + 3) 8;
+    }
+
+-- all whole records of a list, in order
+unfoldable pub sectorsOf : List ℕ → List ShadingSegment
+sectorsOf l = recordsFrom (segmentAt l) 0 (wordCount l / 27)
+
+-- ---- the window list
+
+-- 0 obstacle, 1 overhang, 2 right fin, 3 left fin, 4 reveal
+unfoldable pub windowKind : ℕ → WindowShadingType
+windowKind kind =
+    cond (eqb kind 0) near.Obstacle
+    (cond (eqb kind 1) near.Overhang (cond (eqb kind 2) near.SideFinRight (cond (eqb kind 3) near.SideFinLeft near.Reveal)))
+
+-- the i-th object, of four words: kind, size, distance, and an obstacle's transparency
+unfoldable pub windowObjectAt : List ℕ → ℕ → WindowShadingObject
+windowObjectAt l i =
+    let k = 4 * i in
+    record {
+      «object_type» = windowKind (wordAt l k);
+      size = doubleAt l (k + 1);
+      distance = doubleAt l (k + 2);
+      transparency = doubleAt l (k + 3);
+    }
+
+-- all whole records of a list, in order
+unfoldable pub windowObjectsOf : List ℕ → List WindowShadingObject
+windowObjectsOf l = recordsFrom (windowObjectAt l) 0 (wordCount l / 4)
+
+-- the same in sixteen places, of which the first `count` are the list's
+unfoldable pub windowOf : List ℕ → WindowShading
+windowOf l = record { count = wordCount l / 4; objects = recordsFrom (windowObjectAt l) 0 16 }
