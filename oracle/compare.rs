@@ -13,6 +13,7 @@ mod numbers;
 mod probes;
 mod random;
 mod self_test;
+mod shading;
 mod stand_ins;
 #[macro_use]
 mod support;
@@ -24,12 +25,13 @@ use comparison::{Outcome, Settings};
 use std::process::ExitCode;
 
 /// The sections, in the order in which they are run. A new one is added here.
-const SECTIONS: [fn(&Settings) -> Outcome; 5] = [
+const SECTIONS: [fn(&Settings) -> Outcome; 6] = [
     |settings| published::sanity::section(settings),
     |settings| numbers::section(settings, &probes::LIBRARY),
     |settings| words::section(settings, &probes::LIBRARY),
     |settings| published::sun::section(settings, &probes::LIBRARY),
     |settings| published::irradiance::section(settings, &probes::LIBRARY),
+    |settings| shading::section(settings, &probes::LIBRARY),
 ];
 
 struct Arguments {

@@ -1,4 +1,4 @@
-//! A page of memory between two pages that may not be touched.
+//! Pages of memory between two pages that may not be touched.
 //!
 //! A buffer is placed right behind the first or right before the second of them, so that an access
 //! outside it on that side stops the program; the handler below then says where that was.
@@ -27,50 +27,61 @@ const SIGSEGV: i32 = 11;
 
 #[derive(Clone, Copy, Debug, PartialEq)]
 pub enum Side {
-    /// The buffer begins where the page begins.
+    /// The buffer begins where the pages begin.
     Front,
-    /// The buffer ends where the page ends.
+    /// The buffer ends where the pages end.
     Back,
 }
 
 pub struct Guarded {
-    page: *mut u8,
+    start: *mut u8,
+    len: usize,
 }
 
 impl Guarded {
-    pub fn new() -> Self {
+    /// As many pages as hold that many bytes, and one at least.
+    pub fn holding(most: usize) -> Self {
+        let len = most.max(1).div_ceil(PAGE) * PAGE;
         unsafe {
             signal(SIGSEGV, out_of_bounds);
             signal(SIGBUS, out_of_bounds);
             let flags = MAP_PRIVATE_ANONYMOUS;
-            let all = mmap(std::ptr::null_mut(), 3 * PAGE, PROT_NONE, flags, -1, 0);
-            assert!(all as isize != -1, "no memory for the guarded page");
-            let page = all.add(PAGE);
-            assert_eq!(mprotect(page, PAGE, PROT_READ_WRITE), 0);
-            Guarded { page }
+            let all = mmap(
+                std::ptr::null_mut(),
+                len + 2 * PAGE,
+                PROT_NONE,
+                flags,
+                -1,
+                0,
+            );
+            assert!(all as isize != -1, "no memory for the guarded pages");
+            let start = all.add(PAGE);
+            assert_eq!(mprotect(start, len, PROT_READ_WRITE), 0);
+            Guarded { start, len }
         }
     }
 
-    /// The whole page, to be looked at between calls.
+    /// The whole of the pages, to be looked at between calls.
     pub fn bytes(&mut self) -> &mut [u8] {
-        unsafe { std::slice::from_raw_parts_mut(self.page, PAGE) }
+        unsafe { std::slice::from_raw_parts_mut(self.start, self.len) }
     }
 
-    /// Where in the page a buffer of that length begins.
-    pub fn offset(side: Side, len: usize) -> usize {
+    /// Where in the pages a buffer of that length begins.
+    pub fn offset(&self, side: Side, len: usize) -> usize {
         match side {
             Side::Front => 0,
-            Side::Back => PAGE - len,
+            Side::Back => self.len - len,
         }
     }
 
-    /// The buffer's address, for a call that is noted in case it goes outside.
-    pub fn lend(&mut self, name: &'static str, side: Side, len: usize, place: usize) -> *mut u8 {
+    /// The buffer's address, for a call that is noted in case it goes outside, with one number more
+    /// that tells it from others.
+    pub fn lend(&mut self, name: &'static str, side: Side, len: usize, more: usize) -> *mut u8 {
         CALL.store(name.as_ptr() as *mut u8, Relaxed);
         CALL_LEN.store(name.len(), Relaxed);
         BUFFER_LEN.store(len, Relaxed);
-        BUFFER_PLACE.store(place, Relaxed);
-        unsafe { self.page.add(Self::offset(side, len)) }
+        MORE.store(more, Relaxed);
+        unsafe { self.start.add(self.offset(side, len)) }
     }
 }
 
@@ -78,7 +89,7 @@ impl Guarded {
 static CALL: AtomicPtr<u8> = AtomicPtr::new(std::ptr::null_mut());
 static CALL_LEN: AtomicUsize = AtomicUsize::new(0);
 static BUFFER_LEN: AtomicUsize = AtomicUsize::new(0);
-static BUFFER_PLACE: AtomicUsize = AtomicUsize::new(0);
+static MORE: AtomicUsize = AtomicUsize::new(0);
 
 extern "C" fn out_of_bounds(_: i32) {
     let call = CALL.load(Relaxed);
@@ -89,10 +100,11 @@ extern "C" fn out_of_bounds(_: i32) {
             std::str::from_utf8_unchecked(letters)
         },
     };
-    let (len, place) = (BUFFER_LEN.load(Relaxed), BUFFER_PLACE.load(Relaxed));
+    let (len, more) = (BUFFER_LEN.load(Relaxed), MORE.load(Relaxed));
     let _ = writeln!(
         std::io::stderr(),
-        "an access outside the buffer: {name}, length {len}, place {place}"
+        "an access outside the buffer: {name}, length {len}, then {more} (the place, or the other \
+         buffer's length)"
     );
     unsafe { _exit(OUT_OF_BOUNDS) }
 }

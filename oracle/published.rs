@@ -19,6 +19,8 @@ pub mod interface;
 pub mod irradiance;
 #[path = "published/sanity.rs"]
 pub mod sanity;
+#[path = "published/shading.rs"]
+pub mod shading;
 #[path = "published/sun.rs"]
 pub mod sun;
 #[path = "published/wrong.rs"]

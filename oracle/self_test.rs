@@ -8,7 +8,7 @@ use crate::probes::{Digits, Probes, SinCos};
 use crate::published::wrong::{wrong_sides, Wrong};
 use crate::published::{interface, irradiance, sun, wrong};
 use crate::random::{power_of_two, ulps_from};
-use crate::{numbers, stand_ins, words};
+use crate::{numbers, shading, stand_ins, words};
 
 // --- The right functions, behind the C interface ---
 
@@ -107,6 +107,7 @@ const RIGHT: Probes = Probes {
     init_f2_horizontal_brightness_coefficient: interface::init_f2_horizontal_brightness_coefficient,
     hour: interface::hour,
     year: interface::year,
+    factor: interface::factor,
 };
 
 // --- The wrong ones: each differs in a single way, most of them in few cases ---
@@ -294,17 +295,30 @@ fn numbers_and_words() -> Vec<Wrong> {
     }
 }
 
+type Section = Box<dyn Fn(&Settings, &Probes) -> Outcome>;
+
 /// Sections, and the functions that they have to find.
-fn sections() -> [(fn(&Settings, &Probes) -> Outcome, Vec<Wrong>); 3] {
+fn sections() -> Vec<(Section, Vec<Wrong>)> {
     let lowest = |settings: &Settings, probes: &Probes| {
         numbers::section(settings, probes)?;
         words::section(settings, probes)
     };
-    [
-        (lowest, numbers_and_words()),
-        (sun::section, wrong::sun(RIGHT)),
-        (irradiance::section, wrong::irradiance(RIGHT)),
-    ]
+    let mut sections: Vec<(Section, Vec<Wrong>)> = vec![
+        (Box::new(lowest), numbers_and_words()),
+        (Box::new(sun::section), wrong::sun(RIGHT)),
+        (Box::new(irradiance::section), wrong::irradiance(RIGHT)),
+        (
+            Box::new(shading::compared_alone),
+            shading::wrong::factor(RIGHT),
+        ),
+    ];
+    for law in shading::laws::LAWS {
+        sections.push((
+            Box::new(move |settings, probes| shading::law_alone(settings, probes, law)),
+            shading::wrong::lawless(RIGHT, law),
+        ));
+    }
+    sections
 }
 
 pub fn run(seed: u64) -> Outcome {
@@ -358,6 +372,9 @@ pub fn run(seed: u64) -> Outcome {
         }
     }
 
+    shading::compared_alone(&settings, &shading::wrong::without_flaw(RIGHT))
+        .map_err(|words| format!("self-test, the plain factor: {words}"))?;
+
     // The guard pages: the same program, made to read one byte outside a buffer, must be stopped.
     for side in ["before", "after"] {
         let program = std::env::current_exe().map_err(|error| error.to_string())?;
@@ -377,7 +394,7 @@ pub fn run(seed: u64) -> Outcome {
 
 /// Reads one byte outside a buffer of 8, which must stop the program.
 pub fn read_outside(side: &str) -> Outcome {
-    let mut guarded = Guarded::new();
+    let mut guarded = Guarded::holding(8);
     let byte = match side {
         "before" => guarded
             .lend("a read before", Side::Front, 8, 0)

@@ -269,12 +269,12 @@ fn compare(
     let mut filling = settings.random("page");
     let mut expected = vec![0u8; PAGE];
     expected.fill_with(|| filling.word() as u8);
-    let mut guarded = Guarded::new();
+    let mut guarded = Guarded::holding(PAGE);
     guarded.bytes().copy_from_slice(&expected);
     let mut tally = Tally::default();
     for case in cases {
         let len = case.bytes.len();
-        let offset = Guarded::offset(case.side, len);
+        let offset = guarded.offset(case.side, len);
         let range = offset..offset + len;
         expected[range.clone()].copy_from_slice(&case.bytes);
         guarded.bytes()[range.clone()].copy_from_slice(&case.bytes);

@@ -2,7 +2,8 @@
 //! comparison are called alike.
 
 use super::conditions::{year_results, OneHour, Series, Site};
-use crate::probes::{ProbeHour, YEAR};
+use super::shading::Judge;
+use crate::probes::{ProbeFactor, ProbeHour, YEAR};
 
 macro_rules! behind_c {
     ($($name:ident($($argument:ident: $type:ty),*))*) => {
@@ -155,4 +156,31 @@ pub unsafe extern "C" fn year(
         place.copy_from_slice(&value.to_le_bytes());
     }
     YEAR as u64
+}
+
+pub unsafe extern "C" fn factor(
+    altitude: f64,
+    azimuth: f64,
+    tilt: f64,
+    orientation: f64,
+    base_height: f64,
+    height: f64,
+    width: f64,
+    sectors: *const u8,
+    sectors_len: usize,
+    window: *const u8,
+    window_len: usize,
+) -> ProbeFactor {
+    let numbers = [
+        altitude,
+        azimuth,
+        tilt,
+        orientation,
+        base_height,
+        height,
+        width,
+    ];
+    let sectors = std::slice::from_raw_parts(sectors, sectors_len);
+    let window = std::slice::from_raw_parts(window, window_len);
+    Judge::new().answer(&numbers, sectors, window).answer
 }

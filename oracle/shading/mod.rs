@@ -1,0 +1,266 @@
+//! The direct shading factor of one step: the specification's checks and the published Rust against
+//! Rattle, number and factor, bit for bit; and the factor's laws on the same calls.
+
+mod call;
+mod edges;
+pub mod laws;
+mod scenes;
+pub mod wrong;
+
+use crate::comparison::{same, shown, Outcome, Settings, Tally};
+use crate::guarded::{Guarded, Side};
+use crate::probes::{FactorCall, ProbeFactor, Probes};
+use crate::published::shading::{Judge, Judged, Numbers, MOST_SECTORS, SECTOR_WORDS};
+use crate::random::Random;
+use call::{Call, Scene, COUNT, TRIPLES};
+use laws::{try_laws, Law, Pairs, LAWS};
+
+/// For each case of other functions, this many calls.
+const TIMES: usize = 5;
+
+/// The function with the lists between guard pages.
+struct Lent {
+    function: FactorCall,
+    sectors: Guarded,
+    window: Guarded,
+    turn: usize,
+}
+
+impl Lent {
+    fn new(function: FactorCall) -> Self {
+        let most = 8 * SECTOR_WORDS * (MOST_SECTORS + 4);
+        Lent {
+            function,
+            sectors: Guarded::holding(most),
+            window: Guarded::holding(most),
+            turn: 0,
+        }
+    }
+
+    /// Each list against the front or the back of its pages, and looked at afterwards.
+    fn call(&mut self, call: &Call) -> Result<ProbeFactor, String> {
+        self.turn += 1;
+        let side = |bit: usize| match self.turn >> bit & 1 {
+            0 => Side::Front,
+            _ => Side::Back,
+        };
+        let lists = [
+            (&mut self.sectors, &call.sectors, &call.window, side(0)),
+            (&mut self.window, &call.window, &call.sectors, side(1)),
+        ];
+        let [sectors, window] = lists.map(|(pages, list, other, side)| {
+            let offset = pages.offset(side, list.len());
+            pages.bytes()[offset..offset + list.len()].copy_from_slice(list);
+            pages.lend("factor", side, list.len(), other.len())
+        });
+        let answer = call_with(
+            self.function,
+            &call.numbers,
+            (sectors, call.sectors.len()),
+            (window, call.window.len()),
+        );
+        for (start, list) in [(sectors, &call.sectors), (window, &call.window)] {
+            let left = unsafe { std::slice::from_raw_parts(start, list.len()) };
+            if left != &list[..] {
+                return Err(format!("factor changes a list\n{}", call.shown()));
+            }
+        }
+        Ok(answer)
+    }
+}
+
+fn call_with(
+    function: FactorCall,
+    numbers: &Numbers,
+    (sectors, sectors_len): (*const u8, usize),
+    (window, window_len): (*const u8, usize),
+) -> ProbeFactor {
+    let &[altitude, azimuth, tilt, orientation, base_height, height, width] = numbers;
+    unsafe {
+        function(
+            altitude,
+            azimuth,
+            tilt,
+            orientation,
+            base_height,
+            height,
+            width,
+            sectors,
+            sectors_len,
+            window,
+            window_len,
+        )
+    }
+}
+
+/// How many calls came out in each way.
+#[derive(Default)]
+struct Met {
+    numbers: [u64; 13],
+    outside: u64,
+    one: u64,
+    zero: u64,
+    between: u64,
+    nan: u64,
+}
+
+impl Met {
+    fn note(&mut self, judged: &Judged) {
+        let ProbeFactor { number, factor } = judged.answer;
+        self.numbers[number as usize] += 1;
+        if number == 0 {
+            match factor {
+                _ if !judged.inside => self.outside += 1,
+                f if f.is_nan() => self.nan += 1,
+                1.0 => self.one += 1,
+                0.0 => self.zero += 1,
+                _ => self.between += 1,
+            }
+        }
+    }
+
+    fn report(&self, settings: &Settings) -> Outcome {
+        let number = |number: usize, word: &str| {
+            let words = format!("number {number}{word}");
+            (words, self.numbers[number])
+        };
+        let counts = [
+            number(0, ", accepted"),
+            number(3, ", sun or surface"),
+            number(4, ", object"),
+            number(8, ", gap"),
+            number(9, ", turned"),
+            number(10, ", no sector"),
+            number(11, ", reveal"),
+            (String::from("outside the beam, 1"), self.outside),
+            (String::from("inside the beam, exactly 1"), self.one),
+            (String::from("inside the beam, exactly 0"), self.zero),
+            (
+                String::from("inside the beam, between 0 and 1"),
+                self.between,
+            ),
+        ];
+        for (what, count) in &counts {
+            if *count == 0 {
+                return Err(format!("factor: no call had {what}"));
+            }
+            settings.detail(what, *count);
+        }
+        settings.detail("NaN factor", self.nan);
+        Ok(())
+    }
+}
+
+/// A difference, with the smallest call by which it is found: records are left out as long as there
+/// is a difference without them.
+fn difference(call: &Call, judge: &mut Judge, lent: &mut Lent) -> String {
+    let mut differ = |call: &Call| {
+        let right = judge
+            .answer(&call.numbers, &call.sectors, &call.window)
+            .answer;
+        let got = lent.call(call).ok()?;
+        let same = right.number == got.number && same(right.factor, got.factor);
+        (!same).then_some((right, got))
+    };
+    let mut smallest = call.clone();
+    while let Some(smaller) = smaller(&smallest)
+        .into_iter()
+        .find(|call| differ(call).is_some())
+    {
+        smallest = smaller;
+    }
+    let answer = |answer: ProbeFactor| format!("{}, {}", answer.number, shown(answer.factor));
+    match differ(&smallest) {
+        Some((right, got)) => format!(
+            "{}\n  Rust   {}\n  Rattle {}",
+            smallest.shown(),
+            answer(right),
+            answer(got)
+        ),
+        None => format!("{}\n  differs once and not again", call.shown()),
+    }
+}
+
+/// The call without one of its records, or without one object of a sector.
+fn smaller(call: &Call) -> Vec<Call> {
+    let scene = Scene::of(call);
+    if scene.call() != *call {
+        return vec![]; // part records stay as they are
+    }
+    let mut all = vec![];
+    for place in 0..scene.sectors.len() {
+        let mut fewer = scene.clone();
+        fewer.sectors.remove(place);
+        all.push(fewer.call());
+        let count = scene.sectors[place][COUNT];
+        if (1..=8).contains(&count) {
+            let mut fewer = scene.clone();
+            fewer.sectors[place][COUNT] = count - 1;
+            fewer.sectors[place][TRIPLES + 3 * (count as usize - 1)..].fill(0);
+            all.push(fewer.call());
+        }
+    }
+    for place in 0..scene.window.len() {
+        let mut fewer = scene.clone();
+        fewer.window.remove(place);
+        all.push(fewer.call());
+    }
+    all
+}
+
+/// All edges, then random calls up to the count.
+fn calls(random: &mut Random, count: usize) -> impl Iterator<Item = Call> + '_ {
+    let edges = edges::edges();
+    let more = count.saturating_sub(edges.len());
+    edges
+        .into_iter()
+        .chain((0..more).map(|_| scenes::any_call(random)))
+}
+
+fn run(settings: &Settings, function: FactorCall, compared: bool, laws: &[Law]) -> Outcome {
+    let mut judge = Judge::new();
+    let mut lent = Lent::new(function);
+    let mut met = Met::default();
+    let mut tally = Tally::default();
+    let mut pairs = Pairs::default();
+    let mut random = settings.random("laws of the factor");
+    for call in calls(&mut settings.random("factor"), TIMES * settings.count) {
+        let got = lent.call(&call)?;
+        if compared {
+            let judged = judge.answer(&call.numbers, &call.sectors, &call.window);
+            let right = judged.answer;
+            if right.number != got.number || !same(right.factor, got.factor) {
+                let words = difference(&call, &mut judge, &mut lent);
+                let cases = tally.compared;
+                return Err(format!("factor differs after {cases} cases\n{words}"));
+            }
+            met.note(&judged);
+            tally.both_nan += right.factor.is_nan() as u64;
+        }
+        tally.compared += 1;
+        if got.number == 0 {
+            let answer = |call: &Call| lent.call(call);
+            try_laws(laws, &mut pairs, &mut random, &call, got.factor, answer)?;
+        }
+    }
+    settings.report("factor", tally)?;
+    if compared {
+        met.report(settings)?;
+    }
+    pairs.report(settings, laws)
+}
+
+pub fn section(settings: &Settings, rattle: &Probes) -> Outcome {
+    settings.heading("the direct shading factor of one step: published Rust against Rattle");
+    run(settings, rattle.factor, true, &LAWS)
+}
+
+/// The comparison without the laws, for the self-test.
+pub fn compared_alone(settings: &Settings, rattle: &Probes) -> Outcome {
+    run(settings, rattle.factor, true, &[])
+}
+
+/// One law without the comparison, for the self-test.
+pub fn law_alone(settings: &Settings, rattle: &Probes, law: Law) -> Outcome {
+    run(settings, rattle.factor, false, &[law])
+}

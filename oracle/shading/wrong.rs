@@ -1,0 +1,620 @@
+//! Factors that are wrong in one small way each. The self-test has to find them all.
+//!
+//! They are one plain form of the factor, by which a flaw is built in where it is asked for.
+
+use super::call::*;
+use super::laws::Law;
+use crate::probes::{ProbeFactor, Probes};
+use crate::published::shading::*;
+use crate::published::wrong::Wrong;
+use crate::random::ulps_from;
+use crate::stand_ins::{cos, float_max, float_min, max_of_2, min_of_2, tan, to_radians};
+
+#[derive(Clone, Copy, PartialEq)]
+enum Flaw {
+    /// None: the plain form itself has to pass.
+    Nothing,
+
+    // the checks
+    AzimuthWithin180,
+    MinusZeroOutOfRange,
+    NanTaken,
+    LeastHeightOpen,
+    GreatestWidthOpen,
+    ListsBeforeSurface,
+    SectorsThirtySeven,
+    SectorCountNine,
+    SectorCountOfFourBytes,
+    SectorKindTwo,
+    SectorDistanceZero,
+    SectorPartRecordDropped,
+    UnusedTripleNotLookedAt,
+    UnusedMinusZeroTaken,
+    LaterSectorsUnchecked,
+    WindowSeventeen,
+    WindowKindFive,
+    WindowSizeZero,
+    WindowDistanceOpen,
+    WindowPartRecordDropped,
+    SpareWordNotLookedAt,
+    SpareMinusZeroTaken,
+    TransparencyUnchecked,
+    FactorKeptWhereRefused,
+    ListWrittenTo,
+
+    // the beam
+    BeamEndOpen,
+    BeamNotWrapped,
+    BeamWithoutTilt,
+    RevealOutsideBeam,
+    FactorOneAlways,
+
+    // the walk
+    StartClosed,
+    EndClosed,
+    AllSectorsChecked,
+    TurnedBeforeGap,
+    FirstStartNotFree,
+    GapByBits,
+    NoSectorWithoutWalk,
+    RevealBeforeWalk,
+    SectorBefore,
+
+    // the shade
+    BaseHeightLeftOut,
+    DistantOverhangLeftOut,
+    RightFinMended,
+    FinDifferenceWrapped,
+    OverhangWithoutCosine,
+    NearObstaclesEarly,
+    NearObstacleAgainstDistantOverhang,
+    TransparencyLeftOut,
+    NearObstacleAlone,
+    NearObstacleOverTheOverhang,
+    HeightByTwoDifferences,
+    PartsMultipliedLast,
+    SixteenthLeftOut,
+
+    // what breaks a law
+    LastObjectCounts,
+    ExtentsAdded,
+    OneByAQuotient,
+    NearObstacleReplaces,
+    DarkBelowZero,
+    SkyNeverWhole,
+}
+use Flaw::*;
+
+/// The factor with a flaw.
+struct Plain {
+    flaw: Flaw,
+}
+
+/// The sun on the surface.
+struct Sun {
+    tan_altitude: f64,
+    difference: f64,
+}
+
+/// The shade so far: heights by obstacles and overhangs, widths by right and left fins.
+#[derive(Clone, Copy, Default)]
+struct Shade {
+    obstacle: f64,
+    overhang: f64,
+    right: f64,
+    left: f64,
+}
+
+fn double(word: u64) -> f64 {
+    f64::from_bits(word)
+}
+
+/// One turn brings an angle into −180..180.
+fn wrapped(x: f64) -> f64 {
+    if x > 180.0 {
+        x - 360.0
+    } else if x < -180.0 {
+        x + 360.0
+    } else {
+        x
+    }
+}
+
+impl Plain {
+    fn is(&self, flaw: Flaw) -> bool {
+        self.flaw == flaw
+    }
+
+    // --- The checks ---
+
+    fn numbers_fine(&self, numbers: &Numbers) -> bool {
+        numbers
+            .iter()
+            .zip(RANGES)
+            .enumerate()
+            .all(|(place, (&x, (low, high)))| match place {
+                _ if self.is(MinusZeroOutOfRange) && x == 0.0 => x.to_bits() == 0,
+                _ if self.is(NanTaken) => !(x < low || x > high),
+                AZIMUTH if self.is(AzimuthWithin180) => -180.0 <= x && x <= 180.0,
+                HEIGHT if self.is(LeastHeightOpen) => low < x && x <= high,
+                WIDTH if self.is(GreatestWidthOpen) => low <= x && x < high,
+                _ => low <= x && x <= high,
+            })
+    }
+
+    fn zero(&self, word: u64, minus_too: Flaw) -> bool {
+        word == 0 || (self.is(minus_too) && double(word) == 0.0)
+    }
+
+    fn sector_fine(&self, sector: &Sector) -> bool {
+        let bound_fine = |word: u64| 0.0 <= double(word) && double(word) <= 360.0;
+        let count = match self.is(SectorCountOfFourBytes) {
+            true => sector[COUNT] as u32 as u64,
+            false => sector[COUNT],
+        };
+        let most = if self.is(SectorCountNine) { 9 } else { 8 };
+        let mut triples = sector[TRIPLES..].chunks_exact(3).enumerate();
+        let triple_fine = |(place, triple): (usize, &[u64])| {
+            let (height, distance) = (double(triple[1]), double(triple[2]));
+            if place as u64 >= count {
+                let mut words = triple.iter();
+                return self.is(UnusedTripleNotLookedAt)
+                    || words.all(|&word| self.zero(word, UnusedMinusZeroTaken));
+            }
+            let distance_above = 0.0 < distance || (self.is(SectorDistanceZero) && distance == 0.0);
+            triple[0] <= 1 + self.is(SectorKindTwo) as u64
+                && (0.0 < height && height <= 1000.0)
+                && (distance_above && distance <= 10_000.0)
+        };
+        bound_fine(sector[START])
+            && bound_fine(sector[END])
+            && count <= most
+            && triples.all(triple_fine)
+    }
+
+    fn window_object_fine(&self, object: &WindowObject) -> bool {
+        let [kind, size, distance, last] = *object;
+        let (size, distance, transparency) = (double(size), double(distance), double(last));
+        let size_above = 0.0 < size || (self.is(WindowSizeZero) && size == 0.0);
+        let distance_fine = match self.is(WindowDistanceOpen) {
+            true => 0.0 <= distance && distance < 10_000.0,
+            false => 0.0 <= distance && distance <= 10_000.0,
+        };
+        let last_fine = match kind {
+            OBSTACLE => {
+                self.is(TransparencyUnchecked) || (0.0 <= transparency && transparency <= 1.0)
+            }
+            _ => self.is(SpareWordNotLookedAt) || self.zero(last, SpareMinusZeroTaken),
+        };
+        kind <= 4 + self.is(WindowKindFive) as u64
+            && (size_above && size <= 1000.0)
+            && distance_fine
+            && last_fine
+    }
+
+    fn lists_fine(&self, call: &Call, scene: &Scene) -> bool {
+        let whole = |bytes: &[u8], words: usize, part_dropped: Flaw| {
+            bytes.len() % (8 * words) == 0 || self.is(part_dropped)
+        };
+        let mut sectors = scene.sectors.iter();
+        whole(&call.sectors, SECTOR_WORDS, SectorPartRecordDropped)
+            && whole(&call.window, WINDOW_WORDS, WindowPartRecordDropped)
+            && scene.sectors.len() <= MOST_SECTORS + self.is(SectorsThirtySeven) as usize
+            && scene.window.len() <= MOST_WINDOW_OBJECTS + self.is(WindowSeventeen) as usize
+            && match self.is(LaterSectorsUnchecked) {
+                true => sectors
+                    .next()
+                    .map_or(true, |sector| self.sector_fine(sector)),
+                false => sectors.all(|sector| self.sector_fine(sector)),
+            }
+            && scene
+                .window
+                .iter()
+                .all(|object| self.window_object_fine(object))
+    }
+
+    // --- The beam and the walk ---
+
+    fn outside(&self, numbers: &Numbers) -> bool {
+        let beside = 180.0 - numbers[ORIENTATION] - numbers[AZIMUTH];
+        let beside = if self.is(BeamNotWrapped) {
+            beside
+        } else {
+            wrapped(beside)
+        };
+        let above = numbers[TILT] - numbers[ALTITUDE];
+        let within = |x: f64| match self.is(BeamEndOpen) {
+            true => -90.0 < x && x < 90.0,
+            false => -90.0 <= x && x <= 90.0,
+        };
+        !within(beside) || !(within(above) || self.is(BeamWithoutTilt))
+    }
+
+    /// The place of the sector with the sun, or the number of a refusal.
+    fn walk(&self, azimuth: f64, sectors: &[Sector]) -> Result<usize, u64> {
+        let gap = |place: usize| {
+            let (last, start) = match place {
+                0 if !self.is(FirstStartNotFree) => return false,
+                0 => (0, sectors[0][START]),
+                _ => (sectors[place - 1][END], sectors[place][START]),
+            };
+            match self.is(GapByBits) {
+                true => last != start,
+                false => double(last) != double(start),
+            }
+        };
+        let turned = |place: usize| double(sectors[place][END]) < double(sectors[place][START]);
+        let fault = |place: usize| match (gap(place), turned(place)) {
+            (true, true) if self.is(TurnedBeforeGap) => Some(9),
+            (true, _) => Some(8),
+            (_, true) => Some(9),
+            _ => None,
+        };
+        let holds = |place: usize| {
+            let start = 180.0 - double(sectors[place][START]);
+            let end = 180.0 - double(sectors[place][END]);
+            let before = azimuth < start || (self.is(StartClosed) && azimuth == start);
+            let after = azimuth > end || (self.is(EndClosed) && azimuth == end);
+            before && after
+        };
+        if self.is(NoSectorWithoutWalk) {
+            return Err(10);
+        }
+        if self.is(AllSectorsChecked) {
+            if let Some(number) = (0..sectors.len()).find_map(fault) {
+                return Err(number);
+            }
+        }
+        for place in 0..sectors.len() {
+            if let Some(number) = fault(place) {
+                return Err(number);
+            }
+            if holds(place) {
+                return Ok(place);
+            }
+        }
+        Err(10)
+    }
+
+    // --- The shade ---
+
+    /// The larger of two extents.
+    fn larger(&self, so_far: f64, extent: f64) -> f64 {
+        if self.is(LastObjectCounts) {
+            return extent;
+        }
+        if self.is(ExtentsAdded) {
+            return so_far + max_of_2(0.0, extent);
+        }
+        max_of_2(so_far, extent)
+    }
+
+    fn obstacle_height(&self, numbers: &Numbers, sun: &Sun, height: f64, distance: f64) -> f64 {
+        let base = if self.is(BaseHeightLeftOut) {
+            0.0
+        } else {
+            numbers[BASE_HEIGHT]
+        };
+        let shade = height - base - distance * sun.tan_altitude;
+        if shade < 0.0 {
+            0.0
+        } else {
+            shade
+        }
+    }
+
+    fn add_distant(&self, shade: &mut Shade, numbers: &Numbers, sun: &Sun, triple: &[u64]) {
+        let (height, distance) = (double(triple[1]), double(triple[2]));
+        if triple[0] == OBSTACLE {
+            let extent = self.obstacle_height(numbers, sun, height, distance);
+            shade.obstacle = self.larger(shade.obstacle, extent);
+        } else if !self.is(DistantOverhangLeftOut) {
+            let (surface, base) = (numbers[HEIGHT], numbers[BASE_HEIGHT]);
+            let extent = surface + base - height + distance * sun.tan_altitude;
+            shade.overhang = self.larger(shade.overhang, float_max(0.0, extent));
+        }
+    }
+
+    fn add_at_the_window(&self, shade: &mut Shade, sun: &Sun, object: &WindowObject) {
+        let [kind, depth, distance, _] = *object;
+        let (depth, distance) = (double(depth), double(distance));
+        let difference = match self.is(FinDifferenceWrapped) {
+            true => wrapped(sun.difference),
+            false => sun.difference,
+        };
+        let fin = |elsewhere: bool, tangent: f64| match elsewhere {
+            true => 0.0,
+            false => depth * tangent - distance,
+        };
+        let tangent = tan(to_radians(difference));
+        match kind {
+            OVERHANG => {
+                let cosine = match self.is(OverhangWithoutCosine) {
+                    true => 1.0,
+                    false => cos(to_radians(sun.difference)),
+                };
+                let extent = depth * sun.tan_altitude / cosine - distance;
+                shade.overhang = self.larger(shade.overhang, extent);
+            }
+            RIGHT_FIN => {
+                let tangent = if self.is(RightFinMended) {
+                    -tangent
+                } else {
+                    tangent
+                };
+                let width = fin(difference > 0.0, tangent);
+                shade.right = self.larger(shade.right, width);
+            }
+            LEFT_FIN => {
+                let width = fin(difference < 0.0, tangent);
+                shade.left = self.larger(shade.left, width);
+            }
+            _ => {}
+        }
+    }
+
+    /// What a height and a width in the sun make of the surface.
+    fn part(&self, numbers: &Numbers, height: f64, width: f64) -> f64 {
+        let (whole_height, whole_width) = (numbers[HEIGHT], numbers[WIDTH]);
+        if self.is(PartsMultipliedLast) {
+            return (height / whole_height) * (width / whole_width);
+        }
+        if self.is(OneByAQuotient) {
+            return height * width * (1.0 / (whole_height * whole_width));
+        }
+        height * width / (whole_height * whole_width)
+    }
+
+    fn sunlit_width(&self, numbers: &Numbers, shade: &Shade) -> f64 {
+        let width = numbers[WIDTH];
+        let right = min_of_2(width, shade.right);
+        let left = min_of_2(width, shade.left);
+        max_of_2(0.0, width - (right + left))
+    }
+
+    /// What a near obstacle leaves, against the overhangs' shade.
+    fn near(&self, numbers: &Numbers, sun: &Sun, shade: &Shade, object: &WindowObject) -> f64 {
+        let [_, size, distance, transparency] = object.map(double);
+        let height = numbers[HEIGHT];
+        let overhang = min_of_2(height, shade.overhang);
+        let obstacle = float_min(height, self.obstacle_height(numbers, sun, size, distance));
+        let above = float_max(0.0, height - (obstacle + overhang));
+        let behind = match self.is(NearObstacleOverTheOverhang) {
+            true => obstacle,
+            false => float_min(obstacle, height - overhang),
+        };
+        let through = if self.is(TransparencyLeftOut) {
+            0.0
+        } else {
+            transparency
+        };
+        let width = match self.is(NearObstacleAlone) {
+            true => numbers[WIDTH],
+            false => self.sunlit_width(numbers, shade),
+        };
+        self.part(numbers, above + behind * through, width)
+    }
+
+    fn in_sector(&self, numbers: &Numbers, sector: &Sector, window: &[WindowObject]) -> f64 {
+        let sun = Sun {
+            tan_altitude: tan(to_radians(numbers[ALTITUDE])),
+            difference: difference(numbers),
+        };
+        let mut shade = Shade::default();
+        let count = (sector[COUNT] as u32 as usize).min(8);
+        for triple in sector[TRIPLES..].chunks_exact(3).take(count) {
+            self.add_distant(&mut shade, numbers, &sun, triple);
+        }
+        let distant = shade;
+        let window = match window.len() {
+            16 if self.is(SixteenthLeftOut) => &window[..15],
+            _ => window,
+        };
+        let mut early: f64 = f64::INFINITY;
+        for object in window {
+            self.add_at_the_window(&mut shade, &sun, object);
+            if object[0] == OBSTACLE {
+                early = float_min(early, self.near(numbers, &sun, &shade, object));
+            }
+        }
+
+        let height = numbers[HEIGHT];
+        let obstacle = min_of_2(height, shade.obstacle);
+        let overhang = min_of_2(height, shade.overhang);
+        let left_over = match self.is(HeightByTwoDifferences) {
+            true => height - obstacle - overhang,
+            false => height - (obstacle + overhang),
+        };
+        let width = self.sunlit_width(numbers, &shade);
+        let mut factor = self.part(numbers, max_of_2(0.0, left_over), width);
+        if self.is(NearObstaclesEarly) {
+            return float_min(factor, early);
+        }
+        for object in window.iter().filter(|object| object[0] == OBSTACLE) {
+            let against = match self.is(NearObstacleAgainstDistantOverhang) {
+                true => Shade {
+                    overhang: distant.overhang,
+                    ..shade
+                },
+                false => shade,
+            };
+            let near = self.near(numbers, &sun, &against, object);
+            factor = match self.is(NearObstacleReplaces) {
+                true => near,
+                false => float_min(factor, near),
+            };
+        }
+        match self.flaw {
+            DarkBelowZero if factor == 0.0 => -f64::from_bits(1),
+            SkyNeverWhole if factor == 1.0 => ulps_from(1.0, -1),
+            _ => factor,
+        }
+    }
+
+    fn answer(&self, call: &Call) -> ProbeFactor {
+        let refused = |number: u64| ProbeFactor {
+            number,
+            factor: if self.is(FactorKeptWhereRefused) {
+                1.0
+            } else {
+                0.0
+            },
+        };
+        let accepted = |factor: f64| ProbeFactor { number: 0, factor };
+        let numbers = &call.numbers;
+        let scene = Scene::of(call);
+        let numbers_fine = self.numbers_fine(numbers);
+        let lists_fine = self.lists_fine(call, &scene);
+        if self.is(ListsBeforeSurface) && !lists_fine {
+            return refused(4);
+        }
+        if !numbers_fine {
+            return refused(3);
+        }
+        if !lists_fine {
+            return refused(4);
+        }
+        let reveal = scene.window.iter().any(|object| object[0] >= REVEAL);
+        if reveal && self.is(RevealOutsideBeam) {
+            return refused(11);
+        }
+        if self.is(FactorOneAlways) || self.outside(numbers) {
+            return accepted(1.0);
+        }
+        if reveal && self.is(RevealBeforeWalk) {
+            return refused(11);
+        }
+        match self.walk(numbers[AZIMUTH], &scene.sectors) {
+            Err(number) => refused(number),
+            Ok(_) if reveal => refused(11),
+            Ok(place) => {
+                let place = place - (self.is(SectorBefore) && place > 0) as usize;
+                accepted(self.in_sector(numbers, &scene.sectors[place], &scene.window))
+            }
+        }
+    }
+}
+
+fn answer_of(
+    flaw: Flaw,
+    numbers: Numbers,
+    (sectors, sectors_len): (*const u8, usize),
+    (window, window_len): (*const u8, usize),
+) -> ProbeFactor {
+    let list = |start, len| unsafe { std::slice::from_raw_parts(start, len) }.to_vec();
+    let call = Call {
+        numbers,
+        sectors: list(sectors, sectors_len),
+        window: list(window, window_len),
+    };
+    if flaw == ListWrittenTo && window_len > 500 {
+        unsafe { window.cast_mut().add(100).write(call.window[100] ^ 1) };
+    }
+    Plain { flaw }.answer(&call)
+}
+
+/// A side of the comparison whose factor has the flaw.
+macro_rules! flawed {
+    ($right:ident, $name:expr; $($flaw:ident),* $(,)?) => {
+        vec![$({
+            unsafe extern "C" fn wrong(
+                altitude: f64,
+                azimuth: f64,
+                tilt: f64,
+                orientation: f64,
+                base_height: f64,
+                height: f64,
+                width: f64,
+                sectors: *const u8,
+                sectors_len: usize,
+                window: *const u8,
+                window_len: usize,
+            ) -> ProbeFactor {
+                let numbers = [altitude, azimuth, tilt, orientation, base_height, height, width];
+                answer_of($flaw, numbers, (sectors, sectors_len), (window, window_len))
+            }
+            ($name, stringify!($flaw), Probes { factor: wrong, ..$right })
+        }),*]
+    };
+}
+
+/// The plain form without a flaw, which has to pass.
+pub fn without_flaw(right: Probes) -> Probes {
+    let sides: Vec<Wrong> = flawed!(right, "factor"; Nothing);
+    sides[0].2
+}
+
+/// What the comparison has to find.
+pub fn factor(right: Probes) -> Vec<Wrong> {
+    flawed! { right, "factor";
+        AzimuthWithin180,
+        MinusZeroOutOfRange,
+        NanTaken,
+        LeastHeightOpen,
+        GreatestWidthOpen,
+        ListsBeforeSurface,
+        SectorsThirtySeven,
+        SectorCountNine,
+        SectorCountOfFourBytes,
+        SectorKindTwo,
+        SectorDistanceZero,
+        SectorPartRecordDropped,
+        UnusedTripleNotLookedAt,
+        UnusedMinusZeroTaken,
+        LaterSectorsUnchecked,
+        WindowSeventeen,
+        WindowKindFive,
+        WindowSizeZero,
+        WindowDistanceOpen,
+        WindowPartRecordDropped,
+        SpareWordNotLookedAt,
+        SpareMinusZeroTaken,
+        TransparencyUnchecked,
+        FactorKeptWhereRefused,
+        ListWrittenTo,
+        BeamEndOpen,
+        BeamNotWrapped,
+        BeamWithoutTilt,
+        RevealOutsideBeam,
+        FactorOneAlways,
+        StartClosed,
+        EndClosed,
+        AllSectorsChecked,
+        TurnedBeforeGap,
+        FirstStartNotFree,
+        GapByBits,
+        NoSectorWithoutWalk,
+        RevealBeforeWalk,
+        SectorBefore,
+        BaseHeightLeftOut,
+        DistantOverhangLeftOut,
+        RightFinMended,
+        FinDifferenceWrapped,
+            OverhangWithoutCosine,
+        NearObstaclesEarly,
+        NearObstacleAgainstDistantOverhang,
+        TransparencyLeftOut,
+        NearObstacleAlone,
+        NearObstacleOverTheOverhang,
+        HeightByTwoDifferences,
+        PartsMultipliedLast,
+        SixteenthLeftOut,
+        LastObjectCounts,
+        ExtentsAdded,
+        OneByAQuotient,
+        NearObstacleReplaces,
+        DarkBelowZero,
+    }
+}
+
+/// What each law has to find, tried alone.
+pub fn lawless(right: Probes, law: Law) -> Vec<Wrong> {
+    let name = law.name();
+    match law {
+        Law::Range => flawed!(right, name; DarkBelowZero, NearObstacleReplaces),
+        Law::Reordered => flawed!(right, name; NearObstaclesEarly, LastObjectCounts),
+        Law::Repeated => flawed!(right, name; ExtentsAdded, SixteenthLeftOut),
+        Law::Enlarged => flawed!(right, name; LastObjectCounts, NearObstacleReplaces),
+        Law::Emptied => flawed!(right, name; OneByAQuotient, SkyNeverWhole),
+    }
+}
