@@ -1,7 +1,8 @@
 //! The judge: Rattle's functions against Rust's, case by case and bit for bit.
 //!
 //!     compare [--seed N] [--count N]     compares; stops at the first difference
-//!     compare --self-test [--seed N]     shows that the comparison can fail
+//!     compare --listings PROGRAM ..      compares what a program makes of shade listings
+//!     compare --self-test [--seed N]     shows that the comparisons can fail
 //!
 //! Exit status: 0 no difference; 1 a difference, or a comparison of nothing; 2 bad usage; 3 an
 //! access outside a buffer. `oracle/run` builds this program and runs it both ways.
@@ -9,6 +10,7 @@
 mod arguments;
 mod comparison;
 mod guarded;
+mod listing;
 mod numbers;
 mod probes;
 mod random;
@@ -22,6 +24,8 @@ mod published;
 mod words;
 
 use comparison::{Outcome, Settings};
+use listing::Program;
+use std::path::PathBuf;
 use std::process::ExitCode;
 
 /// The sections, in the order in which they are run. A new one is added here.
@@ -37,7 +41,10 @@ const SECTIONS: [fn(&Settings) -> Outcome; 6] = [
 struct Arguments {
     settings: Settings,
     self_test: bool,
+    listings: Option<PathBuf>,
+    // what the self-test has this program do
     read_outside: Option<String>,
+    shade_listing: Option<String>,
 }
 
 /// A whole number, decimal or with 0x hexadecimal.
@@ -57,14 +64,18 @@ fn arguments() -> Result<Arguments, String> {
     let mut arguments = Arguments {
         settings,
         self_test: false,
+        listings: None,
         read_outside: None,
+        shade_listing: None,
     };
     let mut words = std::env::args().skip(1);
     while let Some(word) = words.next() {
         let mut next = || words.next().ok_or(format!("{word} needs a value"));
         match word.as_str() {
             "--self-test" => arguments.self_test = true,
+            "--listings" => arguments.listings = Some(next()?.into()),
             "--read-outside" => arguments.read_outside = Some(next()?),
+            "--shade-listing" => arguments.shade_listing = Some(next()?),
             "--seed" => {
                 let seed = whole_number(&next()?);
                 arguments.settings.seed = seed.ok_or("--seed needs a whole number")?;
@@ -84,8 +95,18 @@ fn run(arguments: &Arguments) -> Outcome {
     if let Some(side) = &arguments.read_outside {
         return self_test::read_outside(side);
     }
+    if let Some(way) = &arguments.shade_listing {
+        return listing::wrong::listing(way);
+    }
     if arguments.self_test {
         return self_test::run(settings.seed);
+    }
+    if let Some(path) = &arguments.listings {
+        let program = Program {
+            path,
+            arguments: &[],
+        };
+        return listing::run(settings, &program);
     }
     println!(
         "seed {}, {} cases for each function",

@@ -4,6 +4,7 @@
 
 use crate::comparison::{compare, same, Outcome, Settings, Tally};
 use crate::guarded::{Guarded, Side, OUT_OF_BOUNDS};
+use crate::listing::{self, Program};
 use crate::probes::{Digits, Probes, SinCos};
 use crate::published::wrong::{wrong_sides, Wrong};
 use crate::published::{interface, irradiance, sun, wrong};
@@ -375,10 +376,29 @@ pub fn run(seed: u64) -> Outcome {
     shading::compared_alone(&settings, &shading::wrong::without_flaw(RIGHT))
         .map_err(|words| format!("self-test, the plain factor: {words}"))?;
 
+    // Shade listings: the same program, made to write one rightly, then wrongly.
+    let this_program = std::env::current_exe().map_err(|error| error.to_string())?;
+    let listing_in = |way: &str| {
+        let arguments = &["--shade-listing", way];
+        let path = &this_program;
+        listing::run(&settings, &Program { path, arguments })
+    };
+    listing_in(listing::wrong::RIGHT)
+        .map_err(|words| format!("self-test, the right listing: {words}"))?;
+    for way in listing::wrong::wrong_ways() {
+        match listing_in(way) {
+            Ok(()) => return Err(format!("self-test: {way} was not found")),
+            Err(words) => must(
+                words.starts_with("listing differs"),
+                &format!("{way} was found in the wrong place: {words}"),
+            )?,
+        }
+        found += 1;
+    }
+
     // The guard pages: the same program, made to read one byte outside a buffer, must be stopped.
     for side in ["before", "after"] {
-        let program = std::env::current_exe().map_err(|error| error.to_string())?;
-        let output = std::process::Command::new(program)
+        let output = std::process::Command::new(&this_program)
             .args(["--read-outside", side])
             .output()
             .map_err(|error| error.to_string())?;
@@ -388,7 +408,7 @@ pub fn run(seed: u64) -> Outcome {
         )?;
     }
 
-    println!("self-test: {found} wrong functions found, both guard pages hold");
+    println!("self-test: {found} wrong functions and listings found, both guard pages hold");
     Ok(())
 }
 

@@ -1,10 +1,10 @@
 //! The direct shading factor of one step: the specification's checks and the published Rust against
 //! Rattle, number and factor, bit for bit; and the factor's laws on the same calls.
 
-mod call;
+pub mod call;
 mod edges;
 pub mod laws;
-mod scenes;
+pub mod scenes;
 pub mod wrong;
 
 use crate::comparison::{same, shown, Outcome, Settings, Tally};

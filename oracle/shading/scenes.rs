@@ -158,7 +158,7 @@ fn turned_back(azimuth: f64) -> f64 {
     }
 }
 
-fn any_numbers(random: &mut Random) -> Numbers {
+pub fn any_numbers(random: &mut Random) -> Numbers {
     let side = |random: &mut Random| match random.below(16) {
         0 => any_length(random, 1000.0).max(0.001),
         1 => 0.001,
