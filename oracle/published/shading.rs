@@ -131,6 +131,13 @@ pub struct Judged {
     pub inside: bool,
 }
 
+fn refused(number: u64) -> ProbeFactor {
+    ProbeFactor {
+        number,
+        factor: 0.0,
+    }
+}
+
 /// The published record, kept from call to call.
 pub struct Judge {
     conditions: ExternalConditions,
@@ -144,10 +151,6 @@ impl Judge {
 
     /// 3, then 4, then what the published function gives.
     pub fn answer(&mut self, numbers: &Numbers, sectors: &[u8], window: &[u8]) -> Judged {
-        let refused = |number: u64| ProbeFactor {
-            number,
-            factor: 0.0,
-        };
         let unseen = |number: u64| Judged {
             answer: refused(number),
             inside: false,
@@ -158,11 +161,18 @@ impl Judge {
         }
         let sectors = records::<_, SECTOR_WORDS>(sectors, MOST_SECTORS, sector);
         let window = records::<_, WINDOW_WORDS>(window, MOST_WINDOW_OBJECTS, window_object);
-        let (Some(sectors), Some(window)) = (sectors, window) else {
-            return unseen(4);
-        };
+        match (sectors, window) {
+            (Some(sectors), Some(window)) => self.published(numbers, sectors, &window),
+            _ => unseen(4),
+        }
+    }
 
-        let &[altitude, azimuth, tilt, orientation, base_height, height, width] = numbers;
+    fn published(
+        &mut self,
+        &[altitude, azimuth, tilt, orientation, base_height, height, width]: &Numbers,
+        sectors: Vec<ShadingSegment>,
+        window: &[WindowShadingObject],
+    ) -> Judged {
         let orientation = angle(orientation);
         let conditions = &mut self.conditions;
         conditions.solar_altitudes[0] = altitude;
@@ -174,7 +184,7 @@ impl Judge {
             width,
             tilt,
             orientation,
-            Some(&window),
+            Some(window),
             FIRST_STEP,
         );
         Judged {

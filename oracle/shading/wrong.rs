@@ -426,24 +426,21 @@ impl Plain {
             false => height - (obstacle + overhang),
         };
         let width = self.sunlit_width(numbers, &shade);
-        let mut factor = self.part(numbers, max_of_2(0.0, left_over), width);
+        let first = self.part(numbers, max_of_2(0.0, left_over), width);
         if self.is(NearObstaclesEarly) {
-            return float_min(factor, early);
+            return float_min(first, early);
         }
-        for object in window.iter().filter(|object| object[0] == OBSTACLE) {
-            let against = match self.is(NearObstacleAgainstDistantOverhang) {
-                true => Shade {
-                    overhang: distant.overhang,
-                    ..shade
-                },
-                false => shade,
-            };
-            let near = self.near(numbers, &sun, &against, object);
-            factor = match self.is(NearObstacleReplaces) {
+        if self.is(NearObstacleAgainstDistantOverhang) {
+            shade.overhang = distant.overhang;
+        }
+        let obstacles = window.iter().filter(|object| object[0] == OBSTACLE);
+        let factor = obstacles.fold(first, |factor, object| {
+            let near = self.near(numbers, &sun, &shade, object);
+            match self.is(NearObstacleReplaces) {
                 true => near,
                 false => float_min(factor, near),
-            };
-        }
+            }
+        });
         match self.flaw {
             DarkBelowZero if factor == 0.0 => -f64::from_bits(1),
             SkyNeverWhole if factor == 1.0 => ulps_from(1.0, -1),
