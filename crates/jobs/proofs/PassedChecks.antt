@@ -1,0 +1,133 @@
+-- What a job has that passes the checks before the first step. Assumes nothing.
+use mathlib.Core.Path.{_≡_, sym, ap, subst}
+use mathlib.Core.Bool.{Bool, true, false, _&&_}
+use mathlib.Core.List.{List, [], _∷_}
+use Prim.Native.Nat.{ℕ, zero, suc, _*_, _≤_, _<_}
+use native.Mathlib.Omega.{arith}
+use borrow.Author.Tests.{leb-true}
+use lib.Dec.{T}
+use lib.ListN.{length, getD}
+use lib.Ieee.{Float}
+use lib.Ieee.Bits.{is-true}
+use lib.Ieee.Fits.{and-l, and-r}
+use Rattle.doubles.specs.Arithmetic.{whole}
+use Rattle.doubles.specs.Order.{_≼_}
+use Rattle.words.specs.Words.{wordCount}
+use Rattle.simulation_time.specs.Steps.{stepCount, timeAt, times}
+use Rattle.simulation_time.specs.Checks.{runAccepted}
+use Rattle.simulation_time.proofs.Times.{times-length, times-at}
+use Rattle.objects.specs.declared.answers.Refusal.{Refusal}
+use Rattle.objects.specs.declared.answers.Refusal.the-variants as refusal
+use Rattle.objects.specs.Checks.{within, surfaceFine, sectorsFine, windowFine}
+use Rattle.objects.specs.Records.{windowObjectsOf}
+use Rattle.shading.specs.Comparison.{AcceptedSurface, AcceptedNear}
+use Rattle.objects.proofs.Accepted.{within-range, base-range, height-range, width-range}
+use Rattle.objects.proofs.AcceptedWindow.{window-in-range}
+use Rattle.jobs.specs.declared.answers.Checked.{Checked}
+use Rattle.jobs.specs.declared.answers.Checked.the-variants.{Steps, Refused}
+use Rattle.jobs.specs.Job.{Job, readingAt}
+use Rattle.jobs.specs.Checks.{siteFine, hoursInYear, atAll, indexFine, readingFine, resultsFine, tried, checked}
+use Rattle.jobs.specs.Comparison.{Doubles}
+
+-- ---- the tests, one by one
+
+passes : Checked → Bool
+passes (Steps n) = true
+passes (Refused r) = false
+
+pub not-passed : {A : Type 0} {r : Refusal} {n : ℕ} → Refused r ≡ Steps n → A
+unfolding passes
+not-passed e = absurd (subst T (sym (ap passes e)) tt)
+
+-- the number of steps where there is one
+unfoldable stepsIn : Checked → ℕ
+stepsIn (Steps n) = n
+stepsIn (Refused r) = 0
+
+passed-test : (b : Bool) (r : Refusal) (next : Checked) (n : ℕ) → tried b r next ≡ Steps n → T b × (next ≡ Steps n)
+unfolding tried
+passed-test true r next n e = (tt, e)
+passed-test false r next n e = not-passed e
+
+pub record Passed (job : Job) (results : List ℕ) : Type 0 where
+  pub site-fine : T (siteFine (job .site))
+  pub run-fine : T (runAccepted (hoursInYear (job .site)) (job .run))
+  pub surface-fine : T (surfaceFine (job .surface))
+  pub sectors-fine : T (sectorsFine (job .sectors))
+  pub window-fine : T (windowFine (job .window))
+  pub indices-fine : T (atAll (indexFine job) (times (job .run)))
+  pub readings-fine : T (atAll (λ (time : Float). readingFine (readingAt job time)) (times (job .run)))
+  pub results-fine : T (resultsFine job results)
+
+pub passed : (job : Job) (results : List ℕ) (n : ℕ) → checked job results ≡ Steps n → Passed job results × (n ≡ stepCount (job .run))
+unfolding checked stepsIn
+passed job results n e =
+    let p1 = passed-test (siteFine (job .site)) refusal.Site _ n e in
+    let p2 = passed-test (runAccepted (hoursInYear (job .site)) (job .run)) refusal.Run _ n (p1 .1) in
+    let p3 = passed-test (surfaceFine (job .surface)) refusal.Surface _ n (p2 .1) in
+    let p4 = passed-test (sectorsFine (job .sectors) && windowFine (job .window)) refusal.Object _ n (p3 .1) in
+    let p5 = passed-test (atAll (indexFine job) (times (job .run))) refusal.Series _ n (p4 .1) in
+    let p6 = passed-test (atAll (λ (time : Float). readingFine (readingAt job time)) (times (job .run))) refusal.Reading _ n (p5 .1) in
+    let p7 = passed-test (resultsFine job results) refusal.Results _ n (p6 .1) in (
+      record {
+        site-fine = p1 .0;
+        run-fine = p2 .0;
+        surface-fine = p3 .0;
+        sectors-fine = and-l (sectorsFine (job .sectors)) (windowFine (job .window)) (p4 .0);
+        window-fine = and-r (sectorsFine (job .sectors)) (windowFine (job .window)) (p4 .0);
+        indices-fine = p5 .0;
+        readings-fine = p6 .0;
+        results-fine = p7 .0;
+      },
+      sym (ap stepsIn (p7 .1)),
+    )
+
+-- ---- what they give
+
+-- a test that passes at every time passes at each
+all-pass : (test : Float → Bool) (xs : List Float) (i : ℕ) (d : Float) → T (atAll test xs) → i < length xs → T (test (getD xs i d))
+unfolding atAll
+all-pass test [] i d t h = absurd (omega arith)
+all-pass test (x ∷ xs) zero d t h = and-l (test x) (atAll test xs) t
+all-pass test (x ∷ xs) (suc i) d t h = all-pass test xs i d (and-r (test x) (atAll test xs) t) (omega arith)
+
+module _ {job : Job} {results : List ℕ} (p : Passed job results) where
+  -- there is room for every row
+  pub room : 6 * stepCount (job .run) ≤ wordCount results
+  unfolding resultsFine
+  room = leb-true (6 * stepCount (job .run)) (wordCount results) (is-true _ (p .results-fine))
+
+  reading-fine : (i : ℕ) → i < stepCount (job .run) → T (readingFine (readingAt job (timeAt (job .run) i)))
+  reading-fine i h =
+      subst (λ (time : Float). T (readingFine (readingAt job time))) (times-at (job .run) i (whole 0) h)
+      (all-pass (λ (time : Float). readingFine (readingAt job time)) (times (job .run)) i (whole 0) (p .readings-fine) (rw times-length h))
+
+  -- no diffuse value that a step uses is negative
+  pub diffuse-nonneg : (i : ℕ) → i < stepCount (job .run) → whole 0 ≼ readingAt job (timeAt (job .run) i) .diffuse
+  unfolding readingFine
+  diffuse-nonneg i h =
+      let r = readingAt job (timeAt (job .run) i) in
+      let a = within (whole 0) (whole 10000) (r .diffuse) in
+      let b = within (whole 0) (whole 10000) (r .direct) in
+      within-range (whole 0) (whole 10000) (r .diffuse) (and-l a b (and-l (a && b) (within (whole 0) (whole 1) (r .reflectivity)) (reading-fine i h))) .0
+
+  -- the surface's lengths are in their ranges
+  pub surface-accepted : Doubles (job .surface) → AcceptedSurface (job .surface)
+  surface-accepted d = record {
+    height-from = height-range (job .surface) (p .surface-fine) .0;
+    height-to = height-range (job .surface) (p .surface-fine) .1;
+    width-from = width-range (job .surface) (p .surface-fine) .0;
+    width-to = width-range (job .surface) (p .surface-fine) .1;
+    base-from = base-range (job .surface) (p .surface-fine) .0;
+    base-to = base-range (job .surface) (p .surface-fine) .1;
+    height-fits = d .height-fits;
+    width-fits = d .width-fits;
+    base-fits = d .base-fits;
+  }
+
+  -- every near obstacle's transparency is from 0 to 1
+  pub near-accepted : AcceptedNear (windowObjectsOf (job .window))
+  near-accepted = record {
+    transparency-from = λ o m t. window-in-range (job .window) (p .window-fine) o m .transparency-range t .0;
+    transparency-to = λ o m t. window-in-range (job .window) (p .window-fine) o m .transparency-range t .1;
+  }

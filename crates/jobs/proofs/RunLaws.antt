@@ -1,0 +1,240 @@
+-- What a run comes to: the rows of the steps before the one that is refused, or of all; and of an accepted run, that every step has a
+-- row, which its results hold, and that its sum is that of factor times direct over them. Assumes nothing.
+use mathlib.Core.Path.{_≡_, refl, sym, ap, _∙_, subst}
+use mathlib.Core.List.{List}
+use Prim.Native.Nat.{ℕ, zero, suc, _+_, _*_, _≤_, _<_}
+use native.Mathlib.Numerals.{add-one}
+use native.Mathlib.Decide.{decLt}
+use native.Mathlib.Omega.{arith}
+use borrow.Author.Count.{below-more}
+use lib.ListN.{length, getD}
+use lib.Ieee.{Float}
+use Rattle.doubles.specs.Arithmetic.{_⊕_, whole}
+use Rattle.words.specs.Words.{wordCount}
+use Rattle.simulation_time.specs.Steps.{stepCount, timeAt}
+use Rattle.objects.specs.declared.answers.Refusal.{Refusal}
+use Rattle.objects.specs.declared.answers.Refusal.the-variants as refusal
+use Rattle.objects.specs.Refusals.{numberOf}
+use Rattle.jobs.specs.declared.answers.Row.{Row}
+use Rattle.jobs.specs.declared.answers.StepAnswer.{StepAnswer}
+use Rattle.jobs.specs.declared.answers.StepAnswer.the-variants as step
+use Rattle.jobs.specs.declared.answers.Checked.{Checked}
+use Rattle.jobs.specs.declared.answers.Checked.the-variants as check
+use Rattle.jobs.specs.declared.answers.RunAnswer.{RunAnswer}
+use Rattle.jobs.specs.declared.answers.RunAnswer.the-variants.{Accepted, Refused}
+use Rattle.jobs.specs.Job.{Job}
+use Rattle.jobs.specs.Checks.{checked}
+use Rattle.jobs.specs.Step.{stepAt}
+use Rattle.jobs.specs.Run.{Ran, ran, putRow, withRow, onRow, runFrom, runChecked, runOf, numberFor}
+use Rattle.jobs.proofs.RowStores.{Holding, length-putRow, wordCount-putRow, byte-putRow, stored-row, kept-row}
+use Rattle.jobs.proofs.StepRows.{rowOf, step-row, row-fits}
+use Rattle.jobs.proofs.PassedChecks.{Passed, passed, room}
+
+-- ---- one step of the run, for a loop
+
+module _ (job : Job) (i : ℕ) (time sum : Float) (results : List ℕ) where
+  pub run-ended : runFrom 0 job i time sum results ≡ ran (Accepted i sum) results
+  unfolding runFrom
+  run-ended = refl
+
+  module _ (n : ℕ) where
+    pub run-refused : (r : Refusal) → stepAt job time ≡ step.Refused r → runFrom (suc n) job i time sum results ≡ ran (Refused r i) results
+    unfolding runFrom onRow
+    run-refused r e = rw e
+
+    pub run-onward : (row : Row) → stepAt job time ≡ step.Row row
+        → runFrom (suc n) job i time sum results ≡ runFrom n job (i + 1) (time ⊕ job .run .step) (withRow sum row) (putRow results i row)
+    unfolding runFrom onRow
+    run-onward row e = rw e
+
+-- ---- the steps of a job, whatever its checks say
+
+-- the i-th step's row, where it has one
+unfoldable pub rowAt : Job → ℕ → Row
+rowAt job i = rowOf (stepAt job (timeAt (job .run) i))
+
+-- it has one
+abbrev pub HasRow : Job → ℕ → Type 0
+HasRow job i = stepAt job (timeAt (job .run) i) ≡ step.Row (rowAt job i)
+
+-- the results with the first n rows
+unfoldable pub withRows : Job → ℕ → List ℕ → List ℕ
+withRows job zero results = results
+withRows job (suc n) results = putRow (withRows job n results) n (rowAt job n)
+
+-- the sum over the first n rows
+unfoldable pub sumTo : Job → ℕ → Float
+sumTo job zero = whole 0
+sumTo job (suc n) = withRow (sumTo job n) (rowAt job n)
+
+-- ---- where a run ends
+
+-- `n` steps done: all have rows, or one is refused, and the rows before it are stored
+pub data Outcome (job : Job) (results : List ℕ) (n : ℕ) : Ran → Type 0 where
+  all-rows : ((j : ℕ) → j < n → HasRow job j) → Outcome job results n (ran (Accepted n (sumTo job n)) (withRows job n results))
+  cut-short : (k : ℕ) (r : Refusal) → k < n → ((j : ℕ) → j < k → HasRow job j) → stepAt job (timeAt (job .run) k) ≡ step.Refused r
+      → Outcome job results n (ran (Refused r k) (withRows job k results))
+
+module _ (job : Job) (results : List ℕ) where
+  from-step : (n i : ℕ) → ((j : ℕ) → j < i → HasRow job j)
+      → Outcome job results (i + n) (runFrom n job i (timeAt (job .run) i) (sumTo job i) (withRows job i results))
+  unfolding runFrom rowAt withRows sumTo timeAt rowOf
+  from-step zero i h = let e : i + 0 ≡ i = omega arith in rw e (all-rows h)
+  from-step (suc n) i h = go (stepAt job (timeAt (job .run) i)) refl (λ d. from-step n (suc i) (below-next i h d))
+    where
+      below-next : (i : ℕ) → ((j : ℕ) → j < i → HasRow job j) → HasRow job i → (j : ℕ) → j < suc i → HasRow job j
+      below-next i h d = rw (← add-one i) (below-more (HasRow job) i h d)
+
+      after : Row → Ran
+      after row = runFrom n job (i + 1) (timeAt (job .run) i ⊕ job .run .step) (withRow (sumTo job i) row) (putRow (withRows job i results) i row)
+
+      go : (a : StepAnswer) → stepAt job (timeAt (job .run) i) ≡ a
+          → (HasRow job i → Outcome job results (suc i + n) (runFrom n job (suc i) (timeAt (job .run) (suc i)) (sumTo job (suc i)) (withRows job (suc i) results)))
+          → Outcome job results (i + suc n) (onRow a i (withRows job i results) after)
+      go (step.Refused r) e next = unfold onRow in cut-short i r (omega arith) h e
+      go (step.Row row) e next = unfold onRow in
+          let same : row ≡ rowAt job i = sym (ap rowOf e) in
+          let k : suc i + n ≡ i + suc n = omega arith in
+          rw (add-one i, ← k, same) (next (e ∙ ap step.Row same))
+
+  -- a run whose checks pass
+  from-start : (n : ℕ) → Outcome job results n (runFrom n job 0 (job .run .start) (whole 0) results)
+  unfolding timeAt sumTo withRows
+  from-start n = let e : 0 + n ≡ n = omega arith in rw e at (from-step n 0 (λ j h. absurd (omega arith)))
+
+-- any run: turned down by the checks, or where its steps have brought it
+pub data Finished (job : Job) (results : List ℕ) : Ran → Type 0 where
+  turned-down : (r : Refusal) → checked job results ≡ check.Refused r → Finished job results (ran (Refused r 0) results)
+  stepped : {run : Ran} → Passed job results → Outcome job results (stepCount (job .run)) run → Finished job results run
+
+pub finished : (job : Job) (results : List ℕ) → Finished job results (runOf job results)
+unfolding runOf
+finished job results = go (checked job results) refl
+  where
+    go : (c : Checked) → checked job results ≡ c → Finished job results (runChecked c job results)
+    go (check.Refused r) e = unfold runChecked in turned-down r e
+    go (check.Steps n) e = unfold runChecked in
+        let p = passed job results n e in
+        stepped (p .0) (subst (λ (m : ℕ). Outcome job results m (runFrom n job 0 (job .run .start) (whole 0) results)) (p .1) (from-start job results n))
+
+-- ---- what a run leaves of the results list
+
+-- how many rows it has stored
+unfoldable pub filled : RunAnswer → ℕ
+filled (Accepted count sum) = count
+filled (Refused r i) = i
+
+pub rows-stored : (job : Job) (results : List ℕ) → runOf job results .results ≡ withRows job (filled (runOf job results .answer)) results
+rows-stored job results = go (finished job results)
+  where
+    by-outcome : {n : ℕ} {run : Ran} → Outcome job results n run → run .results ≡ withRows job (filled (run .answer)) results
+    by-outcome (all-rows h) = unfold filled in refl
+    by-outcome (cut-short k r l h e) = unfold filled in refl
+
+    go : {run : Ran} → Finished job results run → run .results ≡ withRows job (filled (run .answer)) results
+    go (turned-down r e) = unfold filled withRows in refl
+    go (stepped p o) = by-outcome o
+
+module _ (job : Job) (results : List ℕ) where
+  pub length-withRows : (n : ℕ) → length (withRows job n results) ≡ length results
+  unfolding withRows
+  length-withRows zero = refl
+  length-withRows (suc n) = length-putRow (withRows job n results) n (rowAt job n) ∙ length-withRows n
+
+  pub wordCount-withRows : (n : ℕ) → wordCount (withRows job n results) ≡ wordCount results
+  unfolding withRows
+  wordCount-withRows zero = refl
+  wordCount-withRows (suc n) = wordCount-putRow (withRows job n results) n (rowAt job n) ∙ wordCount-withRows n
+
+  -- a byte past the n rows stays as it was
+  byte-withRows : (n b : ℕ) → 48 * n ≤ b → getD (withRows job n results) b 0 ≡ getD results b 0
+  unfolding withRows
+  byte-withRows zero b h = refl
+  byte-withRows (suc n) b h = byte-putRow (withRows job n results) n (rowAt job n) b (omega arith) ∙ byte-withRows n b (omega arith)
+
+  -- each of the n rows is read back
+  rows-held : (n i : ℕ) → 6 * n ≤ wordCount results → ((j : ℕ) → j < n → HasRow job j) → i < n → Holding (withRows job n results) i (rowAt job i)
+  unfolding withRows
+  rows-held zero i w h l = absurd (omega arith)
+  rows-held (suc n) i w h l =
+      elim (decLt i n) [
+        | yes g ↦ kept-row (withRows job n results) n (rowAt job n) i (rowAt job i) (omega arith) (rows-held n i (omega arith) (λ j k. h j (omega arith)) g)
+        | no g ↦
+            let e : n ≡ i = omega arith in
+            subst (λ (m : ℕ). Holding (putRow (withRows job n results) n (rowAt job n)) m (rowAt job m)) e
+            (stored-row (withRows job n results) n (rowAt job n) (rw wordCount-withRows (omega arith))
+            (row-fits (step-row job (timeAt (job .run) n) (rowAt job n) (h n (omega arith)))))
+      ]
+
+  -- the list is as long as it was
+  pub run-length : length (runOf job results .results) ≡ length results
+  run-length = ap length (rows-stored job results) ∙ length-withRows (filled (runOf job results .answer))
+
+  -- bytes past the rows that are stored stay as they were: those of a refused step and of later ones, and all past the last step
+  pub run-untouched : (b : ℕ) → 48 * filled (runOf job results .answer) ≤ b → getD (runOf job results .results) b 0 ≡ getD results b 0
+  run-untouched b h = ap (λ (l : List ℕ). getD l b 0) (rows-stored job results) ∙ byte-withRows (filled (runOf job results .answer)) b h
+
+-- a row that is stored
+pub record Stored (job : Job) (results : List ℕ) (i : ℕ) : Type 0 where
+  pub has-row : HasRow job i
+  pub held : Holding results i (rowAt job i)
+
+-- every row before the place where it ends is its step's, also where a later step is refused
+pub run-rows : (job : Job) (results : List ℕ) (i : ℕ) → i < filled (runOf job results .answer) → Stored job (runOf job results .results) i
+run-rows job results i l = go (finished job results) l
+  where
+    stored : (n : ℕ) → 6 * n ≤ wordCount results → ((j : ℕ) → j < n → HasRow job j) → i < n → Stored job (withRows job n results) i
+    stored n w h l = record { has-row = h i l; held = rows-held job results n i w h l }
+
+    by-outcome : {run : Ran} → Passed job results → Outcome job results (stepCount (job .run)) run → i < filled (run .answer) → Stored job (run .results) i
+    by-outcome p (all-rows h) l = unfold filled in stored (stepCount (job .run)) (room p) h l
+    by-outcome p (cut-short k r m h e) l = unfold filled in let w = room p in stored k (omega arith) h l
+
+    go : {run : Ran} → Finished job results run → i < filled (run .answer) → Stored job (run .results) i
+    go (turned-down r e) l = unfold filled in absurd (omega arith)
+    go (stepped p o) l = by-outcome p o l
+
+-- ---- an accepted run
+
+number-above : (r : Refusal) → 0 < numberOf r
+unfolding numberOf
+number-above refusal.Site = omega arith
+number-above refusal.Run = omega arith
+number-above refusal.Surface = omega arith
+number-above refusal.Object = omega arith
+number-above refusal.Series = omega arith
+number-above refusal.Reading = omega arith
+number-above refusal.Results = omega arith
+number-above refusal.Gap = omega arith
+number-above refusal.Turned = omega arith
+number-above refusal.NoSector = omega arith
+number-above refusal.Reveal = omega arith
+number-above refusal.Line = omega arith
+
+-- its steps all have rows, and it comes to this
+unfoldable pub done : Job → List ℕ → Ran
+done job results = let n = stepCount (job .run) in ran (Accepted n (sumTo job n)) (withRows job n results)
+
+pub record AcceptedRun (job : Job) (results : List ℕ) : Type 0 where
+  pub checks : Passed job results
+  pub has-rows : (i : ℕ) → i < stepCount (job .run) → HasRow job i
+  pub comes-to : runOf job results ≡ done job results
+
+pub accepted-run : (job : Job) (results : List ℕ) → numberFor (runOf job results .answer) ≡ 0 → AcceptedRun job results
+accepted-run job results e = go refl (finished job results) e
+  where
+    refused : (r : Refusal) (i : ℕ) → numberFor (Refused r i) ≡ 0 → ⊥
+    refused r i e = unfold numberFor in let h = number-above r in omega arith
+
+    by-outcome : {run : Ran} → runOf job results ≡ run → Passed job results → Outcome job results (stepCount (job .run)) run → numberFor (run .answer) ≡ 0 → AcceptedRun job results
+    by-outcome k p (all-rows h) e = record { checks = p; has-rows = h; comes-to = unfold done in k }
+    by-outcome k p (cut-short i r l h s) e = absurd (refused r i e)
+
+    go : {run : Ran} → runOf job results ≡ run → Finished job results run → numberFor (run .answer) ≡ 0 → AcceptedRun job results
+    go k (turned-down r c) e = absurd (refused r 0 e)
+    go k (stepped p o) e = by-outcome k p o e
+
+-- its results hold every row
+pub done-rows : {job : Job} {results : List ℕ} → AcceptedRun job results → (i : ℕ) → i < stepCount (job .run) → Holding (done job results .results) i (rowAt job i)
+unfolding done
+done-rows {job} {results} a i h = rows-held job results (stepCount (job .run)) i (room (a .checks)) (a .has-rows) h

@@ -1,0 +1,90 @@
+-- A run goes on from a step by its row, ends at a refused one, and ends with the last. A step by what is kept is the step by its
+-- definition.
+use mathlib.Core.Path.{_≡_, refl, sym, _∙_, ap, ap₂}
+use mathlib.Core.List.{List}
+use Prim.Native.Nat.{ℕ, suc, _+_, _-_, _≤_, _<_}
+use native.Mathlib.Omega.{arith}
+use lib.ListN.{length}
+use lib.Ieee.{Float, binary64, toBits}
+use Rattle.words.specs.Words.{putDouble}
+use Rattle.words.proofs.Laws.{length-putWord}
+use Rattle.doubles.specs.Arithmetic.{_⊕_, _⊗_, whole}
+use Rattle.sun.specs.Hour.{hourOf}
+use Rattle.simulation_time.specs.Timestep.{currentHour}
+use Rattle.objects.specs.declared.answers.Refusal.{Refusal}
+use Rattle.objects.specs.Records.{windowObjectsOf}
+use Rattle.objects.specs.declared.surface.Surface.{Surface}
+use Rattle.objects.specs.declared.window.WindowShadingObject.{WindowShadingObject}
+use Rattle.sun.specs.declared.site.Site.{Site}
+use Rattle.jobs.specs.declared.kept.Fixed.{Fixed}
+use Rattle.jobs.specs.declared.kept.KeptDay.{KeptDay}
+use Rattle.jobs.specs.declared.kept.KeptHour.{KeptHour}
+use Rattle.jobs.specs.declared.answers.Row.{Row}
+use Rattle.jobs.specs.declared.answers.StepAnswer.{StepAnswer}
+use Rattle.jobs.specs.declared.answers.StepAnswer.the-variants as step
+use Rattle.jobs.specs.declared.answers.RunAnswer.the-variants.{Accepted, Refused}
+use Rattle.jobs.specs.Job.{Job, indexAt, readingAt}
+use Rattle.jobs.specs.Step.{sunAt, irradianceAt, shadingAt, stepWith, stepAt}
+use Rattle.jobs.specs.Run.{Ran, ran, putRow, withRow, onRow, runFrom}
+use Rattle.jobs.specs.Kept.{fixedOf, keptDay, keptHour, irradianceKept, stepKept}
+
+-- by what is kept
+pub kept-step : (job : Job) (time : Float)
+    → stepKept (job .site) (fixedOf (job .site) (job .surface)) (keptHour (job .site) (job .surface) (job .sectors) (windowObjectsOf (job .window)) (currentHour time)) (readingAt job time)
+    ≡ stepAt job time
+unfolding stepKept irradianceKept keptHour keptDay fixedOf stepAt stepWith sunAt irradianceAt shadingAt
+kept-step job time = refl
+
+pub by-kept : (job : Job) (time : Float) (fixed : Fixed) (kept : KeptHour) (window : List WindowShadingObject) (answer : StepAnswer)
+    → fixed ≡ fixedOf (job .site) (job .surface) → kept ≡ keptHour (job .site) (job .surface) (job .sectors) window (currentHour time)
+    → window ≡ windowObjectsOf (job .window) → answer ≡ stepKept (job .site) fixed kept (readingAt job time) → answer ≡ stepAt job time
+by-kept job time fixed kept window answer f k w e =
+    e
+    ∙ ap₂ (λ (x : Fixed) (y : KeptHour). stepKept (job .site) x y (readingAt job time)) f
+    (k ∙ ap (λ (v : List WindowShadingObject). keptHour (job .site) (job .surface) (job .sectors) v (currentHour time)) w)
+    ∙ kept-step job time
+
+-- what is kept is that of its own hour
+pub of-its-hour : (site : Site) (surface : Surface) (sectors : List ℕ) (window : List WindowShadingObject) (hour : ℕ) (kept : KeptHour)
+    → kept ≡ keptHour site surface sectors window hour → kept ≡ keptHour site surface sectors window (kept .hour)
+unfolding keptHour
+of-its-hour site surface sectors window hour kept e = e ∙ sym (ap (λ (k : KeptHour). keptHour site surface sectors window (k .hour)) e)
+
+pub of-its-day : (index : ℕ) (kept : KeptDay) → kept ≡ keptDay index → kept ≡ keptDay (kept .index)
+unfolding keptDay
+of-its-day index kept e = e ∙ sym (ap (λ (k : KeptDay). keptDay (k .index)) e)
+
+module _ (job : Job) (count i : ℕ) (time sum : Float) (results : List ℕ) where
+  one-left : i < count → count - i ≡ suc (count - (i + 1))
+  one-left h = omega (arith, h)
+
+  pub row-next : (row : Row) → stepAt job time ≡ step.Row row → i < count
+      → runFrom (count - (i + 1)) job (i + 1) (time ⊕ job .run .step) (sum ⊕ row .factor ⊗ row .direct) (putRow results i row) ≡ runFrom (count - i) job i time sum results
+  unfolding runFrom onRow withRow
+  row-next row e h = rw (one-left h, e) refl
+
+  pub refused-here : (r : Refusal) → stepAt job time ≡ step.Refused r → i < count → ran (Refused r i) results ≡ runFrom (count - i) job i time sum results
+  unfolding runFrom onRow
+  refused-here r e h = rw (one-left h, e) refl
+
+  pub at-end : i ≡ count → ran (Accepted count sum) results ≡ runFrom (count - i) job i time sum results
+  unfolding runFrom
+  at-end e = let z : count - i ≡ 0 = omega (arith, e) in rw (z, e) refl
+
+pub at-start : (job : Job) (count : ℕ) (results : List ℕ) → runFrom (count - 0) job 0 (job .run .start) (whole 0) results ≡ runFrom count job 0 (job .run .start) (whole 0) results
+at-start job count results = let z : count - 0 ≡ count = omega arith in ap (λ (n : ℕ). runFrom n job 0 (job .run .start) (whole 0) results) z
+
+-- a stored row leaves the list as long as it was
+length-putDouble : (l : List ℕ) (k : ℕ) (x : Float) → length (putDouble l k x) ≡ length l
+unfolding putDouble
+length-putDouble l k x = length-putWord l k (toBits binary64 x)
+
+pub length-putRow : (l : List ℕ) (i : ℕ) (row : Row) → length (putRow l i row) ≡ length l
+unfolding putRow
+length-putRow l i row =
+    length-putDouble _ _ (row .factor)
+    ∙ length-putDouble _ _ (row .total)
+    ∙ length-putDouble _ _ (row .diffuse)
+    ∙ length-putDouble _ _ (row .direct)
+    ∙ length-putDouble _ _ (row .azimuth)
+    ∙ length-putDouble _ _ (row .altitude)

@@ -1,0 +1,89 @@
+-- Sums from 0, in order, of values that are not negative, and of such values times factors from 0 to 1: they keep the order. Assumes
+-- nothing.
+use mathlib.Core.Path.{_≡_, refl, ap₂, subst}
+use mathlib.Core.Bool.{true, false}
+use Prim.Native.Nat.{ℕ, zero, suc, _*_, _<_}
+use native.Mathlib.Nat.{one-mul}
+use native.Mathlib.Omega.{arith}
+use lib.Dec.{T}
+use lib.Ieee.{Float, nan, inf, fin, binary64, mul, up, down, fits}
+use Rattle.doubles.specs.Arithmetic.{_⊕_, _⊗_, whole}
+use Rattle.doubles.specs.Order.{_≼_, Number, Finite, Fits}
+use Rattle.doubles.proofs.Order.{le-refl, le-trans, finite-number}
+use Rattle.doubles.proofs.Monotone.{add-mono, mul-mono}
+use Rattle.doubles.proofs.Bounds.{zero-number, finite-zero, add-nonneg-number, add-nonneg, mul-number, mul-nonneg, zero-le-one}
+use Rattle.doubles.proofs.Differences.{between-finite}
+use Rattle.doubles.proofs.Exact.{round-own}
+
+-- 1 times a double is that double, bit for bit
+pub one-times : {x : Float} → Fits x → whole 1 ⊗ x ≡ x
+unfolding mul whole
+one-times {x} f = go x (f .holds)
+  where
+    go : (x : Float) → T (fits binary64 x) → whole 1 ⊗ x ≡ x
+    go nan f = refl
+    go (inf true) f = refl
+    go (inf false) f = refl
+    go (fin true m e) f = rw (one-mul (m * up e), one-mul (down e)) (round-own true m e f)
+    go (fin false m e) f = rw (one-mul (m * up e), one-mul (down e)) (round-own false m e f)
+
+-- ---- sums
+
+-- of the first n values, from 0
+unfoldable pub total : (ℕ → Float) → ℕ → Float
+total x zero = whole 0
+total x (suc n) = total x n ⊕ x n
+
+pub total-same : (x y : ℕ → Float) (n : ℕ) → ((i : ℕ) → i < n → x i ≡ y i) → total x n ≡ total y n
+unfolding total
+total-same x y zero h = refl
+total-same x y (suc n) h = ap₂ (λ (s t : Float). s ⊕ t) (total-same x y n (λ i l. h i (omega arith))) (h n (omega arith))
+
+pub total-nonneg : (x : ℕ → Float) (n : ℕ) → ((i : ℕ) → i < n → whole 0 ≼ x i) → whole 0 ≼ total x n
+unfolding total
+total-nonneg x zero h = le-refl zero-number
+total-nonneg x (suc n) h = add-nonneg (total-nonneg x n (λ i l. h i (omega arith))) (h n (omega arith))
+
+pub total-mono : (x y : ℕ → Float) (n : ℕ) → ((i : ℕ) → i < n → whole 0 ≼ x i) → ((i : ℕ) → i < n → x i ≼ y i) → total x n ≼ total y n
+unfolding total
+total-mono x y zero h k = le-refl zero-number
+total-mono x y (suc n) h k =
+    let low : whole 0 ≼ total x n = total-nonneg x n (λ i l. h i (omega arith)) in
+    let rest : total x n ≼ total y n = total-mono x y n (λ i l. h i (omega arith)) (λ i l. k i (omega arith)) in
+    let last : x n ≼ y n = k n (omega arith) in
+    let first : whole 0 ≼ x n = h n (omega arith) in
+    add-mono rest last (add-nonneg-number low first) (add-nonneg-number (le-trans low rest) (le-trans first last))
+
+-- ---- a factor times a value
+
+-- from 0 to 1
+pub record Part (f : Float) : Type 0 where
+  pub low : whole 0 ≼ f
+  pub high : f ≼ whole 1
+
+-- finite and not negative
+pub record Amount (d : Float) : Type 0 where
+  pub finite : Finite d
+  pub low : whole 0 ≼ d
+  pub fits : Fits d
+
+one-finite : Finite (whole 1)
+unfolding whole
+one-finite = record { holds = tt }
+
+module _ {f d : Float} (p : Part f) (a : Amount d) where
+  pub part-number : Number (f ⊗ d)
+  part-number = mul-number (between-finite finite-zero one-finite (p .low) (p .high)) (a .finite)
+
+  pub part-nonneg : whole 0 ≼ f ⊗ d
+  part-nonneg = mul-nonneg (p .low) (a .low) part-number
+
+pub part-mono : {f g d : Float} → Part f → Part g → Amount d → g ≼ f → g ⊗ d ≼ f ⊗ d
+part-mono p q a h = mul-mono (q .low) (a .low) h (le-refl (finite-number (a .finite))) (part-number q a) (part-number p a)
+
+whole-part : Part (whole 1)
+whole-part = record { low = zero-le-one; high = le-refl (finite-number one-finite) }
+
+-- no part is more than the whole
+pub part-le : {f d : Float} → Part f → Amount d → f ⊗ d ≼ d
+part-le {f} {d} p a = subst (λ (x : Float). f ⊗ d ≼ x) (one-times (a .fits)) (part-mono whole-part p a (p .high))

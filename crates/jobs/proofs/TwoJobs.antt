@@ -1,0 +1,237 @@
+-- Two jobs compared: the claim, proved. The laws at one step (`Answers` of `shading`) go through the rows that an accepted run leaves
+-- to the factors in its results list, and by the order of sums to its sum. Assumes nothing.
+use mathlib.Core.Path.{_≡_, refl, sym, ap, ap₂, _∙_, subst, subst₂, subst₃}
+use mathlib.Core.List.{List, []}
+use Prim.Native.Nat.{ℕ, zero, suc, _<_}
+use lib.Ieee.{Float}
+use Rattle.doubles.specs.Arithmetic.{_⊕_, _⊗_, whole}
+use Rattle.doubles.specs.Order.{_≼_, Finite}
+use Rattle.doubles.proofs.Order.{finite-number}
+use Rattle.words.specs.Words.{doubleAt}
+use Rattle.sun.specs.declared.site.Site.{Site}
+use Rattle.simulation_time.specs.Steps.{stepCount, timeAt}
+use Rattle.simulation_time.specs.declared.run.Run.{Run}
+use Rattle.simulation_time.specs.Timestep.{seriesIndex}
+use Rattle.objects.specs.declared.surface.Surface.{Surface}
+use Rattle.objects.specs.declared.sectors.ShadingSegment.{ShadingSegment}
+use Rattle.objects.specs.declared.window.WindowShadingObject.{WindowShadingObject}
+use Rattle.objects.specs.declared.answers.FactorAnswer.the-variants.{Factor}
+use Rattle.objects.specs.Objects.{counted}
+use Rattle.shading.specs.Factor.{shadingFactor}
+use Rattle.objects.specs.Records.{sectorsOf, windowObjectsOf}
+use Rattle.shading.specs.Comparison.{NoNanAt}
+use Rattle.shading.proofs.Answers.{answer-nonneg, answer-le-one, answer-no-objects, answers-more-objects, answers-same-objects}
+use Rattle.jobs.specs.Series.{readSeries}
+use Rattle.jobs.specs.Job.{Job, indexAt, readingAt}
+use Rattle.jobs.specs.Step.{sunAt, irradianceAt, shadingAt}
+use Rattle.jobs.specs.Run.{Ran, withRow, countFor, sumFor}
+use Rattle.jobs.specs.Comparison.{factorAt, directAt, countOf, sumOf, unshadedSum, Alike, BoundedAlike, HoldsAll, SameObjects, NoObjects, NoNan, Doubles, FiniteDirect, Lawful, Compared, TwoJobsCompared}
+use Rattle.jobs.proofs.StepRows.{StepRow, step-row, row-fits, row-direct-nonneg}
+use Rattle.jobs.proofs.PassedChecks.{diffuse-nonneg, surface-accepted, near-accepted}
+use Rattle.jobs.proofs.RunLaws.{rowAt, sumTo, done, AcceptedRun, accepted-run, done-rows}
+use Rattle.jobs.proofs.Sums.{total, total-same, total-nonneg, total-mono, one-times, Part, Amount, part-nonneg, part-mono, part-le}
+use Rattle.jobs.proofs.ObjectLists.{more-in-sectors, same-in-sectors, window-holds, no-window, none-counted, found-has}
+
+-- ---- what an accepted run leaves
+
+-- factor times direct of a step
+shaded : Job → ℕ → Float
+shaded job i = rowAt job i .factor ⊗ rowAt job i .direct
+
+sum-is : (job : Job) (n : ℕ) → sumTo job n ≡ total (shaded job) n
+unfolding sumTo withRow total shaded
+sum-is job zero = refl
+sum-is job (suc n) = ap (λ (s : Float). s ⊕ rowAt job n .factor ⊗ rowAt job n .direct) (sum-is job n)
+
+unshaded-is : (run : Ran) (n : ℕ) → unshadedSum run n ≡ total (directAt run) n
+unfolding unshadedSum total
+unshaded-is run zero = refl
+unshaded-is run (suc n) = ap (λ (s : Float). s ⊕ directAt run n) (unshaded-is run n)
+
+module _ {job : Job} {results : List ℕ} (a : AcceptedRun job results) where
+  count-is : countOf (done job results) ≡ stepCount (job .run)
+  unfolding countOf countFor done
+  count-is = refl
+
+  sum-done : sumOf (done job results) ≡ total (shaded job) (stepCount (job .run))
+  unfolding sumOf sumFor done
+  sum-done = sum-is job (stepCount (job .run))
+
+  factor-is : (i : ℕ) → i < stepCount (job .run) → factorAt (done job results) i ≡ rowAt job i .factor
+  unfolding factorAt
+  factor-is i h = done-rows a i h .factor
+
+  direct-is : (i : ℕ) → i < stepCount (job .run) → directAt (done job results) i ≡ rowAt job i .direct
+  unfolding directAt
+  direct-is i h = done-rows a i h .direct
+
+  -- the step behind a row
+  row-of : (i : ℕ) → i < stepCount (job .run) → StepRow job (timeAt (job .run) i) (rowAt job i)
+  row-of i h = step-row job (timeAt (job .run) i) (rowAt job i) (a .has-rows i h)
+
+  -- its factor is the answer of the lists' records
+  factor-answer : (i : ℕ) → i < stepCount (job .run)
+      → shadingFactor (job .surface) (sunAt (job .site) (timeAt (job .run) i) .altitude) (sunAt (job .site) (timeAt (job .run) i) .azimuth) (sectorsOf (job .sectors)) (windowObjectsOf (job .window))
+      ≡ Factor (rowAt job i .factor)
+  unfolding shadingAt
+  factor-answer i h = row-of i h .factor
+
+-- ---- one run
+
+module _ {job : Job} {results : List ℕ} (a : AcceptedRun job results) (d : Doubles (job .surface)) (n : NoNan job) where
+  part : (i : ℕ) → i < stepCount (job .run) → Part (rowAt job i .factor)
+  part i h = record {
+    low = answer-nonneg (surface-accepted (a .checks) d) (n .at-step i h) (near-accepted (a .checks)) (rowAt job i .factor) (factor-answer a i h);
+    high = answer-le-one (surface-accepted (a .checks) d) (n .at-step i h) (near-accepted (a .checks)) (rowAt job i .factor) (factor-answer a i h);
+  }
+
+  one : NoObjects job → (i : ℕ) → i < stepCount (job .run) → rowAt job i .factor ≡ whole 1
+  one o i h =
+      let sun = sunAt (job .site) (timeAt (job .run) i) in
+      answer-no-objects (sun .altitude) (sun .azimuth) (sectorsOf (job .sectors)) (surface-accepted (a .checks) d)
+      (found-has (λ (s : ShadingSegment). counted s ≡ []) (sun .azimuth) (sectorsOf (job .sectors)) (none-counted (job .sectors) (o .in-sectors)))
+      (rowAt job i .factor)
+      (subst (λ (ws : List WindowShadingObject). shadingFactor (job .surface) (sun .altitude) (sun .azimuth) (sectorsOf (job .sectors)) ws ≡ Factor (rowAt job i .factor))
+      (no-window (job .window) (o .at-window)) (factor-answer a i h))
+
+  amount : FiniteDirect (done job results) → (i : ℕ) → i < stepCount (job .run) → Amount (rowAt job i .direct)
+  amount f i h =
+      let finite : Finite (rowAt job i .direct) = subst Finite (direct-is a i h) (f i (rw (count-is a) h)) in
+      record {
+        finite = finite;
+        low = row-direct-nonneg (row-of a i h) (diffuse-nonneg (a .checks) i h) (finite-number finite);
+        fits = row-fits (row-of a i h) .direct;
+      }
+
+  -- the unshaded sum is that of the rows' direct values
+  unshaded-done : unshadedSum (done job results) (stepCount (job .run)) ≡ total (λ (i : ℕ). rowAt job i .direct) (stepCount (job .run))
+  unshaded-done =
+      unshaded-is (done job results) (stepCount (job .run))
+      ∙ total-same (directAt (done job results)) (λ (i : ℕ). rowAt job i .direct) (stepCount (job .run)) (direct-is a)
+
+  shaded-nonneg : FiniteDirect (done job results) → (i : ℕ) → i < stepCount (job .run) → whole 0 ≼ shaded job i
+  unfolding shaded
+  shaded-nonneg f i h = part-nonneg (part i h) (amount f i h)
+
+  shaded-le : FiniteDirect (done job results) → (i : ℕ) → i < stepCount (job .run) → shaded job i ≼ rowAt job i .direct
+  unfolding shaded
+  shaded-le f i h = part-le (part i h) (amount f i h)
+
+  shaded-one : NoObjects job → (i : ℕ) → i < stepCount (job .run) → shaded job i ≡ rowAt job i .direct
+  unfolding shaded
+  shaded-one o i h = ap (λ (x : Float). x ⊗ rowAt job i .direct) (one o i h) ∙ one-times (row-fits (row-of a i h) .direct)
+
+  lawful : Lawful job (done job results)
+  unfolding countOf countFor done
+  lawful =
+      let n : ℕ = stepCount (job .run) in
+      record {
+        count = count-is a;
+        factor-from = λ i h. rw (factor-is a i h) (part i h .low);
+        factor-to = λ i h. rw (factor-is a i h) (part i h .high);
+        factor-one = λ o i h. factor-is a i h ∙ one o i h;
+        sum-from = λ f. rw (sum-done a) (total-nonneg (shaded job) n (shaded-nonneg f));
+        sum-to = λ f. rw (sum-done a, unshaded-done) (total-mono (shaded job) (λ (i : ℕ). rowAt job i .direct) n (shaded-nonneg f) (shaded-le f));
+        sum-unshaded = λ o. sum-done a ∙ total-same (shaded job) (λ (i : ℕ). rowAt job i .direct) n (shaded-one o) ∙ sym unshaded-done;
+      }
+
+-- ---- both
+
+-- jobs that are alike read the same values
+reading-alike : {j k : Job} → Alike j k → (time : Float) → readingAt j time ≡ readingAt k time
+unfolding readSeries readingAt indexAt
+reading-alike {j} {k} l time =
+    let e : indexAt j time ≡ indexAt k time = ap (λ (s : Site). seriesIndex time (s .«start_day») (s .«time_series_step»)) (l .sites) in
+    λ x. record {
+      diffuse = (l .diffuses .values (indexAt j time) ∙ ap (doubleAt (k .diffuse)) e) x;
+      direct = (l .directs .values (indexAt j time) ∙ ap (doubleAt (k .direct)) e) x;
+      reflectivity = (l .reflectivities .values (indexAt j time) ∙ ap (doubleAt (k .reflectivity)) e) x;
+    }
+
+module _ {j k : Job} {r s : List ℕ} (l : Alike j k) (a : AcceptedRun j r) (b : AcceptedRun k s) where
+  counts-alike : stepCount (j .run) ≡ stepCount (k .run)
+  counts-alike = ap stepCount (l .runs)
+
+  -- the same direct values
+  directs-alike : (i : ℕ) → i < stepCount (j .run) → rowAt j i .direct ≡ rowAt k i .direct
+  directs-alike i h =
+      let time : timeAt (j .run) i ≡ timeAt (k .run) i = ap (λ (run : Run). timeAt run i) (l .runs) in
+      let reading : readingAt j (timeAt (j .run) i) ≡ readingAt k (timeAt (k .run) i) = reading-alike l (timeAt (j .run) i) ∙ ap (readingAt k) time in
+      let parts : irradianceAt (j .site) (j .surface) (timeAt (j .run) i) (readingAt j (timeAt (j .run) i)) .direct
+      ≡ irradianceAt (k .site) (k .surface) (timeAt (k .run) i) (readingAt k (timeAt (k .run) i)) .direct =
+      λ x. irradianceAt (l .sites x) (l .surfaces x) (time x) (reading x) .direct in
+      row-of a i h .direct ∙ parts ∙ sym (row-of b i (rw (← counts-alike) h) .direct)
+
+  -- the second job's answer and extents, at the first one's site, times and surface
+  module _ (d : Doubles (j .surface)) (n : NoNan j) (m : NoNan k) (c : BoundedAlike (j .sectors) (k .sectors)) where
+    second-answer : (i : ℕ) → i < stepCount (j .run)
+        → shadingFactor (j .surface) (sunAt (j .site) (timeAt (j .run) i) .altitude) (sunAt (j .site) (timeAt (j .run) i) .azimuth) (sectorsOf (k .sectors)) (windowObjectsOf (k .window))
+        ≡ Factor (rowAt k i .factor)
+    second-answer i h =
+        subst₃
+        (λ (site : Site) (run : Run) (surface : Surface).
+        shadingFactor surface (sunAt site (timeAt run i) .altitude) (sunAt site (timeAt run i) .azimuth) (sectorsOf (k .sectors)) (windowObjectsOf (k .window)) ≡ Factor (rowAt k i .factor))
+        (sym (l .sites)) (sym (l .runs)) (sym (l .surfaces)) (factor-answer b i (rw (← counts-alike) h))
+
+    second-extents : (i : ℕ) → i < stepCount (j .run)
+        → NoNanAt (j .surface) (sunAt (j .site) (timeAt (j .run) i) .altitude) (sunAt (j .site) (timeAt (j .run) i) .azimuth) (sectorsOf (k .sectors)) (windowObjectsOf (k .window))
+    second-extents i h =
+        subst₃
+        (λ (site : Site) (run : Run) (surface : Surface).
+        NoNanAt surface (sunAt site (timeAt run i) .altitude) (sunAt site (timeAt run i) .azimuth) (sectorsOf (k .sectors)) (windowObjectsOf (k .window)))
+        (sym (l .sites)) (sym (l .runs)) (sym (l .surfaces)) (m .at-step i (rw (← counts-alike) h))
+
+    factors-more : HoldsAll k j → (i : ℕ) → i < stepCount (j .run) → rowAt k i .factor ≼ rowAt j i .factor
+    factors-more o i h =
+        answers-more-objects (surface-accepted (a .checks) d) (n .at-step i h) (second-extents i h) (near-accepted (a .checks)) (near-accepted (b .checks))
+        (rowAt j i .factor) (rowAt k i .factor) (factor-answer a i h) (second-answer i h)
+        (more-in-sectors (j .sectors) (k .sectors) (a .checks .sectors-fine) (b .checks .sectors-fine) c (o .in-sectors))
+        (window-holds (j .window) (k .window) (o .at-window))
+
+    factors-same : SameObjects j k → (i : ℕ) → i < stepCount (j .run) → rowAt j i .factor ≡ rowAt k i .factor
+    factors-same o i h =
+        answers-same-objects (surface-accepted (a .checks) d) (n .at-step i h) (second-extents i h) (near-accepted (a .checks)) (near-accepted (b .checks))
+        (rowAt j i .factor) (rowAt k i .factor) (factor-answer a i h) (second-answer i h)
+        (same-in-sectors (j .sectors) (k .sectors) (a .checks .sectors-fine) (b .checks .sectors-fine) c (o .there .in-sectors) (o .back .in-sectors))
+        (window-holds (j .window) (k .window) (o .there .at-window)) (window-holds (k .window) (j .window) (o .back .at-window))
+
+    shaded-same : SameObjects j k → (i : ℕ) → i < stepCount (j .run) → shaded j i ≡ shaded k i
+    unfolding shaded
+    shaded-same o i h = ap₂ (λ (f e : Float). f ⊗ e) (factors-same o i h) (directs-alike i h)
+
+    second-doubles : Doubles (k .surface)
+    second-doubles = subst Doubles (l .surfaces) d
+
+    shaded-more : HoldsAll k j → FiniteDirect (done j r) → (i : ℕ) → i < stepCount (j .run) → shaded k i ≼ shaded j i
+    unfolding shaded
+    shaded-more o f i h =
+        rw (← directs-alike i h)
+        (part-mono (part a d n i h) (part b second-doubles m i (rw (← counts-alike) h)) (amount a d n f i h) (factors-more o i h))
+
+    shaded-low : HoldsAll k j → FiniteDirect (done j r) → (i : ℕ) → i < stepCount (j .run) → whole 0 ≼ shaded k i
+    unfolding shaded
+    shaded-low o f i h = rw (← directs-alike i h) (part-nonneg (part b second-doubles m i (rw (← counts-alike) h)) (amount a d n f i h))
+
+    compared : Compared j k (done j r) (done k s)
+    unfolding countOf countFor done
+    compared =
+        let count : ℕ = stepCount (j .run) in
+        record {
+          first = lawful a d n;
+          second = lawful b second-doubles m;
+          counts = counts-alike;
+          directs = λ i h. direct-is a i h ∙ directs-alike i h ∙ sym (direct-is b i (rw (← counts-alike) h));
+          same-factors = λ o i h. factor-is a i h ∙ factors-same o i h ∙ sym (factor-is b i (rw (← counts-alike) h));
+          same-sums = λ o. sum-done a ∙ total-same (shaded j) (shaded k) count (shaded-same o) ∙ ap (total (shaded k)) counts-alike ∙ sym (sum-done b);
+          more-factors = λ o i h. rw (factor-is a i h, factor-is b i (rw (← counts-alike) h)) (factors-more o i h);
+          more-sums = λ o f. rw (sum-done a, sum-done b, ← counts-alike) (total-mono (shaded k) (shaded j) count (shaded-low o f) (shaded-more o f));
+        }
+
+-- ---- the claim
+
+pub two-jobs-compared : TwoJobsCompared
+two-jobs-compared j k r s c =
+    let a = accepted-run j r (c .first-accepted) in
+    let b = accepted-run k s (c .second-accepted) in
+    subst₂ (Compared j k) (sym (a .comes-to)) (sym (b .comes-to))
+    (compared (c .alike) a b (c .doubles) (c .first-extents) (c .second-extents) (c .bounded))

@@ -1,0 +1,92 @@
+-- The checks before the first step (refusals 1 to 7), in number order. Ranges compare as numbers: −0.0 counts as 0, and NaN is in no
+-- range.
+use mathlib.Core.Bool.{Bool, true, cond, _&&_}
+use mathlib.Core.List.{List, [], _∷_}
+use Prim.Native.Nat.{ℕ, _*_}
+use lib.Dec.{leb, eqb}
+use lib.IntN.{pos, negℤ}
+use lib.Signed.{leZ}
+use lib.Ieee.{Float, neg}
+use Rattle.doubles.specs.Arithmetic.{whole, decimal}
+use Rattle.words.specs.Words.{wordCount}
+use Rattle.sun.specs.declared.site.Site.{Site}
+use Rattle.simulation_time.specs.Steps.{stepCount, times}
+use Rattle.simulation_time.specs.Checks.{runAccepted}
+use Rattle.objects.specs.declared.answers.Refusal.{Refusal}
+use Rattle.objects.specs.declared.answers.Refusal.the-variants as refusal
+use Rattle.objects.specs.Checks.{within, surfaceFine, sectorsFine, windowFine}
+use Rattle.jobs.specs.declared.answers.Reading.{Reading}
+use Rattle.jobs.specs.declared.answers.Checked.{Checked}
+use Rattle.jobs.specs.declared.answers.Checked.the-variants.{Steps, Refused}
+use Rattle.jobs.specs.Series.{inSeries}
+use Rattle.jobs.specs.Job.{Job, indexAt, readingAt}
+
+-- ---- 1: the site
+
+-- latitude −90..90, longitude −180..180, timezone −13..14, start day 0..365, series step 0.25..24 hours, both flags 0 or 1
+unfoldable pub siteFine : Site → Bool
+unfolding within whole decimal neg
+siteFine site =
+    within (neg (whole 90)) (whole 90) (site .latitude)
+    && within (neg (whole 180)) (whole 180) (site .longitude)
+    && (leZ (negℤ (pos 13)) (site .timezone) && leZ (site .timezone) (pos 14))
+    && leb (site .«start_day») 365
+    && within (decimal 25 2) (whole 24) (site .«time_series_step»)
+    && leb (site .«leap_year») 1
+    && leb (site .«direct_beam_conversion») 1
+
+-- ---- 2: the run
+
+-- every step's hour is below this
+unfoldable pub hoursInYear : Site → ℕ
+hoursInYear site = cond (eqb (site .«leap_year») 1) 8784 8760
+
+-- ---- 5 and 6: the series, at every step
+
+-- a test passes at every time of a list
+unfoldable pub atAll : (Float → Bool) → List Float → Bool
+atAll test [] = true
+atAll test (time ∷ rest) = test time && atAll test rest
+
+-- the index is not past the end of any of the three lists
+unfoldable pub indexFine : Job → Float → Bool
+indexFine job time = inSeries (job .diffuse) (job .direct) (job .reflectivity) (indexAt job time)
+
+-- diffuse and direct 0..10,000 W/m², reflectivity 0..1
+unfoldable pub readingFine : Reading → Bool
+unfolding within whole
+readingFine reading =
+    within (whole 0) (whole 10000) (reading .diffuse)
+    && within (whole 0) (whole 10000) (reading .direct)
+    && within (whole 0) (whole 1) (reading .reflectivity)
+
+-- ---- 7: the results
+
+-- six whole words for each step; a part word counts for nothing
+unfoldable pub resultsFine : Job → List ℕ → Bool
+resultsFine job results = leb (6 * stepCount (job .run)) (wordCount results)
+
+-- ---- all seven
+
+-- a refusal where a test fails, else what comes next
+unfoldable pub tried : Bool → Refusal → Checked → Checked
+tried fine r next = cond fine next (Refused r)
+
+-- 5 to 7, which look at every step
+unfoldable pub seriesChecked : Job → List ℕ → Checked
+unfolding tried
+seriesChecked job results =
+    tried (atAll (indexFine job) (times (job .run))) refusal.Series
+    (tried (atAll (λ (time : Float). readingFine (readingAt job time)) (times (job .run))) refusal.Reading
+    (tried (resultsFine job results) refusal.Results
+    (Steps (stepCount (job .run)))))
+
+-- the number of steps, or the first refusal
+unfoldable pub checked : Job → List ℕ → Checked
+unfolding tried seriesChecked
+checked job results =
+    tried (siteFine (job .site)) refusal.Site
+    (tried (runAccepted (hoursInYear (job .site)) (job .run)) refusal.Run
+    (tried (surfaceFine (job .surface)) refusal.Surface
+    (tried (sectorsFine (job .sectors) && windowFine (job .window)) refusal.Object
+    (seriesChecked job results))))

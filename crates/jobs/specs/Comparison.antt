@@ -1,0 +1,148 @@
+-- Two jobs compared: the specification's terms one by one, and the claim about two whole runs, from the first step to the last, and
+-- their sums. It speaks of what the runs leave: doubles in the results lists, and the answers.
+use mathlib.Core.Path.{_≡_}
+use mathlib.Core.List.{List, [], _∷_}
+use Prim.Native.Nat.{ℕ, zero, suc, _+_, _*_, _/_, _<_}
+use lib.Ieee.{Float}
+use Rattle.doubles.specs.Arithmetic.{_⊕_, whole}
+use Rattle.doubles.specs.Order.{_≼_, Finite, Fits}
+use Rattle.words.specs.Words.{wordCount, wordAt, doubleAt}
+use Rattle.simulation_time.specs.Steps.{stepCount, timeAt}
+use Rattle.objects.specs.declared.surface.Surface.{Surface}
+use Rattle.objects.specs.Records.{recordsFrom, sectorsOf, windowObjectsOf}
+use Rattle.shading.specs.Comparison.{Holds, NoNanAt}
+use Rattle.jobs.specs.Job.{Job}
+use Rattle.jobs.specs.Step.{sunAt}
+use Rattle.jobs.specs.Run.{Ran, runOf, numberFor, countFor, sumFor}
+
+-- ---- what a run leaves
+
+-- the factor compared is a step's sixth double, the unshaded direct value its third
+unfoldable pub factorAt : Ran → ℕ → Float
+factorAt left i = doubleAt (left .results) (6 * i + 5)
+
+unfoldable pub directAt : Ran → ℕ → Float
+directAt left i = doubleAt (left .results) (6 * i + 2)
+
+-- the step count and the sum are those of the answer
+unfoldable pub countOf : Ran → ℕ
+countOf left = countFor (left .answer)
+
+unfoldable pub sumOf : Ran → Float
+sumOf left = sumFor (left .answer)
+
+-- the sum of the first n direct values, from 0, in step order
+unfoldable pub unshadedSum : Ran → ℕ → Float
+unshadedSum left zero = whole 0
+unshadedSum left (suc n) = unshadedSum left n ⊕ directAt left n
+
+-- ---- the terms
+
+-- a job is accepted where the table of refusals gives no number
+abbrev pub IsAccepted : Ran → Type 0
+IsAccepted left = numberFor (left .answer) ≡ 0
+
+-- the same series: equally many whole words, and the same double at each place
+pub record SameSeries (l m : List ℕ) : Type 0 where
+  pub lengths : wordCount l ≡ wordCount m
+  pub values : (i : ℕ) → doubleAt l i ≡ doubleAt m i
+
+-- alike in all but their shading objects: site, run, surface and series are the same
+pub record Alike (j k : Job) : Type 0 where
+  pub sites : j .site ≡ k .site
+  pub runs : j .run ≡ k .run
+  pub surfaces : j .surface ≡ k .surface
+  pub diffuses : SameSeries (j .diffuse) (k .diffuse)
+  pub directs : SameSeries (j .direct) (k .direct)
+  pub reflectivities : SameSeries (j .reflectivity) (k .reflectivity)
+
+-- sectors bounded alike: the lists are equally long, and sectors at the same place have the same start and end
+unfoldable pub sectorCount : List ℕ → ℕ
+sectorCount l = wordCount l / 27
+
+pub record BoundedAlike (l m : List ℕ) : Type 0 where
+  pub lengths : sectorCount l ≡ sectorCount m
+  pub starts : (i : ℕ) → i < sectorCount l → doubleAt l (27 * i) ≡ doubleAt m (27 * i)
+  pub ends : (i : ℕ) → i < sectorCount l → doubleAt l (27 * i + 1) ≡ doubleAt m (27 * i + 1)
+
+-- An object is a counted triple of a sector, or a window object. Two are the same where all their words are: so it is its words.
+unfoldable pub triple : List ℕ → ℕ → List ℕ
+triple l k = wordAt l k ∷ wordAt l (k + 1) ∷ wordAt l (k + 2) ∷ []
+
+unfoldable pub sectorObjects : List ℕ → ℕ → List (List ℕ)
+sectorObjects l i = recordsFrom (λ (n : ℕ). triple l (27 * i + 3 + 3 * n)) 0 (wordAt l (27 * i + 2))
+
+unfoldable pub windowObject : List ℕ → ℕ → List ℕ
+windowObject l i = wordAt l (4 * i) ∷ wordAt l (4 * i + 1) ∷ wordAt l (4 * i + 2) ∷ wordAt l (4 * i + 3) ∷ []
+
+unfoldable pub windowObjects : List ℕ → List (List ℕ)
+windowObjects l = recordsFrom (windowObject l) 0 (wordCount l / 4)
+
+-- k holds all objects of j, sector by sector, and window with window: each of those is somewhere in its list
+pub record HoldsAll (k j : Job) : Type 0 where
+  pub in-sectors : (i : ℕ) → i < sectorCount (j .sectors) → Holds (sectorObjects (k .sectors) i) (sectorObjects (j .sectors) i)
+  pub at-window : Holds (windowObjects (k .window)) (windowObjects (j .window))
+
+-- the same objects: each holds all of the other's
+pub record SameObjects (j k : Job) : Type 0 where
+  pub there : HoldsAll k j
+  pub back : HoldsAll j k
+
+pub record NoObjects (job : Job) : Type 0 where
+  pub in-sectors : (i : ℕ) → i < sectorCount (job .sectors) → sectorObjects (job .sectors) i ≡ []
+  pub at-window : windowObjects (job .window) ≡ []
+
+-- No shade extent is NaN, at any step: the height or width computed for each object at the window and in the sector that is found,
+-- where the sun is inside the beam.
+pub record NoNan (job : Job) : Type 0 where
+  pub at-step : (i : ℕ) → i < stepCount (job .run)
+      → let sun = sunAt (job .site) (timeAt (job .run) i) in
+      NoNanAt (job .surface) (sun .altitude) (sun .azimuth) (sectorsOf (job .sectors)) (windowObjectsOf (job .window))
+
+-- The surface's lengths are doubles, as every number is that a call passes: the type `Float` has other values too, which no double is.
+pub record Doubles (surface : Surface) : Type 0 where
+  pub base-fits : Fits (surface .«base_height»)
+  pub height-fits : Fits (surface .height)
+  pub width-fits : Fits (surface .width)
+
+-- every direct value is finite
+abbrev pub FiniteDirect : Ran → Type 0
+FiniteDirect left = (i : ℕ) → i < countOf left → Finite (directAt left i)
+
+-- ---- the claim
+
+-- Of each run: it has the iterator's steps; every factor lies from 0 to 1, and the sum from 0 to that of the direct values; with no
+-- objects every factor is 1 and the sum is that sum, bit for bit.
+pub record Lawful (job : Job) (left : Ran) : Type 0 where
+  pub count : countOf left ≡ stepCount (job .run)
+  pub factor-from : (i : ℕ) → i < countOf left → whole 0 ≼ factorAt left i
+  pub factor-to : (i : ℕ) → i < countOf left → factorAt left i ≼ whole 1
+  pub factor-one : NoObjects job → (i : ℕ) → i < countOf left → factorAt left i ≡ whole 1
+  pub sum-from : FiniteDirect left → whole 0 ≼ sumOf left
+  pub sum-to : FiniteDirect left → sumOf left ≼ unshadedSum left (countOf left)
+  pub sum-unshaded : NoObjects job → sumOf left ≡ unshadedSum left (countOf left)
+
+-- Of both: as many steps and the same direct values; the same objects, in any order and number, give the same factors and the same
+-- sum, bit for bit; more objects never give a larger factor or sum.
+pub record Compared (j k : Job) (a b : Ran) : Type 0 where
+  pub first : Lawful j a
+  pub second : Lawful k b
+  pub counts : countOf a ≡ countOf b
+  pub directs : (i : ℕ) → i < countOf a → directAt a i ≡ directAt b i
+  pub same-factors : SameObjects j k → (i : ℕ) → i < countOf a → factorAt a i ≡ factorAt b i
+  pub same-sums : SameObjects j k → sumOf a ≡ sumOf b
+  pub more-factors : HoldsAll k j → (i : ℕ) → i < countOf a → factorAt b i ≼ factorAt a i
+  pub more-sums : HoldsAll k j → FiniteDirect a → sumOf b ≼ sumOf a
+
+-- two jobs that may be compared, whatever results lists were lent
+pub record Comparable (j k : Job) (r s : List ℕ) : Type 0 where
+  pub alike : Alike j k
+  pub bounded : BoundedAlike (j .sectors) (k .sectors)
+  pub first-accepted : IsAccepted (runOf j r)
+  pub second-accepted : IsAccepted (runOf k s)
+  pub first-extents : NoNan j
+  pub second-extents : NoNan k
+  pub doubles : Doubles (j .surface)
+
+abbrev pub TwoJobsCompared : Type 0
+TwoJobsCompared = (j k : Job) (r s : List ℕ) → Comparable j k r s → Compared j k (runOf j r) (runOf k s)

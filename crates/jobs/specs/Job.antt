@@ -1,0 +1,39 @@
+-- A job: one call of the run, with what goes in. The series, sectors and window objects are lists of bytes, as they were lent.
+use mathlib.Core.List.{List}
+use Prim.Native.Nat.{ℕ}
+use lib.Ieee.{Float}
+use Rattle.sun.specs.declared.site.Site.{Site}
+use Rattle.simulation_time.specs.declared.run.Run.{Run}
+use Rattle.simulation_time.specs.Timestep.{seriesIndex}
+use Rattle.objects.specs.declared.surface.Surface.{Surface}
+use Rattle.jobs.specs.declared.answers.Reading.{Reading}
+use Rattle.jobs.specs.Series.{readSeries}
+
+pub record Job : Type 0 where
+  pub site : Site
+  pub run : Run
+  pub surface : Surface
+  pub diffuse : List ℕ
+  pub direct : List ℕ
+  pub reflectivity : List ℕ
+  pub sectors : List ℕ
+  pub window : List ℕ
+
+abbrev pub jobOf : Site → Run → Surface → List ℕ → List ℕ → List ℕ → List ℕ → List ℕ → Job
+jobOf site run surface diffuse direct reflectivity sectors window = record {
+  site = site;
+  run = run;
+  surface = surface;
+  diffuse = diffuse;
+  direct = direct;
+  reflectivity = reflectivity;
+  sectors = sectors;
+  window = window;
+}
+
+-- where the series are read at a time: at one index for all three
+unfoldable pub indexAt : Job → Float → ℕ
+indexAt job time = seriesIndex time (job .site .«start_day») (job .site .«time_series_step»)
+
+unfoldable pub readingAt : Job → Float → Reading
+readingAt job time = readSeries (job .diffuse) (job .direct) (job .reflectivity) (indexAt job time)

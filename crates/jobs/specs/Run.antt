@@ -1,0 +1,82 @@
+-- The run: the checks, then step by step.
+use mathlib.Core.List.{List}
+use Prim.Native.Nat.{ℕ, zero, suc, _+_, _*_}
+use lib.Ieee.{Float}
+use Rattle.doubles.specs.Arithmetic.{_⊕_, _⊗_, whole}
+use Rattle.words.specs.Words.{putDouble}
+use Rattle.objects.specs.Refusals.{numberOf}
+use Rattle.jobs.specs.declared.answers.Row.{Row}
+use Rattle.jobs.specs.declared.answers.StepAnswer.{StepAnswer}
+use Rattle.jobs.specs.declared.answers.StepAnswer.the-variants as step
+use Rattle.jobs.specs.declared.answers.Checked.{Checked}
+use Rattle.jobs.specs.declared.answers.Checked.the-variants as check
+use Rattle.jobs.specs.declared.answers.RunAnswer.{RunAnswer}
+use Rattle.jobs.specs.declared.answers.RunAnswer.the-variants.{Accepted, Refused}
+use Rattle.jobs.specs.Job.{Job}
+use Rattle.jobs.specs.Checks.{checked}
+use Rattle.jobs.specs.Step.{stepAt}
+
+-- ---- the answer in the specification's numbers
+
+-- 0 where the job is accepted
+unfoldable pub numberFor : RunAnswer → ℕ
+numberFor (Accepted count sum) = 0
+numberFor (Refused refusal step) = numberOf refusal
+
+unfoldable pub stepFor : RunAnswer → ℕ
+stepFor (Accepted count sum) = 0
+stepFor (Refused refusal step) = step
+
+-- on every refusal the step count and the sum are 0
+unfoldable pub countFor : RunAnswer → ℕ
+countFor (Accepted count sum) = count
+countFor (Refused refusal step) = 0
+
+unfoldable pub sumFor : RunAnswer → Float
+sumFor (Accepted count sum) = sum
+sumFor (Refused refusal step) = whole 0
+
+-- ---- the run
+
+-- what a run comes to: its answer, and the results list as it leaves it
+pub record Ran : Type 0 where
+  pub answer : RunAnswer
+  pub results : List ℕ
+
+abbrev pub ran : RunAnswer → List ℕ → Ran
+ran answer results = record { answer = answer; results = results }
+
+-- the i-th row is six doubles, from word 6·i on
+unfoldable pub putRow : List ℕ → ℕ → Row → List ℕ
+putRow results i row =
+    let k = 6 * i in
+    let altitude = putDouble results k (row .altitude) in
+    let azimuth = putDouble altitude (k + 1) (row .azimuth) in
+    let direct = putDouble azimuth (k + 2) (row .direct) in
+    let diffuse = putDouble direct (k + 3) (row .diffuse) in
+    let total = putDouble diffuse (k + 4) (row .total) in
+    putDouble total (k + 5) (row .factor)
+
+-- the sum with a step's factor times direct
+unfoldable pub withRow : Float → Row → Float
+withRow sum row = sum ⊕ row .factor ⊗ row .direct
+
+-- a refused step ends the run with its number and its place; its row and later places stay as they were
+unfoldable pub onRow : StepAnswer → ℕ → List ℕ → (Row → Ran) → Ran
+onRow (step.Row row) i results next = next row
+onRow (step.Refused refusal) i results next = ran (Refused refusal i) results
+
+-- n steps, from the i-th at `time` on, with the sum and the results that the steps before have left
+unfoldable pub runFrom : ℕ → Job → ℕ → Float → Float → List ℕ → Ran
+runFrom zero job i time sum results = ran (Accepted i sum) results
+runFrom (suc n) job i time sum results =
+    onRow (stepAt job time) i results (λ (row : Row). runFrom n job (i + 1) (time ⊕ job .run .step) (withRow sum row) (putRow results i row))
+
+-- a job that the checks turn down has step 0, and its results stay as they were
+unfoldable pub runChecked : Checked → Job → List ℕ → Ran
+runChecked (check.Steps n) job results = runFrom n job 0 (job .run .start) (whole 0) results
+runChecked (check.Refused refusal) job results = ran (Refused refusal 0) results
+
+-- one call of the run, on the results list that was lent
+unfoldable pub runOf : Job → List ℕ → Ran
+runOf job results = runChecked (checked job results) job results

@@ -1,0 +1,63 @@
+-- One step: the sun in its hour, the irradiance by the series' values, and the factor.
+use mathlib.Core.List.{List}
+use Prim.Native.Nat.{ℕ, _+_, _/_}
+use lib.Dec.{eqb}
+use lib.Ieee.{Float}
+use Rattle.sun.specs.declared.site.Site.{Site}
+use Rattle.sun.specs.declared.hour.Hour.{Hour}
+use Rattle.sun.specs.Day.{dayOf}
+use Rattle.sun.specs.Hour.{sinCosOf, hourOf}
+use Rattle.sun.specs.Orientation.{orientation180}
+use Rattle.irradiance.specs.declared.parts.Irradiance.{Irradiance}
+use Rattle.irradiance.specs.Sky.{skyOf}
+use Rattle.irradiance.specs.Surface.{incidenceOf}
+use Rattle.irradiance.specs.Parts.{irradianceOf}
+use Rattle.simulation_time.specs.Timestep.{currentHour}
+use Rattle.objects.specs.declared.surface.Surface.{Surface}
+use Rattle.objects.specs.declared.answers.FactorAnswer.{FactorAnswer}
+use Rattle.objects.specs.declared.answers.FactorAnswer.the-variants as factor
+use Rattle.shading.specs.Factor.{shadingFactor}
+use Rattle.objects.specs.Records.{sectorsOf, windowObjectsOf}
+use Rattle.jobs.specs.declared.answers.Reading.{Reading}
+use Rattle.jobs.specs.declared.answers.StepAnswer.{StepAnswer}
+use Rattle.jobs.specs.declared.answers.StepAnswer.the-variants as step
+use Rattle.jobs.specs.Job.{Job, readingAt}
+
+-- the sun at a time: that of its hour
+unfoldable pub sunAt : Site → Float → Hour
+sunAt site time = hourOf site (currentHour time)
+
+-- the irradiance on the surface at a time
+unfoldable pub irradianceAt : Site → Surface → Float → Reading → Irradiance
+irradianceAt site surface time reading =
+    let day = dayOf (currentHour time / 24 + 1) in
+    let sun = sunAt site time in
+    let tilt = sinCosOf (surface .tilt) in
+    let sky = skyOf (eqb (site .«direct_beam_conversion») 1) sun (day .«extra_terrestrial_radiation») (reading .diffuse) (reading .direct) in
+    let incidence = incidenceOf (sinCosOf (site .latitude)) (sinCosOf (day .declination)) tilt (sinCosOf (orientation180 (surface .orientation))) sun in
+    irradianceOf tilt incidence sky (sun .«sin_altitude») (reading .reflectivity)
+
+-- the factor of lists of bytes
+unfoldable pub shadingAt : Surface → Hour → List ℕ → List ℕ → FactorAnswer
+shadingAt surface sun sectors window = shadingFactor surface (sun .altitude) (sun .azimuth) (sectorsOf sectors) (windowObjectsOf window)
+
+-- a step has a row where it has a factor
+unfoldable pub rowWith : Hour → Irradiance → FactorAnswer → StepAnswer
+rowWith sun parts (factor.Factor f) = step.Row (record {
+  altitude = sun .altitude;
+  azimuth = sun .azimuth;
+  direct = parts .direct;
+  diffuse = parts .diffuse;
+  total = parts .total;
+  factor = f;
+})
+rowWith sun parts (factor.Refused r) = step.Refused r
+
+-- the step at a time, the values of its series being given
+unfoldable pub stepWith : Site → Surface → List ℕ → List ℕ → Float → Reading → StepAnswer
+stepWith site surface sectors window time reading =
+    rowWith (sunAt site time) (irradianceAt site surface time reading) (shadingAt surface (sunAt site time) sectors window)
+
+-- a job's step at a time
+unfoldable pub stepAt : Job → Float → StepAnswer
+stepAt job time = stepWith (job .site) (job .surface) (job .sectors) (job .window) time (readingAt job time)

@@ -1,0 +1,37 @@
+// What goes into a step and what comes out of a step, of the checks and of a run.
+use objects::answers::Refusal;
+
+// The three series' values that a step uses: W/m², and the ground's reflectivity.
+pub struct Reading {
+    pub diffuse: f64,
+    pub direct: f64,
+    pub reflectivity: f64,
+}
+
+// A step's six results, in the order in which they are stored.
+pub struct Row {
+    pub altitude: f64,
+    pub azimuth: f64,
+    pub direct: f64,
+    pub diffuse: f64,
+    pub total: f64,
+    pub factor: f64,
+}
+
+// A step's row, or why it has none (8 to 11).
+pub enum StepAnswer {
+    Row(Row),
+    Refused(Refusal),
+}
+
+// How many steps a job has that passes the checks before the first step, or why it is turned down (1 to 7).
+pub enum Checked {
+    Steps(u64),
+    Refused(Refusal),
+}
+
+// What a run answers: its step count and the sum of factor times direct, or why and at which step it was turned down.
+pub enum RunAnswer {
+    Accepted { count: u64, sum: f64 },
+    Refused { refusal: Refusal, step: u64 },
+}
