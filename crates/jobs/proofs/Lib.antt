@@ -12,3 +12,4 @@ pub mod Instances
 pub mod AllSteps
 pub mod StepByStep
 pub mod CheckSteps
+pub mod SingleSteps

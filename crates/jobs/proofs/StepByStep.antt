@@ -19,6 +19,7 @@ use Rattle.sun.specs.declared.site.Site.{Site}
 use Rattle.jobs.specs.declared.kept.Fixed.{Fixed}
 use Rattle.jobs.specs.declared.kept.KeptDay.{KeptDay}
 use Rattle.jobs.specs.declared.kept.KeptHour.{KeptHour}
+use Rattle.jobs.specs.declared.answers.Reading.{Reading}
 use Rattle.jobs.specs.declared.answers.Row.{Row}
 use Rattle.jobs.specs.declared.answers.StepAnswer.{StepAnswer}
 use Rattle.jobs.specs.declared.answers.StepAnswer.the-variants as step
@@ -29,20 +30,25 @@ use Rattle.jobs.specs.Run.{Ran, ran, putRow, withRow, onRow, runFrom}
 use Rattle.jobs.specs.Kept.{fixedOf, keptDay, keptHour, irradianceKept, stepKept}
 
 -- by what is kept
-pub kept-step : (job : Job) (time : Float)
-    → stepKept (job .site) (fixedOf (job .site) (job .surface)) (keptHour (job .site) (job .surface) (job .sectors) (windowObjectsOf (job .window)) (currentHour time)) (readingAt job time)
-    ≡ stepAt job time
-unfolding stepKept irradianceKept keptHour keptDay fixedOf stepAt stepWith sunAt irradianceAt shadingAt
-kept-step job time = refl
+module _ (site : Site) (surface : Surface) (sectors window : List ℕ) (time : Float) (reading : Reading) where
+  kept-step : stepKept site (fixedOf site surface) (keptHour site surface sectors (windowObjectsOf window) (currentHour time)) reading
+      ≡ stepWith site surface sectors window time reading
+  unfolding stepKept irradianceKept keptHour keptDay fixedOf stepWith sunAt irradianceAt shadingAt
+  kept-step = refl
 
-pub by-kept : (job : Job) (time : Float) (fixed : Fixed) (kept : KeptHour) (window : List WindowShadingObject) (answer : StepAnswer)
-    → fixed ≡ fixedOf (job .site) (job .surface) → kept ≡ keptHour (job .site) (job .surface) (job .sectors) window (currentHour time)
-    → window ≡ windowObjectsOf (job .window) → answer ≡ stepKept (job .site) fixed kept (readingAt job time) → answer ≡ stepAt job time
-by-kept job time fixed kept window answer f k w e =
-    e
-    ∙ ap₂ (λ (x : Fixed) (y : KeptHour). stepKept (job .site) x y (readingAt job time)) f
-    (k ∙ ap (λ (v : List WindowShadingObject). keptHour (job .site) (job .surface) (job .sectors) v (currentHour time)) w)
-    ∙ kept-step job time
+  pub by-kept : (fixed : Fixed) (kept : KeptHour) (objects : List WindowShadingObject) (answer : StepAnswer) → fixed ≡ fixedOf site surface
+      → kept ≡ keptHour site surface sectors objects (currentHour time) → objects ≡ windowObjectsOf window → answer ≡ stepKept site fixed kept reading
+      → answer ≡ stepWith site surface sectors window time reading
+  by-kept fixed kept objects answer f k w e =
+      e
+      ∙ ap₂ (λ (x : Fixed) (y : KeptHour). stepKept site x y reading) f
+      (k ∙ ap (λ (v : List WindowShadingObject). keptHour site surface sectors v (currentHour time)) w)
+      ∙ kept-step
+
+pub job-step : (job : Job) (time : Float) (answer : StepAnswer) → answer ≡ stepWith (job .site) (job .surface) (job .sectors) (job .window) time (readingAt job time)
+    → answer ≡ stepAt job time
+unfolding stepAt
+job-step job time answer e = e
 
 -- what is kept is that of its own hour
 pub of-its-hour : (site : Site) (surface : Surface) (sectors : List ℕ) (window : List WindowShadingObject) (hour : ℕ) (kept : KeptHour)

@@ -5,3 +5,4 @@ pub mod kept;
 pub mod rows;
 pub mod run;
 pub mod series;
+pub mod single;

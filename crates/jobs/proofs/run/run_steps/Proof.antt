@@ -16,7 +16,7 @@ use Rattle.objects.proofs.AcceptedWindow.{window-places}
 use Rattle.jobs.specs.Job.{Job, jobOf, indexAt, readingAt}
 use Rattle.jobs.specs.Run.{runFrom}
 use Rattle.jobs.specs.Kept.{fixedOf, keptDay, keptHour}
-use Rattle.jobs.proofs.StepByStep.{by-kept, of-its-hour, of-its-day, row-next, refused-here, at-end, at-start, length-putRow}
+use Rattle.jobs.proofs.StepByStep.{by-kept, job-step, of-its-hour, of-its-day, row-next, refused-here, at-end, at-start, length-putRow}
 use Rattle.jobs.proofs.run.run_steps.Statement.{statement}
 use Rattle.jobs.proofs.run.run_steps.Tie as tie
 
@@ -86,7 +86,7 @@ unfolding readingAt indexAt
 returns c = 
     let s = c .before .before .before .before .before .before .before .before .before .before .before .before .before .before .before .before .before .before in
     let q = c .before .before .before .before .before .before .loop in
-    let e = by-kept (job s) (q .time) _ _ _ _ (q .inv .2) (c .before .before .before .before .hour-at .ensures) (q .inv .3) (c .before .before .before .step-at .ensures) in
+    let e = job-step (job s) (q .time) _ (by-kept (s .args .site) (s .args .surface) (now (s .args .sectors)) (now (s .args .window)) (q .time) (readingAt (job s) (q .time)) _ _ _ _ (q .inv .2) (c .before .before .before .before .hour-at .ensures) (q .inv .3) (c .before .before .before .step-at .ensures)) in
     refused-here (job s) (s .args .count) (q .i) (q .time) (q .sum) (q .results) _ (sym e ∙ c .before .answer .given .1) (omega arith) ∙ q .inv .5
 
 enum-known-answer-2 : tie.Need-enum-known-answer-2 Inv-loop μ-loop
@@ -108,7 +108,7 @@ loop-again c =
     let q = c .before .before .before .before .before .before .before .before .before .before .before .before .loop in
     let row = c .before .before .before .before .before .before .before .answer2 .given .0 .0 in
     let kept = c .before .before .before .before .before .before .before .before .before .before .hour-at .ensures in
-    let e = by-kept (job s) (q .time) _ _ _ _ (q .inv .2) kept (q .inv .3) (c .before .before .before .before .before .before .before .before .before .step-at .ensures) in
+    let e = job-step (job s) (q .time) _ (by-kept (s .args .site) (s .args .surface) (now (s .args .sectors)) (now (s .args .window)) (q .time) (readingAt (job s) (q .time)) _ _ _ _ (q .inv .2) kept (q .inv .3) (c .before .before .before .before .before .before .before .before .before .step-at .ensures)) in
     let on = c .before .before .before .before .before .before .before .before .before .before .before .loop-test .taken in
     let stored = c .before .before .before .before .store-row .ensures in
     (
