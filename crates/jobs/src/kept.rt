@@ -106,8 +106,13 @@ pub fn kept_hour(
         fixed.time_shift,
         hour % 24,
     );
-    let incidence =
-        irradiance::surface::incidence_of(latitude, declination, tilt, orientation, sun);
+    let incidence = irradiance::surface::incidence_of(
+        latitude,
+        declination,
+        tilt,
+        orientation,
+        sun,
+    );
     let factor = shading::step::direct_shading_reduction_factor(
         surface,
         sun.altitude,

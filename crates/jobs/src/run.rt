@@ -128,8 +128,15 @@ pub fn run_steps(
     let objects = window_of(window);
     let fixed = fixed_of(site, surface);
     let first = current_hour(run.start);
-    let mut kept =
-        kept_hour(site, surface, fixed, kept_day(first / 24), first, sectors, objects);
+    let mut kept = kept_hour(
+        site,
+        surface,
+        fixed,
+        kept_day(first / 24),
+        first,
+        sectors,
+        objects,
+    );
     let mut time = run.start;
     let mut sum = 0.0;
     let mut i: u64 = 0;

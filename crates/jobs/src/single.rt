@@ -172,8 +172,13 @@ fn irradiance_with(site: Site, time: f64, surface: Surface, reading: Reading) ->
         hour % 24,
     );
     let orientation = fixed.orientation;
-    let incidence =
-        irradiance::surface::incidence_of(latitude, declination, tilt, orientation, sun);
+    let incidence = irradiance::surface::incidence_of(
+        latitude,
+        declination,
+        tilt,
+        orientation,
+        sun,
+    );
     let sky = irradiance::sky::sky_of(
         site.direct_beam_conversion == 1,
         sun,

@@ -24,7 +24,7 @@ init-time-shift-requires c κs = search needs
 
 returns : tie.Need-returns
 unfolding fixedOf
-returns c = 
+returns c =
     let zone : SFits w64 (c .before .before .before .before .before .before .args .site .timezone) = search needs in
     rw (
       c .before .before .before .before .before .sin-cos-of-degrees .ensures,

@@ -15,7 +15,7 @@ returns c = let a = c .before .before .before .before .args in c .before .before
 
 kept-hour-requires : tie.Need-kept-hour-requires
 unfolding keptHour keptDay
-kept-hour-requires c κs = 
+kept-hour-requires c κs =
     let q = c .before .before .before .before .before .pre in
     let day = ap (λ k. k .day) (q .1 .1) in
     (q .0, (day ∙ sym (ap (λ d. keptDay (d .index)) day), q .1 .0))

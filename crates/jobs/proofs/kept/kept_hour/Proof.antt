@@ -19,7 +19,7 @@ direct-shading-reduction-factor-requires c κs = search needs
 
 returns : tie.Need-returns
 unfolding keptHour keptDay fixedOf hourOf
-returns c = 
+returns c =
     let q = c .before .before .before .before .before .before .before .before .before .pre in
     rw (
       c .direct-shading-reduction-factor .ensures,

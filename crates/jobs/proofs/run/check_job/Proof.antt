@@ -32,7 +32,7 @@ check-run-requires c κs = search needs
 
 returns-2 : tie.Need-returns-2
 unfolding checkedRun
-returns-2 c = 
+returns-2 c =
     let s = c .before .before .before .before .before .before .before .before .before .before .before .before in
     let site = sym (c .before .before .before .before .before .site-fine .ensures) ∙ not-false _ (c .before .before .before .before .if1 .left) in
     let h = c .before .before .check-run .ensures ∙ ap (λ n. checkedRun n (s .args .run)) (c .before .before .before .hours-in-year .ensures) in let steps : runAccepted (hoursInYear (s .args .site)) (s .args .run) ≡ false = sym (ap (λ x. x .fine) h) ∙ not-true _ (c .if2 .taken) in
@@ -43,7 +43,7 @@ surface-fine-requires c κs = search needs
 
 returns-3 : tie.Need-returns-3
 unfolding checkedRun
-returns-3 c = 
+returns-3 c =
     let s = c .before .before .before .before .before .before .before .before .before .before .before .before .before .before in
     let site = sym (c .before .before .before .before .before .before .before .site-fine .ensures) ∙ not-false _ (c .before .before .before .before .before .before .if1 .left) in
     let h = c .before .before .before .before .check-run .ensures ∙ ap (λ n. checkedRun n (s .args .run)) (c .before .before .before .before .before .hours-in-year .ensures) in let steps : runAccepted (hoursInYear (s .args .site)) (s .args .run) ≡ true = sym (ap (λ x. x .fine) h) ∙ not-false _ (c .before .before .if2 .left) in
@@ -57,7 +57,7 @@ window-fine-requires c κs = search needs
 
 returns-4 : tie.Need-returns-4
 unfolding checkedRun
-returns-4 c = 
+returns-4 c =
     let s = c .before .before .before .before .before .before .before .before .before .before .before .before .before .before .before .before .before in
     let site = sym (c .before .before .before .before .before .before .before .before .before .before .site-fine .ensures) ∙ not-false _ (c .before .before .before .before .before .before .before .before .before .if1 .left) in
     let h = c .before .before .before .before .before .before .before .check-run .ensures ∙ ap (λ n. checkedRun n (s .args .run)) (c .before .before .before .before .before .before .before .before .hours-in-year .ensures) in let steps : runAccepted (hoursInYear (s .args .site)) (s .args .run) ≡ true = sym (ap (λ x. x .fine) h) ∙ not-false _ (c .before .before .before .before .before .if2 .left) in
@@ -66,7 +66,7 @@ returns-4 c =
 
 check-series-requires : tie.Need-check-series-requires
 unfolding checkedRun
-check-series-requires c κs = 
+check-series-requires c κs =
     let s = c .before .before .before .before .before .before .before .before .before .before .before .before .before .before .before .before .before in
     let site = sym (c .before .before .before .before .before .before .before .before .before .before .site-fine .ensures) ∙ not-false _ (c .before .before .before .before .before .before .before .before .before .if1 .left) in
     let h = c .before .before .before .before .before .before .before .check-run .ensures ∙ ap (λ n. checkedRun n (s .args .run)) (c .before .before .before .before .before .before .before .before .hours-in-year .ensures) in let steps : runAccepted (hoursInYear (s .args .site)) (s .args .run) ≡ true = sym (ap (λ x. x .fine) h) ∙ not-false _ (c .before .before .before .before .before .if2 .left) in
@@ -74,7 +74,7 @@ check-series-requires c κs =
 
 returns-5 : tie.Need-returns-5
 unfolding checkedRun
-returns-5 c = 
+returns-5 c =
     let s = c .before .before .before .before .before .before .before .before .before .before .before .before .before .before .before .before .before .before in
     let site = sym (c .before .before .before .before .before .before .before .before .before .before .before .site-fine .ensures) ∙ not-false _ (c .before .before .before .before .before .before .before .before .before .before .if1 .left) in
     let h = c .before .before .before .before .before .before .before .before .check-run .ensures ∙ ap (λ n. checkedRun n (s .args .run)) (c .before .before .before .before .before .before .before .before .before .hours-in-year .ensures) in let steps : runAccepted (hoursInYear (s .args .site)) (s .args .run) ≡ true = sym (ap (λ x. x .fine) h) ∙ not-false _ (c .before .before .before .before .before .before .if2 .left) in

@@ -48,7 +48,7 @@ readings-fine-requires : tie.Need-readings-fine-requires
 readings-fine-requires c κs = search needs
 
 returns-2 : tie.Need-returns-2
-returns-2 c = 
+returns-2 c =
     let s = c .before .before .before .before .before .before .before .before .before .before .before in
     let i = indices s _ (c .before .before .before .indices-fine .ensures) ∙ not-false _ (c .before .before .if1 .left) in
     reading-refused (job s) (now (s .args .results)) i (readings s _ (c .before .readings-fine .ensures) ∙ not-true _ (c .if2 .taken))
@@ -60,14 +60,14 @@ mul-if3 : tie.Need-mul-if3
 mul-if3 c = let s = c .before .before .before .before .before .before .before .before .before .before .before .before in let z = count-few (s .args .run) in omega (arith, z, s .pre .1)
 
 returns-3 : tie.Need-returns-3
-returns-3 c = 
+returns-3 c =
     let s = c .before .before .before .before .before .before .before .before .before .before .before .before .before in
     let i = indices s _ (c .before .before .before .before .before .indices-fine .ensures) ∙ not-false _ (c .before .before .before .before .if1 .left) in
     let r = readings s _ (c .before .before .before .readings-fine .ensures) ∙ not-false _ (c .before .before .if2 .left) in
     results-refused (job s) (now (s .args .results)) i r (omega (arith, s .pre .1, c .before .word-count .ensures))
 
 returns-4 : tie.Need-returns-4
-returns-4 c = 
+returns-4 c =
     let s = c .before .before .before .before .before .before .before .before .before .before .before .before .before in
     let i = indices s _ (c .before .before .before .before .before .indices-fine .ensures) ∙ not-false _ (c .before .before .before .before .if1 .left) in
     let r = readings s _ (c .before .before .before .readings-fine .ensures) ∙ not-false _ (c .before .before .if2 .left) in

@@ -28,12 +28,11 @@ enum-known-answer-2 : tie.Need-enum-known-answer-2
 enum-known-answer-2 c = search needs
 
 run-steps-requires : tie.Need-run-steps-requires
-run-steps-requires c κs = 
+run-steps-requires c κs =
     let s = c .before .before .before .before .before .before .before .before .before .before .before .before in
     let n = c .before .before .answer2 .given .0 .0 in
     let p = passed (job s) (now (s .args .results)) n (sym (c .before .before .before .before .check-job .ensures) ∙ c .before .before .answer2 .given .1) in
-    let few = count-few (s .args .run) in
-    (
+    let few = count-few (s .args .run) in (
       start-day (s .args .site) (p .0 .site-fine),
       (
         omega (arith, few, p .1),

@@ -58,9 +58,8 @@ kept-hour-requires c κs = (c .before .before .fixed-of .ensures, (of-its-day _ 
 
 loop-holds : tie.Need-loop-holds Inv-loop μ-loop
 unfolding ofBits whole placed
-loop-holds c = 
-    let s = c .before .before .before .before .before .before .before .before .before .before .before in
-    (
+loop-holds c =
+    let s = c .before .before .before .before .before .before .before .before .before .before .before in (
       omega arith,
       refl,
       c .before .before .before .fixed-of .ensures,
@@ -83,7 +82,7 @@ same-length c = c .before .before .before .before .before .before .loop .inv .1
 
 returns : tie.Need-returns Inv-loop μ-loop
 unfolding readingAt indexAt
-returns c = 
+returns c =
     let s = c .before .before .before .before .before .before .before .before .before .before .before .before .before .before .before .before .before .before in
     let q = c .before .before .before .before .before .before .loop in
     let e = job-step (job s) (q .time) _ (by-kept (s .args .site) (s .args .surface) (now (s .args .sectors)) (now (s .args .window)) (q .time) (readingAt (job s) (q .time)) _ _ _ _ (q .inv .2) (c .before .before .before .before .hour-at .ensures) (q .inv .3) (c .before .before .before .step-at .ensures)) in
@@ -103,23 +102,22 @@ loop-less c = omega arith
 
 loop-again : tie.Need-loop-again Inv-loop μ-loop
 unfolding readingAt indexAt
-loop-again c = 
+loop-again c =
     let s = c .before .before .before .before .before .before .before .before .before .before .before .before .before .before .before .before .before .before .before .before .before .before .before .before in
     let q = c .before .before .before .before .before .before .before .before .before .before .before .before .loop in
     let row = c .before .before .before .before .before .before .before .answer2 .given .0 .0 in
     let kept = c .before .before .before .before .before .before .before .before .before .before .hour-at .ensures in
     let e = job-step (job s) (q .time) _ (by-kept (s .args .site) (s .args .surface) (now (s .args .sectors)) (now (s .args .window)) (q .time) (readingAt (job s) (q .time)) _ _ _ _ (q .inv .2) kept (q .inv .3) (c .before .before .before .before .before .before .before .before .before .step-at .ensures)) in
     let on = c .before .before .before .before .before .before .before .before .before .before .before .loop-test .taken in
-    let stored = c .before .before .before .before .store-row .ensures in
-    (
+    let stored = c .before .before .before .before .store-row .ensures in (
       omega (arith, on),
       ap length stored ∙ length-putRow (q .results) (q .i) row ∙ q .inv .1,
       q .inv .2,
       q .inv .3,
       of-its-hour _ _ _ _ _ _ kept,
       ap (runFrom (s .args .count - (q .i + 1)) (job s) (q .i + 1) (q .time ⊕ s .args .run .step) (q .sum ⊕ row .factor ⊗ row .direct)) stored
-      ∙ row-next (job s) (s .args .count) (q .i) (q .time) (q .sum) (q .results) row (sym e ∙ c .before .before .before .before .before .before .before .answer2 .given .1) on
-      ∙ q .inv .5,
+          ∙ row-next (job s) (s .args .count) (q .i) (q .time) (q .sum) (q .results) row (sym e ∙ c .before .before .before .before .before .before .before .answer2 .given .1) on
+          ∙ q .inv .5,
     )
 
 same-length-2 : tie.Need-same-length-2 Inv-loop μ-loop

@@ -42,7 +42,7 @@ loop-less : tie.Need-loop-less Inv-loop μ-loop
 loop-less c = omega arith
 
 loop-again : tie.Need-loop-again Inv-loop μ-loop
-loop-again c = 
+loop-again c =
     let a = c .before .before .before .before .before .before .before .before .args in
     let q = c .before .before .before .before .loop in
     let t = test (now (a .diffuse)) (now (a .direct)) (now (a .reflectivity)) (a .start-day) (a .series-step) in
@@ -50,7 +50,7 @@ loop-again c =
     (omega arith, ap (λ x. (x && q .fine) && left t (a .run .step) (a .count) (q .i + 1) (q .time ⊕ a .run .step)) e ∙ one-more t (a .run .step) (a .count) (q .fine) (q .i) (q .time) (omega arith) ∙ q .inv .1)
 
 returns : tie.Need-returns Inv-loop μ-loop
-returns c = 
+returns c =
     let a = c .before .before .before .before .before .args in
     let q = c .before .loop in
     at-last (test (now (a .diffuse)) (now (a .direct)) (now (a .reflectivity)) (a .start-day) (a .series-step)) (a .run .step) (a .count) (q .fine) (q .i) (q .time) (omega arith) ∙ q .inv .1

@@ -31,7 +31,7 @@ step-row-requires c κs = search needs
 
 returns : tie.Need-returns
 unfolding placed stepKept
-returns c = 
+returns c =
     let s = c .before .before .before .before .before .before .before .before in
     let a = s .args in
     let objects = ap placed (c .before .before .before .before .before .window-of .ensures) ∙ window-places (now (a .window)) (subst T (sym (s .pre .1)) tt) in

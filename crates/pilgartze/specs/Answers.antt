@@ -1,0 +1,46 @@
+-- Answers as they cross to C: the specification's numbers, 0 where accepted; on a refusal all else is 0.
+use lib.Ieee.{Float}
+use lib.IntN.{ℤ}
+use Prim.Native.Nat.{ℕ}
+use Rattle.doubles.specs.Arithmetic.{whole}
+use Rattle.sun.specs.declared.site.Site.{Site}
+use Rattle.simulation_time.specs.declared.run.Run.{Run}
+use Rattle.objects.specs.declared.surface.Surface.{Surface}
+use Rattle.objects.specs.declared.answers.FactorAnswer.{FactorAnswer}
+use Rattle.objects.specs.declared.answers.FactorAnswer.the-variants.{Factor, Refused}
+use Rattle.objects.specs.Refusals.{numberOf}
+use Rattle.jobs.specs.declared.answers.RunAnswer.{RunAnswer}
+use Rattle.jobs.specs.declared.answers.Reading.{Reading}
+use Rattle.jobs.specs.Run.{numberFor, stepFor, countFor, sumFor}
+use Rattle.pilgartze.specs.declared.Answer.{Answer}
+use Rattle.pilgartze.specs.declared.ShadingFactor.{ShadingFactor}
+
+unfoldable pub answerFor : RunAnswer → Answer
+answerFor a = record { number = numberFor a; step = stepFor a; count = countFor a; sum = sumFor a }
+
+unfoldable pub factorFor : FactorAnswer → ShadingFactor
+unfolding whole
+factorFor (Factor x) = record { number = 0; factor = x }
+factorFor (Refused r) = record { number = numberOf r; factor = whole 0 }
+
+-- ---- records of the numbers that a call passes
+
+abbrev pub siteOf : Float → Float → ℤ → ℕ → Float → ℕ → ℕ → Site
+siteOf latitude longitude timezone day step leap conversion = record {
+  latitude = latitude;
+  longitude = longitude;
+  timezone = timezone;
+  «start_day» = day;
+  «time_series_step» = step;
+  «leap_year» = leap;
+  «direct_beam_conversion» = conversion;
+}
+
+abbrev pub timesOf : Float → Float → Float → Run
+timesOf start end step = record { start = start; end = end; step = step }
+
+abbrev pub surfaceOf : Float → Float → Float → Float → Float → Surface
+surfaceOf tilt orientation base height width = record { tilt = tilt; orientation = orientation; «base_height» = base; height = height; width = width }
+
+abbrev pub readingOf : Float → Float → Float → Reading
+readingOf diffuse direct reflectivity = record { diffuse = diffuse; direct = direct; reflectivity = reflectivity }

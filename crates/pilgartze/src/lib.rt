@@ -1,0 +1,264 @@
+// The library that a C program links. Each function checks all that it is given, ends, and touches nothing but the results.
+// `include/pilgartze.h` says the same for C.
+ghost use mathlib.Core.Path.{_≡_};
+ghost use Rattle.shading.specs.Call.{factorCall};
+ghost use Rattle.jobs.specs.Job.{jobOf};
+ghost use Rattle.jobs.specs.Run.{runOf};
+ghost use Rattle.jobs.specs.Single.{singleNumber, stepCall, irradianceCall};
+ghost use Rattle.pilgartze.specs.Answers.{answerFor, factorFor, siteOf, timesOf, surfaceOf, readingOf};
+use jobs::answers::Reading;
+use jobs::answers::RunAnswer;
+use objects::answers::FactorAnswer;
+use objects::answers::number_of;
+use objects::surface::Surface;
+use simulation_time::run::Run;
+use sun::site::Site;
+
+// What a run answers: the refusal's number, or 0, and its step; the step count and the sum, both 0 on a refusal.
+#[repr(C)]
+pub struct Answer {
+    pub number: u64,
+    pub step: u64,
+    pub count: u64,
+    pub sum: f64,
+}
+
+// What a factor call answers: the refusal's number, or 0 and the factor.
+#[repr(C)]
+pub struct ShadingFactor {
+    pub number: u64,
+    pub factor: f64,
+}
+
+fn answer_for(answer: RunAnswer) -> Answer
+    ensures { λ r. ⌜ r ≡ answerFor answer ⌝ }
+{
+    match answer {
+        RunAnswer::Accepted { count, sum } => Answer {
+            number: 0,
+            step: 0,
+            count: count,
+            sum: sum,
+        },
+        RunAnswer::Refused { refusal, step } => Answer {
+            number: number_of(refusal),
+            step: step,
+            count: 0,
+            sum: 0.0,
+        },
+    }
+}
+
+fn factor_for(answer: FactorAnswer) -> ShadingFactor
+    ensures { λ r. ⌜ r ≡ factorFor answer ⌝ }
+{
+    match answer {
+        FactorAnswer::Factor(factor) => ShadingFactor {
+            number: 0,
+            factor: factor,
+        },
+        FactorAnswer::Refused(refusal) => ShadingFactor {
+            number: number_of(refusal),
+            factor: 0.0,
+        },
+    }
+}
+
+// A run: a row of six doubles for each step, and the sum of factor times direct.
+#[no_mangle]
+pub extern "C" fn pilgartze_run(
+    latitude: f64,
+    longitude: f64,
+    timezone: i64,
+    start_day: u64,
+    series_step: f64,
+    leap_year: u64,
+    direct_beam_conversion: u64,
+    start: f64,
+    end: f64,
+    step: f64,
+    tilt: f64,
+    orientation: f64,
+    base_height: f64,
+    height: f64,
+    width: f64,
+    diffuse: &[u8],
+    direct: &[u8],
+    reflectivity: &[u8],
+    sectors: &[u8],
+    window: &[u8],
+    results: &mut [u8],
+) -> Answer
+    ensures { λ r. ⌜ r ≡ answerFor (runOf (jobOf (siteOf latitude longitude timezone «start_day» «series_step» «leap_year» «direct_beam_conversion») (timesOf start end step) (surfaceOf tilt orientation «base_height» height width) (now (diffuse .entry)) (now (direct .entry)) (now (reflectivity .entry)) (now (sectors .entry)) (now (window .entry))) (now (results .entry)) .answer) ⌝ }
+    ensures { λ _. ⌜ now (results .exit) ≡ runOf (jobOf (siteOf latitude longitude timezone «start_day» «series_step» «leap_year» «direct_beam_conversion») (timesOf start end step) (surfaceOf tilt orientation «base_height» height width) (now (diffuse .entry)) (now (direct .entry)) (now (reflectivity .entry)) (now (sectors .entry)) (now (window .entry))) (now (results .entry)) .results ⌝ }
+{
+    let site = Site {
+        latitude: latitude,
+        longitude: longitude,
+        timezone: timezone,
+        start_day: start_day,
+        time_series_step: series_step,
+        leap_year: leap_year,
+        direct_beam_conversion: direct_beam_conversion,
+    };
+    let times = Run {
+        start: start,
+        end: end,
+        step: step,
+    };
+    let surface = Surface {
+        tilt: tilt,
+        orientation: orientation,
+        base_height: base_height,
+        height: height,
+        width: width,
+    };
+    answer_for(jobs::run::run_job(
+        site,
+        times,
+        surface,
+        diffuse,
+        direct,
+        reflectivity,
+        sectors,
+        window,
+        results,
+    ))
+}
+
+// One step: the row that a run has at that time, in the first six words of the results. Answers 0, or the refusal's number.
+#[no_mangle]
+pub extern "C" fn pilgartze_step(
+    latitude: f64,
+    longitude: f64,
+    timezone: i64,
+    start_day: u64,
+    series_step: f64,
+    leap_year: u64,
+    direct_beam_conversion: u64,
+    time: f64,
+    tilt: f64,
+    orientation: f64,
+    base_height: f64,
+    height: f64,
+    width: f64,
+    diffuse: f64,
+    direct: f64,
+    reflectivity: f64,
+    sectors: &[u8],
+    window: &[u8],
+    results: &mut [u8],
+) -> u64
+    ensures { λ r. ⌜ r ≡ singleNumber (stepCall (siteOf latitude longitude timezone «start_day» «series_step» «leap_year» «direct_beam_conversion») time (surfaceOf tilt orientation «base_height» height width) (readingOf diffuse direct reflectivity) (now (sectors .entry)) (now (window .entry)) (now (results .entry)) .answer) ⌝ }
+    ensures { λ _. ⌜ now (results .exit) ≡ stepCall (siteOf latitude longitude timezone «start_day» «series_step» «leap_year» «direct_beam_conversion») time (surfaceOf tilt orientation «base_height» height width) (readingOf diffuse direct reflectivity) (now (sectors .entry)) (now (window .entry)) (now (results .entry)) .results ⌝ }
+{
+    let site = Site {
+        latitude: latitude,
+        longitude: longitude,
+        timezone: timezone,
+        start_day: start_day,
+        time_series_step: series_step,
+        leap_year: leap_year,
+        direct_beam_conversion: direct_beam_conversion,
+    };
+    let surface = Surface {
+        tilt: tilt,
+        orientation: orientation,
+        base_height: base_height,
+        height: height,
+        width: width,
+    };
+    let reading = Reading {
+        diffuse: diffuse,
+        direct: direct,
+        reflectivity: reflectivity,
+    };
+    jobs::single::single_number(jobs::single::step_call(
+        site,
+        time,
+        surface,
+        reading,
+        sectors,
+        window,
+        results,
+    ))
+}
+
+// One step's sun and irradiance with its breakdown, in the first nine words of the results. Answers 0, or the refusal's number.
+#[no_mangle]
+pub extern "C" fn pilgartze_irradiance(
+    latitude: f64,
+    longitude: f64,
+    timezone: i64,
+    start_day: u64,
+    series_step: f64,
+    leap_year: u64,
+    direct_beam_conversion: u64,
+    time: f64,
+    tilt: f64,
+    orientation: f64,
+    base_height: f64,
+    height: f64,
+    width: f64,
+    diffuse: f64,
+    direct: f64,
+    reflectivity: f64,
+    results: &mut [u8],
+) -> u64
+    ensures { λ r. ⌜ r ≡ singleNumber (irradianceCall (siteOf latitude longitude timezone «start_day» «series_step» «leap_year» «direct_beam_conversion») time (surfaceOf tilt orientation «base_height» height width) (readingOf diffuse direct reflectivity) (now (results .entry)) .answer) ⌝ }
+    ensures { λ _. ⌜ now (results .exit) ≡ irradianceCall (siteOf latitude longitude timezone «start_day» «series_step» «leap_year» «direct_beam_conversion») time (surfaceOf tilt orientation «base_height» height width) (readingOf diffuse direct reflectivity) (now (results .entry)) .results ⌝ }
+{
+    let site = Site {
+        latitude: latitude,
+        longitude: longitude,
+        timezone: timezone,
+        start_day: start_day,
+        time_series_step: series_step,
+        leap_year: leap_year,
+        direct_beam_conversion: direct_beam_conversion,
+    };
+    let surface = Surface {
+        tilt: tilt,
+        orientation: orientation,
+        base_height: base_height,
+        height: height,
+        width: width,
+    };
+    let reading = Reading {
+        diffuse: diffuse,
+        direct: direct,
+        reflectivity: reflectivity,
+    };
+    jobs::single::single_number(jobs::single::irradiance_call(
+        site,
+        time,
+        surface,
+        reading,
+        results,
+    ))
+}
+
+// The direct shading factor of one step.
+#[no_mangle]
+pub extern "C" fn pilgartze_factor(
+    altitude: f64,
+    azimuth: f64,
+    tilt: f64,
+    orientation: f64,
+    base_height: f64,
+    height: f64,
+    width: f64,
+    sectors: &[u8],
+    window: &[u8],
+) -> ShadingFactor
+    ensures { λ r. ⌜ r ≡ factorFor (factorCall altitude azimuth (surfaceOf tilt orientation «base_height» height width) (now (sectors .entry)) (now (window .entry))) ⌝ }
+{
+    let surface = Surface {
+        tilt: tilt,
+        orientation: orientation,
+        base_height: base_height,
+        height: height,
+        width: width,
+    };
+    factor_for(shading::step::factor_call(altitude, azimuth, surface, sectors, window))
+}
