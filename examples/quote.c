@@ -54,7 +54,7 @@ static double cloud(int hour)
 {
     const double day = scatter((uint32_t)(hour / 24));
     const double passing = scatter((uint32_t)(hour + 100000));
-    return fmin(1.0, 1.15 * sqrt(0.75 * day + 0.25 * passing));
+    return sqrt(0.75 * day + 0.25 * passing);
 }
 
 /* Diffuse is on the horizontal plane, direct at normal incidence. */
@@ -66,24 +66,22 @@ static void make_weather(double *diffuse, double *direct, double *reflectivity)
         const double clouded = cloud(hour);
         const double beam = height > 0.0 ? 1050.0 * exp(-0.2 / height) : 0.0;
         direct[hour] = beam * (1.0 - clouded);
-        diffuse[hour] = height * (120.0 * (1.0 - clouded) + 330.0 * clouded);
+        diffuse[hour] = height * (120.0 * (1.0 - clouded) + 360.0 * clouded);
         reflectivity[hour] = 0.2;
     }
 }
 
 /* ---- Shade ---------------------------------------------------------------------------------------------------- */
 
-/* A terrace of houses 8.2 m high, along the other side of the street, 18 m away; a side street opens between 150 and
- * 160 degrees. Beyond 60 degrees to either side it ends. */
+/* A terrace of houses 8.2 m high along the other side of the street, 18 m away, that ends 60 degrees to either side. */
 static void make_street(pilgartze_sector *sectors)
 {
     int i;
     for (i = 0; i < SECTORS; i++) {
         const double width = 360.0 / SECTORS;
-        const double middle = width * (i + 0.5);
-        const double aside = middle - window.orientation;
+        const double aside = width * (i + 0.5) - window.orientation;
         sectors[i] = pilgartze_free_sector(width * i, width * (i + 1));
-        if (fabs(aside) < 60.0 && !(middle > 150.0 && middle < 160.0)) {
+        if (fabs(aside) < 60.0) {
             pilgartze_add_object(&sectors[i], pilgartze_distant_obstacle(8.2, 18.0 / cos(radians(aside))));
         }
     }

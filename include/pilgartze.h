@@ -43,7 +43,7 @@
 #if __BYTE_ORDER__ != __ORDER_LITTLE_ENDIAN__
 #error "pilgartze: this machine is not little-endian, and the library's lists are least byte first"
 #endif
-#elif !defined(__x86_64__) && !defined(_M_X64)
+#elif !defined(__x86_64__)
 #error "pilgartze: cannot tell whether this machine is little-endian"
 #endif
 
@@ -204,12 +204,13 @@ typedef struct pilgartze_shading {
 
 /* ---- What comes out ------------------------------------------------------------------------------------------- */
 
-/* A step's results. With the sun square on the surface a rounded sum can be just above 1 and its arccosine, and with it
- * direct, diffuse and total, NaN. */
+/* A step's results. In rare hours rounding makes some of them NaN: with the sun square on the surface direct, diffuse
+ * and total, with the sun overhead the altitude and what follows from it (the factor is then 1). With the sun overhead
+ * the azimuth can also be far beyond 180. */
 typedef struct pilgartze_row {
     double altitude; /* the sun's, above the horizon; 0 at night */
     double azimuth;  /* the sun's, from south, eastwards positive */
-    double direct;   /* W/m2 on the unshaded surface: the beam, and the sky's light from around the sun */
+    double direct;   /* W/m2 on the unshaded surface: the beam, and the sky's light from around the sun; not below 0 */
     double diffuse;  /* W/m2: the rest of the sky's light, and what the ground reflects; can be below 0 */
     double total;    /* direct + diffuse */
     double factor;   /* 0..1, the part of direct that reaches the surface; 1 where it faces away from the sun */
@@ -234,7 +235,7 @@ typedef struct pilgartze_answer {
     uint64_t number; /* an enum pilgartze_refusal; 0: accepted */
     uint64_t step;   /* where number is 8 to 11 the step, from 0, at which the run ended; otherwise 0 */
     uint64_t count;  /* how many steps there are, and rows were stored */
-    double sum;      /* of factor * direct over all steps, W/m2; times the step, for Wh/m2 */
+    double sum;      /* of factor * direct over all steps, W/m2; times the step in hours it is Wh/m2 */
 } pilgartze_answer;
 
 typedef struct pilgartze_factor_answer {
