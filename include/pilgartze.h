@@ -11,7 +11,8 @@
  * - a call ends, and never stops the program;
  * - it checks its own input, and turns down with a number what is out of range (enum pilgartze_refusal);
  * - it reads and writes nothing outside the lists that it is lent;
- * - the answer and every byte of the results follow from the input alone. Only which bits a NaN has is left open.
+ * - the answer and every byte of the results follow from the input alone. A NaN is stored as 7FF8000000000000; only the
+ *   bits of a NaN in the answer's sum are left open.
  * It keeps no state, takes no memory from the heap and calls no other function, not even the C library's mathematics.
  * So any number of threads may call at once, also with the same series, sectors and window, as long as each has results
  * of its own.
