@@ -185,7 +185,7 @@ static void check_early_refusals(void)
     check_refused(&spoilt, PILGARTZE_REFUSED_SITE);
 }
 
-/* 8 to 11: the steps before are stored, and the first of these days are before the sun comes round. */
+/* 8 to 11: the rows of the steps before are stored. The first of them come before the surface faces the sun. */
 static void check_late_refusals(void)
 {
     job spoilt = good_job();
