@@ -1,0 +1,327 @@
+/* A test of include/pilgartze.h without the library: the four functions stand here as recorders, and each field of each
+ * struct must come to them in its place. Good C99 and good C++11. */
+#include "pilgartze.h"
+
+#include <stdio.h>
+
+#define MOST_NUMBERS 16
+#define MOST_LISTS 6
+
+/* What the last call brought: its numbers and its lists, in order. */
+static struct {
+    double numbers[MOST_NUMBERS];
+    const void *lists[MOST_LISTS];
+    size_t lengths[MOST_LISTS];
+    int number_count;
+    int list_count;
+} call;
+
+static int failures = 0;
+static int checks = 0;
+
+static void check(int holds, const char *what, int place)
+{
+    checks += 1;
+    if (!holds) {
+        failures += 1;
+        printf("%s, place %d: not as it should be\n", what, place);
+    }
+}
+
+static void number(double value)
+{
+    call.numbers[call.number_count++] = value;
+}
+
+static void list(const void *bytes, size_t length)
+{
+    call.lists[call.list_count] = bytes;
+    call.lengths[call.list_count++] = length;
+}
+
+static void record_site(double latitude, double longitude, int64_t timezone, uint64_t start_day, double series_step,
+                        uint64_t leap_year, uint64_t direct_beam_conversion)
+{
+    call.number_count = 0;
+    call.list_count = 0;
+    number(latitude);
+    number(longitude);
+    number((double)timezone);
+    number((double)start_day);
+    number(series_step);
+    number((double)leap_year);
+    number((double)direct_beam_conversion);
+}
+
+static void record_surface(double tilt, double orientation, double base_height, double height, double width)
+{
+    number(tilt);
+    number(orientation);
+    number(base_height);
+    number(height);
+    number(width);
+}
+
+static void record_three(double one, double two, double three)
+{
+    number(one);
+    number(two);
+    number(three);
+}
+
+/* ---- The recorders -------------------------------------------------------------------------------------------- */
+
+pilgartze_answer pilgartze_run(
+    double latitude, double longitude, int64_t timezone, uint64_t start_day, double series_step, uint64_t leap_year,
+    uint64_t direct_beam_conversion, double start, double end, double step, double tilt, double orientation,
+    double base_height, double height, double width, const uint8_t *diffuse, size_t diffuse_length,
+    const uint8_t *direct, size_t direct_length, const uint8_t *reflectivity, size_t reflectivity_length,
+    const uint8_t *sectors, size_t sectors_length, const uint8_t *window, size_t window_length, uint8_t *results,
+    size_t results_length)
+{
+    const pilgartze_answer answer = {101, 102, 103, 104.5};
+    record_site(latitude, longitude, timezone, start_day, series_step, leap_year, direct_beam_conversion);
+    record_three(start, end, step);
+    record_surface(tilt, orientation, base_height, height, width);
+    list(diffuse, diffuse_length);
+    list(direct, direct_length);
+    list(reflectivity, reflectivity_length);
+    list(sectors, sectors_length);
+    list(window, window_length);
+    list(results, results_length);
+    return answer;
+}
+
+uint64_t pilgartze_step(
+    double latitude, double longitude, int64_t timezone, uint64_t start_day, double series_step, uint64_t leap_year,
+    uint64_t direct_beam_conversion, double time, double tilt, double orientation, double base_height, double height,
+    double width, double diffuse, double direct, double reflectivity, const uint8_t *sectors, size_t sectors_length,
+    const uint8_t *window, size_t window_length, uint8_t *results, size_t results_length)
+{
+    record_site(latitude, longitude, timezone, start_day, series_step, leap_year, direct_beam_conversion);
+    number(time);
+    record_surface(tilt, orientation, base_height, height, width);
+    record_three(diffuse, direct, reflectivity);
+    list(sectors, sectors_length);
+    list(window, window_length);
+    list(results, results_length);
+    return 105;
+}
+
+uint64_t pilgartze_irradiance(
+    double latitude, double longitude, int64_t timezone, uint64_t start_day, double series_step, uint64_t leap_year,
+    uint64_t direct_beam_conversion, double time, double tilt, double orientation, double base_height, double height,
+    double width, double diffuse, double direct, double reflectivity, uint8_t *results, size_t results_length)
+{
+    record_site(latitude, longitude, timezone, start_day, series_step, leap_year, direct_beam_conversion);
+    number(time);
+    record_surface(tilt, orientation, base_height, height, width);
+    record_three(diffuse, direct, reflectivity);
+    list(results, results_length);
+    return 106;
+}
+
+pilgartze_factor_answer pilgartze_factor(double altitude, double azimuth, double tilt, double orientation,
+                                         double base_height, double height, double width, const uint8_t *sectors,
+                                         size_t sectors_length, const uint8_t *window, size_t window_length)
+{
+    const pilgartze_factor_answer answer = {107, 108.5};
+    call.number_count = 0;
+    call.list_count = 0;
+    number(altitude);
+    number(azimuth);
+    record_surface(tilt, orientation, base_height, height, width);
+    list(sectors, sectors_length);
+    list(window, window_length);
+    return answer;
+}
+
+/* ---- The checks ----------------------------------------------------------------------------------------------- */
+
+/* Every field its own number: the site 1 to 7, the surface 21 to 25. */
+static const pilgartze_site site = {1.5, 2.5, -3, 4, 5.5, 6, 7};
+static const pilgartze_run_times run = {11.5, 12.5, 13.5};
+static const pilgartze_surface surface = {21.5, 22.5, 23.5, 24.5, 25.5};
+static const pilgartze_reading reading = {31.5, 32.5, 33.5};
+static const double diffuse[5] = {0, 0, 0, 0, 0};
+static const double direct[5] = {0, 0, 0, 0, 0};
+static const double reflectivity[5] = {0, 0, 0, 0, 0};
+static pilgartze_sector sectors[3];
+static pilgartze_window_object objects[2];
+static pilgartze_row rows[4];
+
+static void check_numbers(const char *what, const double *expected, int count)
+{
+    int i;
+    check(call.number_count == count, what, -1);
+    for (i = 0; i < count; i++) {
+        check(call.numbers[i] == expected[i], what, i);
+    }
+}
+
+static void check_list(const char *what, int place, const void *bytes, size_t length)
+{
+    check(call.lists[place] == bytes && call.lengths[place] == length, what, place);
+}
+
+static void check_run(const pilgartze_weather *weather, const pilgartze_shading *shading)
+{
+    static const double expected[15] = {1.5,  2.5,  -3,   4,    5.5,  6,    7,   11.5,
+                                        12.5, 13.5, 21.5, 22.5, 23.5, 24.5, 25.5};
+    const pilgartze_answer answer = pilgartze_run_job(&site, &run, &surface, weather, shading, rows, 4);
+    check_numbers("run", expected, 15);
+    check_list("run", 0, diffuse, 40);
+    check_list("run", 1, direct, 40);
+    check_list("run", 2, reflectivity, 40);
+    check_list("run", 3, sectors, 648);
+    check_list("run", 4, objects, 64);
+    check_list("run", 5, rows, 192);
+    check(answer.number == 101 && answer.step == 102 && answer.count == 103 && answer.sum == 104.5, "run's answer", 0);
+}
+
+static void check_single_steps(const pilgartze_shading *shading)
+{
+    static const double expected[16] = {1.5,  2.5,  -3,   4,    5.5,  6,    7,    41.5,
+                                        21.5, 22.5, 23.5, 24.5, 25.5, 31.5, 32.5, 33.5};
+    pilgartze_breakdown breakdown;
+    check(pilgartze_step_at(&site, 41.5, &surface, &reading, shading, &rows[1]) == 105, "step's answer", 0);
+    check_numbers("step", expected, 16);
+    check_list("step", 0, sectors, 648);
+    check_list("step", 1, objects, 64);
+    check_list("step", 2, &rows[1], 48);
+    check(pilgartze_irradiance_at(&site, 41.5, &surface, &reading, &breakdown) == 106, "irradiance's answer", 0);
+    check_numbers("irradiance", expected, 16);
+    check_list("irradiance", 0, &breakdown, 72);
+}
+
+static void check_factor(const pilgartze_shading *shading)
+{
+    static const double expected[7] = {51.5, 52.5, 21.5, 22.5, 23.5, 24.5, 25.5};
+    const pilgartze_factor_answer answer = pilgartze_factor_at(51.5, 52.5, &surface, shading);
+    check_numbers("factor", expected, 7);
+    check_list("factor", 0, sectors, 648);
+    check_list("factor", 1, objects, 64);
+    check(answer.number == 107 && answer.factor == 108.5, "factor's answer", 0);
+}
+
+static void check_empty(const char *what, int count)
+{
+    int i;
+    check(call.list_count == count, what, -1);
+    for (i = 0; i < count; i++) {
+        check(call.lists[i] != NULL, what, i);
+        check(call.lengths[i] == 0, what, i);
+    }
+}
+
+/* Empty lists that are NULL: any pointer but NULL, and length 0. A count of -1 wraps to no small length. */
+static void check_empty_lists(void)
+{
+    const pilgartze_weather no_weather = {NULL, NULL, NULL, 0};
+    const pilgartze_shading no_shading = {NULL, 0, NULL, 0};
+    const pilgartze_shading wrong = {sectors, (size_t)1 << 61, objects, (size_t)-1};
+    pilgartze_run_job(&site, &run, &surface, &no_weather, &no_shading, NULL, 0);
+    check_empty("empty run", 6);
+    pilgartze_step_at(&site, 41.5, &surface, &reading, &no_shading, &rows[0]);
+    call.list_count = 2;
+    check_empty("empty step", 2);
+    pilgartze_factor_at(51.5, 52.5, &surface, &no_shading);
+    check_empty("empty factor", 2);
+    pilgartze_factor_at(51.5, 52.5, &surface, &wrong);
+    check(call.lengths[0] > 36 * 216 && call.lengths[1] > 16 * 32, "wrong counts", 0);
+}
+
+/* Records as the library reads them: word by word. */
+static void check_words(const char *what, const void *record, const double *expected, int count)
+{
+    int i;
+    for (i = 0; i < count; i++) {
+        double value;
+        memcpy(&value, (const char *)record + 8 * i, 8);
+        check(memcmp(&value, &expected[i], 8) == 0, what, i);
+    }
+}
+
+/* A whole number's word, read as a double. */
+static double word(uint64_t whole)
+{
+    double value;
+    memcpy(&value, &whole, 8);
+    return value;
+}
+
+static void check_sector(void)
+{
+    double expected[27] = {61.5, 62.5, 0, 0, 63.5, 64.5, 0, 65.5, 66.5};
+    pilgartze_sector sector = pilgartze_free_sector(61.5, 62.5);
+    int i;
+    check(pilgartze_add_object(&sector, pilgartze_distant_obstacle(63.5, 64.5)), "first object", 0);
+    check(pilgartze_add_object(&sector, pilgartze_distant_overhang(65.5, 66.5)), "second object", 0);
+    expected[2] = word(2);
+    expected[6] = word(1);
+    check_words("sector", &sector, expected, 27);
+    for (i = 2; i < 8; i++) {
+        check(pilgartze_add_object(&sector, pilgartze_distant_obstacle(1, 1)), "further object", i);
+    }
+    check(!pilgartze_add_object(&sector, pilgartze_distant_obstacle(1, 1)), "ninth object", 8);
+    check(sector.count == 8, "full sector", 0);
+}
+
+static void check_window_object(const char *what, pilgartze_window_object object, uint64_t kind, double third)
+{
+    double expected[4] = {0, 71.5, 72.5, 0};
+    expected[0] = word(kind);
+    expected[3] = third;
+    check_words(what, &object, expected, 4);
+}
+
+static void check_objects(void)
+{
+    check_window_object("obstacle", pilgartze_obstacle(71.5, 72.5, 0.25), 0, 0.25);
+    check_window_object("overhang", pilgartze_overhang(71.5, 72.5), 1, 0);
+    check_window_object("right fin", pilgartze_right_fin(71.5, 72.5), 2, 0);
+    check_window_object("left fin", pilgartze_left_fin(71.5, 72.5), 3, 0);
+    check_window_object("reveal", pilgartze_reveal(71.5, 72.5), 4, 0);
+}
+
+static void check_results(void)
+{
+    static const double stored[9] = {1, 2, 3, 4, 5, 6, 7, 8, 9};
+    pilgartze_row row;
+    pilgartze_breakdown all;
+    memcpy(&row, stored, sizeof row);
+    memcpy(&all, stored, sizeof all);
+    check(row.altitude == 1 && row.azimuth == 2 && row.direct == 3, "row", 0);
+    check(row.diffuse == 4 && row.total == 5 && row.factor == 6, "row", 3);
+    check(all.altitude == 1 && all.azimuth == 2 && all.direct == 3, "breakdown", 0);
+    check(all.diffuse == 4 && all.total == 5 && all.sky == 6, "breakdown", 3);
+    check(all.circumsolar == 7 && all.horizontal == 8 && all.ground == 9, "breakdown", 6);
+}
+
+static void check_refusal_words(void)
+{
+    static const char *const expected[14] = {"accepted", "site",    "run", "surface", "object",    "series", "reading",
+                                             "results",  "gap",     "turned", "no sector", "reveal", "line", "unknown"};
+    uint64_t i;
+    for (i = 0; i < 14; i++) {
+        check(strcmp(pilgartze_refusal_word(i), expected[i]) == 0, "word", (int)i);
+    }
+    check(strcmp(pilgartze_refusal_word(UINT64_C(1) << 63), "unknown") == 0, "word", -1);
+    check(PILGARTZE_REFUSED_SITE == 1 && PILGARTZE_REFUSED_RESULTS == 7 && PILGARTZE_REFUSED_LINE == 12, "enum", 0);
+}
+
+int main(void)
+{
+    const pilgartze_weather weather = {diffuse, direct, reflectivity, 5};
+    const pilgartze_shading shading = {sectors, 3, objects, 2};
+    check_run(&weather, &shading);
+    check_single_steps(&shading);
+    check_factor(&shading);
+    check_empty_lists();
+    check_sector();
+    check_objects();
+    check_results();
+    check_refusal_words();
+    printf("arguments: %d of %d checks held\n", checks - failures, checks);
+    return failures == 0 ? 0 : 1;
+}

@@ -1,0 +1,475 @@
+/* pilgartze.h: sun, sky and shade on one surface, for C99 and C++11. Link with libpilgartze.a (x86-64, Linux).
+ *
+ * A site, its weather and a surface go in. For each step of a run the sun's position, the irradiance on the surface and
+ * a direct shading factor come out, and the sum of factor times direct irradiance over all steps.
+ *
+ * Four functions are in the library: pilgartze_run, pilgartze_step, pilgartze_irradiance and pilgartze_factor. They
+ * take plain numbers and lists of bytes. Below them stand inline functions that take structs and arrays in their place:
+ * pilgartze_run_job, pilgartze_step_at, pilgartze_irradiance_at and pilgartze_factor_at. Most programs need only these.
+ *
+ * What the library promises. It is proved, for every input, that
+ * - a call ends, and never stops the program;
+ * - it checks its own input, and turns down with a number what is out of range (enum pilgartze_refusal);
+ * - it reads and writes nothing outside the lists that it is lent;
+ * - the answer and every byte of the results follow from the input alone. A NaN is stored as 7FF8000000000000; only the
+ *   bits of a NaN in the answer's sum are left open.
+ * It keeps no state, takes no memory from the heap and calls no other function, not even the C library's mathematics.
+ * So any number of threads may call at once, also with the same series, sectors and window, as long as each has results
+ * of its own.
+ *
+ * What the library asks, as any C function does:
+ * - A list's pointer and length name memory that is there, and no other thread writes to it during the call.
+ * - The results overlap no other list. (The lists that are only read may overlap each other.)
+ * - An empty list of a raw call has length 0 and any pointer but NULL. The inline functions see to that: there a list
+ *   with count 0 may be NULL.
+ *
+ * Angles are in degrees, lengths in metres, times in hours, irradiance in W/m2. "a..b" includes both ends. A NaN is in
+ * no range; -0.0 counts as 0, so it is in 0..b and is not "above 0".
+ *
+ * Two ways of counting directions:
+ * - An orientation (of a surface, of a sector's ends) is 0..360, clockwise from north: north 0, east 90, south 180,
+ *   west 270.
+ * - The sun's azimuth is counted from south, eastwards positive: south 0, east 90, west -90, north 180 or -180.
+ *   azimuth = 180 - orientation.
+ */
+#ifndef PILGARTZE_H
+#define PILGARTZE_H
+
+#include <float.h>
+#include <stddef.h>
+#include <stdint.h>
+#include <string.h>
+
+#if defined(__BYTE_ORDER__) && defined(__ORDER_LITTLE_ENDIAN__)
+#if __BYTE_ORDER__ != __ORDER_LITTLE_ENDIAN__
+#error "pilgartze: this machine is not little-endian, and the library's lists are least byte first"
+#endif
+#elif !defined(__x86_64__)
+#error "pilgartze: cannot tell whether this machine is little-endian"
+#endif
+
+#if FLT_RADIX != 2 || DBL_MANT_DIG != 53 || DBL_MAX_EXP != 1024
+#error "pilgartze: a double of this compiler is not binary64"
+#endif
+
+#ifdef __cplusplus
+extern "C" {
+#endif
+
+/* ---- Refusals ------------------------------------------------------------------------------------------------- */
+
+/* Why a call is turned down; 0 where it is not. Where several hold, the one that is tried first is given: 1 to 7 in
+ * number order, over all steps, before anything is computed or stored; then 8 to 11, step by step. */
+enum pilgartze_refusal {
+    PILGARTZE_ACCEPTED = 0,
+    /* site: a field of the site is out of range. */
+    PILGARTZE_REFUSED_SITE = 1,
+    /* run: a field of the run is out of range, or a step's hour is not in the year (8760 hours, in a leap year 8784);
+     * in a single-step call, a time that is out of range or whose hour is not in the year. */
+    PILGARTZE_REFUSED_RUN = 2,
+    /* surface: a field of the surface is out of range; also the sun's altitude or azimuth in a call of the factor. */
+    PILGARTZE_REFUSED_SURFACE = 3,
+    /* object: in a sector or at the window a field is out of range, a kind is not known, a count is above 8, an unused
+     * object or word is not all bits zero, or a list is too long or ends amid a record. */
+    PILGARTZE_REFUSED_OBJECT = 4,
+    /* series: a step needs a value past the end of a series. */
+    PILGARTZE_REFUSED_SERIES = 5,
+    /* reading: a value of a series that a step needs is out of range. */
+    PILGARTZE_REFUSED_READING = 6,
+    /* results: the results list is too short for the steps. */
+    PILGARTZE_REFUSED_RESULTS = 7,
+    /* gap: a sector does not start where the one before it ends. */
+    PILGARTZE_REFUSED_GAP = 8,
+    /* turned: a sector ends below its start. */
+    PILGARTZE_REFUSED_TURNED = 9,
+    /* no sector: the sun is in none of the sectors. */
+    PILGARTZE_REFUSED_NO_SECTOR = 10,
+    /* reveal: the sun shines on the surface and there is a reveal at the window, for which there is no factor. */
+    PILGARTZE_REFUSED_REVEAL = 11,
+    /* line: a line of a shade listing is malformed. The shade listing has this number; no call below gives it. */
+    PILGARTZE_REFUSED_LINE = 12
+};
+
+/* The word of a number: "accepted" for 0, "unknown" for a number that no call gives. */
+static inline const char *pilgartze_refusal_word(uint64_t number)
+{
+    static const char *const words[] = {"accepted", "site", "run", "surface", "object", "series", "reading",
+                                        "results", "gap", "turned", "no sector", "reveal", "line"};
+    return number < sizeof words / sizeof words[0] ? words[number] : "unknown";
+}
+
+/* ---- What goes in --------------------------------------------------------------------------------------------- */
+
+/* Where the surface stands, and how the weather series are to be read. */
+typedef struct pilgartze_site {
+    double latitude;                 /* -90..90, north positive */
+    double longitude;                /* -180..180, east positive */
+    int64_t timezone;                /* -13..14, hours ahead of UTC */
+    uint64_t start_day;              /* 0..365, the day of the year, from 0, on which the series begin */
+    double series_step;              /* 0.25..24, hours from one value of a series to the next */
+    uint64_t leap_year;              /* 0 or 1 */
+    uint64_t direct_beam_conversion; /* 0: the direct series is the beam at normal incidence;
+                                        1: it is the beam on the horizontal plane, and is converted */
+} pilgartze_site;
+
+/* The steps of a run, in hours from the start of the year. The first step is at start; after a step at time t another
+ * follows, at t + step, as long as t < end - step (each sum and difference rounded). Start = end is a run of no steps,
+ * start above end is a run of one. Note that the count is not always the ceiling of (end - start) / step: 0 to 3 by 0.3
+ * is 11 steps. The sun of a step is that of the middle of its hour. */
+typedef struct pilgartze_run_times {
+    double start; /* 0..8784 */
+    double end;   /* above 0, up to 8784 */
+    double step;  /* 0.25..24 */
+} pilgartze_run_times;
+
+/* No accepted run has more steps than this, so that as many rows are always enough. */
+#define PILGARTZE_MOST_STEPS 35137
+
+typedef struct pilgartze_surface {
+    double tilt;        /* 0..180: 0 faces the sky, 90 is upright, 180 faces the ground */
+    double orientation; /* 0..360, clockwise from north: which way the surface faces */
+    double base_height; /* 0..1000, from the ground to the lower edge */
+    double height;      /* 0.001..1000 */
+    double width;       /* 0.001..1000 */
+} pilgartze_surface;
+
+/* Kinds of distant objects. */
+enum pilgartze_object_kind { PILGARTZE_DISTANT_OBSTACLE = 0, PILGARTZE_DISTANT_OVERHANG = 1 };
+
+/* A distant object, in a sector. */
+typedef struct pilgartze_object {
+    uint64_t kind;   /* an enum pilgartze_object_kind */
+    double height;   /* above 0, up to 1000: of an obstacle's top, or an overhang's lower edge, above the ground */
+    double distance; /* above 0, up to 10000, from the surface */
+} pilgartze_object;
+
+#define PILGARTZE_MOST_OBJECTS 8
+
+/* A part of the horizon with the objects that stand there. A list has at most 36 sectors; each starts where the one
+ * before it ends. The sun is in a sector where it is strictly between its ends: a sun exactly on a border is in none,
+ * and so is one exactly in the north. Whether there is a gap is looked at only up to the sector with the sun.
+ * Let the sectors go all the way round, from 0 to 360: where the surface faces a sun that is in no sector the step is
+ * refused (10), and that can be so at night too, when the altitude is 0. With nothing in the distance one free sector
+ * from 0 to 360 does. */
+typedef struct pilgartze_sector {
+    double start;                                     /* 0..360, clockwise from north */
+    double end;                                       /* 0..360 */
+    uint64_t count;                                   /* 0..8, how many of the objects are used */
+    pilgartze_object objects[PILGARTZE_MOST_OBJECTS]; /* the others are all bits zero */
+} pilgartze_sector;
+
+#define PILGARTZE_MOST_SECTORS 36
+
+/* Kinds of objects at the window. Left and right are those of one who looks out. */
+enum pilgartze_window_kind {
+    PILGARTZE_OBSTACLE = 0,
+    PILGARTZE_OVERHANG = 1,
+    PILGARTZE_RIGHT_FIN = 2, /* seldom shades: only where the azimuth less (180 - orientation) is below -270 */
+    PILGARTZE_LEFT_FIN = 3,
+    PILGARTZE_REVEAL = 4 /* refused (11) when the sun shines on the surface */
+};
+
+/* An object at the window. A list has at most 16. */
+typedef struct pilgartze_window_object {
+    uint64_t kind;       /* an enum pilgartze_window_kind */
+    double size;         /* above 0, up to 1000: an obstacle's height above the ground, any other's depth */
+    double distance;     /* 0..10000: from an obstacle to the window, from any other to the window's edge */
+    double transparency; /* an obstacle's, 0..1; of any other kind all bits zero (0.0, not -0.0) */
+} pilgartze_window_object;
+
+#define PILGARTZE_MOST_WINDOW_OBJECTS 16
+
+/* The weather series. A step uses the value at the floor of (time - 24 * start_day) / series_step; below 0 it uses the
+ * first. Values that no step uses may be anything. */
+typedef struct pilgartze_weather {
+    const double *diffuse;      /* 0..10000 W/m2, on the horizontal plane */
+    const double *direct;       /* 0..10000 W/m2, see direct_beam_conversion */
+    const double *reflectivity; /* 0..1, of the ground */
+    size_t count;               /* how many values each of the three has */
+} pilgartze_weather;
+
+/* One value of each series, for the single-step calls. */
+typedef struct pilgartze_reading {
+    double diffuse;      /* 0..10000 W/m2 */
+    double direct;       /* 0..10000 W/m2 */
+    double reflectivity; /* 0..1 */
+} pilgartze_reading;
+
+/* All that may shade the surface. */
+typedef struct pilgartze_shading {
+    const pilgartze_sector *sectors;
+    size_t sector_count; /* 0..36 */
+    const pilgartze_window_object *window;
+    size_t window_count; /* 0..16 */
+} pilgartze_shading;
+
+/* ---- What comes out ------------------------------------------------------------------------------------------- */
+
+/* A step's results. In rare hours rounding makes some of them NaN: with the sun square on the surface direct, diffuse
+ * and total, with the sun overhead the altitude and what follows from it (the factor is then 1). With the sun overhead
+ * the azimuth can also be far beyond 180. */
+typedef struct pilgartze_row {
+    double altitude; /* the sun's, above the horizon; 0 at night */
+    double azimuth;  /* the sun's, from south, eastwards positive */
+    double direct;   /* W/m2 on the unshaded surface: the beam, and the sky's light from around the sun; not below 0 */
+    double diffuse;  /* W/m2: the rest of the sky's light, and what the ground reflects; can be below 0 */
+    double total;    /* direct + diffuse */
+    double factor;   /* 0..1, the part of direct that reaches the surface; 1 where it faces away from the sun */
+} pilgartze_row;
+
+/* The irradiance on the unshaded surface and what it is added up of, in W/m2. Direct includes circumsolar; diffuse is
+ * sky, horizontal and ground together. */
+typedef struct pilgartze_breakdown {
+    double altitude;
+    double azimuth;
+    double direct;
+    double diffuse;
+    double total;
+    double sky;         /* from the sky as a whole */
+    double circumsolar; /* from the sky around the sun */
+    double horizontal;  /* from the sky near the horizon; can be below 0 */
+    double ground;      /* reflected by the ground */
+} pilgartze_breakdown;
+
+/* A run's answer. Where number is not 0, count and sum are 0. */
+typedef struct pilgartze_answer {
+    uint64_t number; /* an enum pilgartze_refusal; 0: accepted */
+    uint64_t step;   /* where number is 8 to 11 the step, from 0, at which the run ended; otherwise 0 */
+    uint64_t count;  /* how many steps there are, and rows were stored */
+    double sum;      /* of factor * direct over all steps, W/m2; times the step in hours it is Wh/m2 */
+} pilgartze_answer;
+
+typedef struct pilgartze_factor_answer {
+    uint64_t number; /* an enum pilgartze_refusal; 0: accepted */
+    double factor;   /* 0..1; 0 where refused */
+} pilgartze_factor_answer;
+
+/* The structs are the library's records, byte for byte. */
+#define PILGARTZE_SIZE(type, size) typedef char type##_has_##size##_bytes[sizeof(type) == (size) ? 1 : -1]
+PILGARTZE_SIZE(double, 8);
+PILGARTZE_SIZE(pilgartze_object, 24);
+PILGARTZE_SIZE(pilgartze_sector, 216);
+PILGARTZE_SIZE(pilgartze_window_object, 32);
+PILGARTZE_SIZE(pilgartze_row, 48);
+PILGARTZE_SIZE(pilgartze_breakdown, 72);
+PILGARTZE_SIZE(pilgartze_answer, 32);
+PILGARTZE_SIZE(pilgartze_factor_answer, 16);
+#undef PILGARTZE_SIZE
+
+/* ---- The library's functions ---------------------------------------------------------------------------------- */
+
+/* Numbers in the order of the structs above, then lists, each a pointer and a length in bytes. A series is a list of
+ * doubles, sectors are records of 216 bytes (struct pilgartze_sector), window objects of 32, results of 48 or 72; every
+ * word is 8 bytes, least byte first. Pointers need no alignment. A part of a double at the end of a series or of
+ * results counts for nothing. */
+
+/* A run over all steps. Accepted: one row of 48 bytes for each step, in order; bytes past the last row are untouched.
+ * Refused 1 to 7: nothing is stored. Refused 8 to 11 at a step: the rows of the steps before it are stored, all other
+ * bytes are untouched. */
+pilgartze_answer pilgartze_run(
+    double latitude, double longitude, int64_t timezone, uint64_t start_day, double series_step, uint64_t leap_year,
+    uint64_t direct_beam_conversion, double start, double end, double step, double tilt, double orientation,
+    double base_height, double height, double width, const uint8_t *diffuse, size_t diffuse_length,
+    const uint8_t *direct, size_t direct_length, const uint8_t *reflectivity, size_t reflectivity_length,
+    const uint8_t *sectors, size_t sectors_length, const uint8_t *window, size_t window_length, uint8_t *results,
+    size_t results_length);
+
+/* One step: the row that a run has at that time, with these values of the series. Time is 0..8784 with its hour in the
+ * year, else it is refused 2. Gives the number: 0, or 1, 2, 3, 4, 6, 7, 8 to 11, tried in this order. Accepted: 48
+ * bytes are stored, the rest is untouched. Refused: nothing is stored. */
+uint64_t pilgartze_step(
+    double latitude, double longitude, int64_t timezone, uint64_t start_day, double series_step, uint64_t leap_year,
+    uint64_t direct_beam_conversion, double time, double tilt, double orientation, double base_height, double height,
+    double width, double diffuse, double direct, double reflectivity, const uint8_t *sectors, size_t sectors_length,
+    const uint8_t *window, size_t window_length, uint8_t *results, size_t results_length);
+
+/* The sun and the irradiance of one step, with its breakdown and without shade. Gives the number: 0, or 1, 2, 3, 6, 7,
+ * tried in this order. Accepted: 72 bytes are stored, the rest is untouched. Refused: nothing is stored. */
+uint64_t pilgartze_irradiance(
+    double latitude, double longitude, int64_t timezone, uint64_t start_day, double series_step, uint64_t leap_year,
+    uint64_t direct_beam_conversion, double time, double tilt, double orientation, double base_height, double height,
+    double width, double diffuse, double direct, double reflectivity, uint8_t *results, size_t results_length);
+
+/* The factor for a sun at altitude 0..90 and azimuth -360..360. The number is 0, or 3, 4, 8 to 11, tried in this order;
+ * 3 is also an altitude or azimuth out of range. Nothing is stored. */
+pilgartze_factor_answer pilgartze_factor(double altitude, double azimuth, double tilt, double orientation,
+                                         double base_height, double height, double width, const uint8_t *sectors,
+                                         size_t sectors_length, const uint8_t *window, size_t window_length);
+
+/* ---- Objects -------------------------------------------------------------------------------------------------- */
+
+/* None of these checks a range; the calls below do. */
+
+/* A building, a tree, a hill: shades from below. Height is that of its top above the ground. */
+static inline pilgartze_object pilgartze_distant_obstacle(double height, double distance)
+{
+    pilgartze_object object;
+    object.kind = PILGARTZE_DISTANT_OBSTACLE;
+    object.height = height;
+    object.distance = distance;
+    return object;
+}
+
+/* A bridge, a balcony: shades from above. Height is that of its lower edge above the ground. */
+static inline pilgartze_object pilgartze_distant_overhang(double height, double distance)
+{
+    pilgartze_object object;
+    object.kind = PILGARTZE_DISTANT_OVERHANG;
+    object.height = height;
+    object.distance = distance;
+    return object;
+}
+
+/* A sector without an object. */
+static inline pilgartze_sector pilgartze_free_sector(double start, double end)
+{
+    pilgartze_sector sector;
+    memset(&sector, 0, sizeof sector);
+    sector.start = start;
+    sector.end = end;
+    return sector;
+}
+
+/* Adds an object to a sector. Gives 1, or 0 where the sector is full and stays as it is. */
+static inline int pilgartze_add_object(pilgartze_sector *sector, pilgartze_object object)
+{
+    if (sector->count >= PILGARTZE_MOST_OBJECTS) {
+        return 0;
+    }
+    sector->objects[sector->count] = object;
+    sector->count += 1;
+    return 1;
+}
+
+/* A fence or a hedge near the window. Height is that of its top above the ground. */
+static inline pilgartze_window_object pilgartze_obstacle(double height, double distance, double transparency)
+{
+    pilgartze_window_object object;
+    object.kind = PILGARTZE_OBSTACLE;
+    object.size = height;
+    object.distance = distance;
+    object.transparency = transparency;
+    return object;
+}
+
+/* An object other than an obstacle, by its kind. */
+static inline pilgartze_window_object pilgartze_window_part(enum pilgartze_window_kind kind, double depth,
+                                                            double distance)
+{
+    pilgartze_window_object object;
+    object.kind = (uint64_t)kind;
+    object.size = depth;
+    object.distance = distance;
+    object.transparency = 0.0;
+    return object;
+}
+
+/* Distance is that from the window's upper edge up to the overhang. */
+static inline pilgartze_window_object pilgartze_overhang(double depth, double distance)
+{
+    return pilgartze_window_part(PILGARTZE_OVERHANG, depth, distance);
+}
+
+/* Distance is that from the window's side to the fin. */
+static inline pilgartze_window_object pilgartze_right_fin(double depth, double distance)
+{
+    return pilgartze_window_part(PILGARTZE_RIGHT_FIN, depth, distance);
+}
+
+static inline pilgartze_window_object pilgartze_left_fin(double depth, double distance)
+{
+    return pilgartze_window_part(PILGARTZE_LEFT_FIN, depth, distance);
+}
+
+static inline pilgartze_window_object pilgartze_reveal(double depth, double distance)
+{
+    return pilgartze_window_part(PILGARTZE_REVEAL, depth, distance);
+}
+
+/* ---- Calls with structs --------------------------------------------------------------------------------------- */
+
+/* The two that follow are for the calls below. */
+
+/* A list's bytes; of an empty list any pointer but NULL. */
+static inline const uint8_t *pilgartze_bytes(const void *list, size_t count, const uint8_t *nothing)
+{
+    return count == 0 ? nothing : (const uint8_t *)list;
+}
+
+/* How many bytes so many records have; no list is as long as what a wrong count, such as -1, would come to. */
+static inline size_t pilgartze_length(size_t count, size_t size)
+{
+    const size_t most = (size_t)-1 / 2;
+    return count > most / size ? most : count * size;
+}
+
+/* pilgartze_run with structs. The rows are room for row_count results. For series of different lengths call
+ * pilgartze_run itself. */
+static inline pilgartze_answer pilgartze_run_job(const pilgartze_site *site, const pilgartze_run_times *run,
+                                                 const pilgartze_surface *surface, const pilgartze_weather *weather,
+                                                 const pilgartze_shading *shading, pilgartze_row *rows,
+                                                 size_t row_count)
+{
+    uint8_t nothing = 0;
+    const size_t series_length = pilgartze_length(weather->count, sizeof(double));
+    return pilgartze_run(
+        site->latitude, site->longitude, site->timezone, site->start_day, site->series_step, site->leap_year,
+        site->direct_beam_conversion, run->start, run->end, run->step, surface->tilt, surface->orientation,
+        surface->base_height, surface->height, surface->width,
+        pilgartze_bytes(weather->diffuse, weather->count, &nothing), series_length,
+        pilgartze_bytes(weather->direct, weather->count, &nothing), series_length,
+        pilgartze_bytes(weather->reflectivity, weather->count, &nothing), series_length,
+        pilgartze_bytes(shading->sectors, shading->sector_count, &nothing),
+        pilgartze_length(shading->sector_count, sizeof(pilgartze_sector)),
+        pilgartze_bytes(shading->window, shading->window_count, &nothing),
+        pilgartze_length(shading->window_count, sizeof(pilgartze_window_object)),
+        row_count == 0 ? &nothing : (uint8_t *)rows, pilgartze_length(row_count, sizeof(pilgartze_row)));
+}
+
+/* pilgartze_step with structs. The row is written where the answer is 0, and untouched otherwise. */
+static inline uint64_t pilgartze_step_at(const pilgartze_site *site, double time, const pilgartze_surface *surface,
+                                         const pilgartze_reading *reading, const pilgartze_shading *shading,
+                                         pilgartze_row *row)
+{
+    const uint8_t nothing = 0;
+    return pilgartze_step(
+        site->latitude, site->longitude, site->timezone, site->start_day, site->series_step, site->leap_year,
+        site->direct_beam_conversion, time, surface->tilt, surface->orientation, surface->base_height, surface->height,
+        surface->width, reading->diffuse, reading->direct, reading->reflectivity,
+        pilgartze_bytes(shading->sectors, shading->sector_count, &nothing),
+        pilgartze_length(shading->sector_count, sizeof(pilgartze_sector)),
+        pilgartze_bytes(shading->window, shading->window_count, &nothing),
+        pilgartze_length(shading->window_count, sizeof(pilgartze_window_object)), (uint8_t *)row, sizeof *row);
+}
+
+/* pilgartze_irradiance with structs. The breakdown is written where the answer is 0, and untouched otherwise. */
+static inline uint64_t pilgartze_irradiance_at(const pilgartze_site *site, double time,
+                                               const pilgartze_surface *surface, const pilgartze_reading *reading,
+                                               pilgartze_breakdown *breakdown)
+{
+    return pilgartze_irradiance(
+        site->latitude, site->longitude, site->timezone, site->start_day, site->series_step, site->leap_year,
+        site->direct_beam_conversion, time, surface->tilt, surface->orientation, surface->base_height, surface->height,
+        surface->width, reading->diffuse, reading->direct, reading->reflectivity, (uint8_t *)breakdown,
+        sizeof *breakdown);
+}
+
+/* pilgartze_factor with structs. */
+static inline pilgartze_factor_answer pilgartze_factor_at(double altitude, double azimuth,
+                                                          const pilgartze_surface *surface,
+                                                          const pilgartze_shading *shading)
+{
+    const uint8_t nothing = 0;
+    return pilgartze_factor(altitude, azimuth, surface->tilt, surface->orientation, surface->base_height,
+                            surface->height, surface->width,
+                            pilgartze_bytes(shading->sectors, shading->sector_count, &nothing),
+                            pilgartze_length(shading->sector_count, sizeof(pilgartze_sector)),
+                            pilgartze_bytes(shading->window, shading->window_count, &nothing),
+                            pilgartze_length(shading->window_count, sizeof(pilgartze_window_object)));
+}
+
+#ifdef __cplusplus
+}
+#endif
+
+#endif
