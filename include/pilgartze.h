@@ -13,7 +13,7 @@
  * - it reads and writes nothing outside the lists that it is lent;
  * - the answer and every byte of the results follow from the input alone. A NaN is stored as 7FF8000000000000; only the
  *   bits of a NaN in the answer's sum are left open.
- * It keeps no state, takes no memory from the heap and calls no other function, not even the C library's mathematics.
+ * It keeps no state, takes no memory from the heap and calls nothing of the C library but memcpy, not even its mathematics.
  * So any number of threads may call at once, also with the same series, sectors and window, as long as each has results
  * of its own.
  *
