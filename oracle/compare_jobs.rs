@@ -63,7 +63,9 @@ fn arguments() -> Result<Arguments, String> {
     while let Some(word) = words.next() {
         let mut number = || {
             let value = words.next().ok_or(format!("{word} needs a value"))?;
-            let value: u64 = value.parse().map_err(|_| format!("{word} needs a whole number"))?;
+            let value: u64 = value
+                .parse()
+                .map_err(|_| format!("{word} needs a whole number"))?;
             Ok::<u64, String>(value)
         };
         match word.as_str() {
@@ -82,7 +84,9 @@ fn run(arguments: &Arguments) -> Outcome {
     if arguments.self_test {
         return jobs::self_test::run(settings.seed);
     }
-    let jobs = arguments.jobs.unwrap_or((settings.count * 3).div_ceil(1000));
+    let jobs = arguments
+        .jobs
+        .unwrap_or((settings.count * 3).div_ceil(1000));
     println!("seed {}, {jobs} random jobs", settings.seed);
     let edges = jobs::edges::edges();
     let plan = Plan {

@@ -3,7 +3,7 @@
 use crate::published::jobs::*;
 use crate::published::shading::{Numbers, ALTITUDE, AZIMUTH, ORIENTATION, TILT};
 use crate::random::{ulps_from, Random, NAN_PATTERNS};
-use crate::shading::call::{sector, Call, Scene, END, START};
+use crate::shading::call::{sector, Call, Scene, Sector, END, START};
 use crate::shading::scenes::{self, edges_of_range, Aim};
 
 /// The most words that a series can need: a year of quarter hours.
@@ -22,7 +22,7 @@ pub struct Maker {
 type Damage = fn(&mut Maker, &mut Job);
 
 /// What can be wrong with a job, by the number that it leads to for the most part.
-const DAMAGES: [Damage; 15] = [
+const DAMAGES: [Damage; 17] = [
     Maker::site_at_an_edge,
     Maker::whole_number_at_an_edge,
     Maker::times_at_an_edge,
@@ -35,6 +35,8 @@ const DAMAGES: [Damage; 15] = [
     Maker::results_shortened,
     Maker::bounds_moved,
     Maker::bounds_moved,
+    Maker::bound_at_the_sun,
+    Maker::bound_at_the_sun,
     Maker::bound_at_the_sun,
     Maker::reveal_put_in,
     Maker::minus_zeros,
@@ -436,18 +438,26 @@ impl Maker {
         self.changed(job, scenes::reveal_put_in);
     }
 
-    /// A sector cut in two where the sun stands at some step, about.
+    /// A sector cut in two where the sun stands at some step, about; or with a gap, or a turned
+    /// sector, there. The steps before are accepted where the sun stood in an earlier sector.
     fn bound_at_the_sun(&mut self, job: &mut Job) {
         let mut scene = self.scene(job);
         let bound = 180.0 - scene.numbers[AZIMUTH];
         let bound = ulps_from(bound, self.random.below(3) as i64 - 1);
-        let holds = |sector: &[u64; 27]| {
+        let holds = |sector: &Sector| {
             f64::from_bits(sector[START]) < bound && bound < f64::from_bits(sector[END])
         };
         if let Some(place) = scene.sectors.iter().position(holds) {
             let mut second = scene.sectors[place];
+            let [start, end] = [START, END].map(|bound| f64::from_bits(second[bound]));
             scene.sectors[place][END] = bound.to_bits();
             second[START] = bound.to_bits();
+            match self.random.below(4) {
+                0 => {}
+                1 => second[START] = self.random.uniform(bound, end).to_bits(),
+                2 => second[END] = self.random.uniform(start, bound).to_bits(),
+                _ => scene.sectors[place][END] = self.random.uniform(start, bound).to_bits(),
+            }
             scene.sectors.insert(place + 1, second);
         }
         put_back(job, scene.call());

@@ -4,6 +4,7 @@
 use super::lent::{Left, Lent};
 use crate::comparison::{same, shown, Outcome, Settings};
 use crate::published::jobs::*;
+use crate::published::shading::{Numbers, ALTITUDE};
 use crate::random::Random;
 use crate::shading::call::{Call, Scene};
 use crate::shading::laws::{extents_are_numbers, Law, LAWS};
@@ -38,9 +39,7 @@ struct Rows(Vec<[f64; ROW]>);
 impl Rows {
     fn of(left: &Left<RunAnswer>) -> Rows {
         let doubles = doubles_of(&left.results);
-        let rows = doubles
-            .chunks_exact(ROW)
-            .map(|row| row.try_into().unwrap());
+        let rows = doubles.chunks_exact(ROW).map(|row| row.try_into().unwrap());
         Rows(rows.take(left.answer.count as usize).collect())
     }
 
@@ -64,6 +63,11 @@ fn sums_hold(law: Law, sum: f64, other: f64, unshaded: f64) -> bool {
     }
 }
 
+/// A NaN altitude is outside the beam, where nothing has an extent.
+fn no_nan_extent(numbers: &Numbers) -> bool {
+    numbers[ALTITUDE].is_nan() || extents_are_numbers(numbers)
+}
+
 /// Tries the laws on a job that was accepted and left this.
 pub fn try_laws(
     laws: &[Law],
@@ -77,14 +81,27 @@ pub fn try_laws(
     let [tilt, orientation, base_height, height, width] = job.surface;
     let numbers = |row: &[f64; ROW]| {
         let [altitude, azimuth, ..] = *row;
-        [altitude, azimuth, tilt, orientation, base_height, height, width]
+        [
+            altitude,
+            azimuth,
+            tilt,
+            orientation,
+            base_height,
+            height,
+            width,
+        ]
     };
-    if rows.0.is_empty() || !rows.0.iter().all(|row| extents_are_numbers(&numbers(row))) {
+    if rows.0.is_empty() || !rows.0.iter().all(|row| no_nan_extent(&numbers(row))) {
         pairs.skipped += !rows.0.is_empty() as u64;
         return Ok(());
     }
+    // the sun by which further objects are aimed
+    let mut sun = numbers(&rows.0[random.below(rows.0.len())]);
+    if sun[ALTITUDE].is_nan() {
+        sun[ALTITUDE] = 0.0;
+    }
     let call = Call {
-        numbers: numbers(&rows.0[random.below(rows.0.len())]),
+        numbers: sun,
         sectors: job.sectors.clone(),
         window: job.window.clone(),
     };

@@ -100,7 +100,9 @@ impl Lent {
         let answer = function(&self.library, starts);
         for k in 0..RESULTS {
             if self.pages[k].list() != lists[k] {
-                return Err(format!("{call} changes a list that it only reads, number {k}"));
+                return Err(format!(
+                    "{call} changes a list that it only reads, number {k}"
+                ));
             }
         }
         if !self.pages.iter_mut().all(Pages::beside_is_left) {

@@ -61,10 +61,13 @@ pub fn shown_job(job: &Job) -> String {
     let steps = steps_if_any(&job.site, &job.times);
     for (list, name) in ["diffuse", "direct", "reflectivity"].iter().enumerate() {
         let series = doubles_of(&job.series[list]);
-        let used = steps.iter().take(8).map(|step| match series.get(step.index) {
-            Some(&x) => format!("{}: {}", step.index, shown(x)),
-            None => format!("{}: none", step.index),
-        });
+        let used = steps
+            .iter()
+            .take(8)
+            .map(|step| match series.get(step.index) {
+                Some(&x) => format!("{}: {}", step.index, shown(x)),
+                None => format!("{}: none", step.index),
+            });
         let used: Vec<String> = used.collect();
         let len = job.series[list].len();
         lines.push(format!("  {name}, {len} bytes, {}", used.join(", ")));
@@ -107,7 +110,10 @@ fn shown_answer(answer: &RunAnswer) -> String {
         count,
         sum,
     } = *answer;
-    format!("number {number}, step {step}, count {count}, sum {}", shown(sum))
+    format!(
+        "number {number}, step {step}, count {count}, sum {}",
+        shown(sum)
+    )
 }
 
 fn first_other_byte(right: &[u8], got: &[u8]) -> String {
@@ -200,11 +206,23 @@ fn smaller_jobs(job: &Job) -> Vec<Job> {
 /// The judge's rows held to those by the published record of the whole job.
 fn by_new(job: &Job, right: &Left<RunAnswer>) -> Outcome {
     let rows = doubles_of(&right.results);
-    let mut by_new = rows_by_new(job).into_iter().enumerate();
-    let agree = by_new.all(|(k, row)| match row {
-        Ok(row) => (0..ROW).all(|place| same(row[place], rows[ROW * k + place])),
-        Err(number) => (number, k as u64) == (right.answer.number, right.answer.step),
-    });
+    let by_new = rows_by_new(job);
+    let RunAnswer {
+        number,
+        step,
+        count,
+        ..
+    } = right.answer;
+    let (expected, refused) = match number {
+        0 => (count as usize, 0),
+        _ => (step as usize, 1),
+    };
+    let each = by_new.iter().enumerate();
+    let agree = by_new.len() == expected + refused
+        && each.into_iter().all(|(k, row)| match row {
+            Ok(row) => (0..ROW).all(|place| same(row[place], rows[ROW * k + place])),
+            Err(other) => (*other, k) == (number, expected),
+        });
     match agree {
         true => Ok(()),
         false => Err(format!(
@@ -265,8 +283,18 @@ impl Met {
 
     fn report(&self, settings: &Settings) -> Outcome {
         const WORDS: [&str; 12] = [
-            "accepted", "site", "run", "surface", "object", "series", "reading", "results", "gap",
-            "turned", "no sector", "reveal",
+            "accepted",
+            "site",
+            "run",
+            "surface",
+            "object",
+            "series",
+            "reading",
+            "results",
+            "gap",
+            "turned",
+            "no sector",
+            "reveal",
         ];
         let mut counts = vec![];
         for number in 0..12 {

@@ -38,8 +38,15 @@ pub fn run(seed: u64) -> Outcome {
         laws: &[],
     };
     let right = wrong::without_flaw();
-    section(&settings, &right, Plan { laws: &LAWS, ..plan })
-        .map_err(|words| format!("self-test, the plain engine: {words}"))?;
+    section(
+        &settings,
+        &right,
+        Plan {
+            laws: &LAWS,
+            ..plan
+        },
+    )
+    .map_err(|words| format!("self-test, the plain engine: {words}"))?;
     let nothing = Plan {
         edges: &[],
         jobs: 0,

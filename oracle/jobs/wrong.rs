@@ -112,14 +112,16 @@ flaws! {
         SkyAndGroundSwapped;
 }
 
-struct Plain<const FLAW: u8>;
+struct Plain {
+    flaw: u8,
+}
 
 /// What a run is after its checks: its steps, and the readings of each.
 type Checked = Vec<(Step, Readings)>;
 
-impl<const FLAW: u8> Plain<FLAW> {
+impl Plain {
     fn is(&self, flaw: Flaw) -> bool {
-        flaw as u8 == FLAW
+        flaw as u8 == self.flaw
     }
 
     // --- The steps ---
@@ -239,7 +241,9 @@ impl<const FLAW: u8> Plain<FLAW> {
             false => steps,
         };
         let some = |lists: &[usize], steps: &[Step], test: &dyn Fn(usize, &Step) -> bool| {
-            steps.iter().any(|step| lists.iter().any(|&list| test(list, step)))
+            steps
+                .iter()
+                .any(|step| lists.iter().any(|&list| test(list, step)))
         };
         let both = |lists: &[usize], steps: &[Step]| {
             if some(lists, steps, &short) {
@@ -352,8 +356,16 @@ impl<const FLAW: u8> Plain<FLAW> {
     fn refused(&self, number: u64, step: usize, sum: f64) -> RunAnswer {
         RunAnswer {
             number,
-            step: if self.is(StepOfRefusalZero) { 0 } else { step as u64 },
-            count: if self.is(CountKeptOnRefusal) { step as u64 } else { 0 },
+            step: if self.is(StepOfRefusalZero) {
+                0
+            } else {
+                step as u64
+            },
+            count: if self.is(CountKeptOnRefusal) {
+                step as u64
+            } else {
+                0
+            },
             sum: if self.is(SumKeptOnRefusal) { sum } else { 0.0 },
         }
     }
@@ -403,7 +415,11 @@ impl<const FLAW: u8> Plain<FLAW> {
                     return self.refused(number, k, self.sum(&rows));
                 }
             };
-            rows.push(if self.is(FirstStepCopied) && k > 0 { rows[0] } else { row });
+            rows.push(if self.is(FirstStepCopied) && k > 0 {
+                rows[0]
+            } else {
+                row
+            });
             self.store(results, ROW * k, &rows[k]);
         }
         if self.is(StoresNothing) {
@@ -668,13 +684,19 @@ struct Answers(
 
 fn plain<const FLAW: u8>() -> Answers {
     Answers(
-        |judge, job, results| Plain::<FLAW>.run(judge, job, results),
-        |judge, single, results| Plain::<FLAW>.step(judge, single, results),
-        |judge, single, results| Plain::<FLAW>.irradiance(judge, single, results),
+        |judge, job, results| Plain { flaw: FLAW }.run(judge, job, results),
+        |judge, single, results| Plain { flaw: FLAW }.step(judge, single, results),
+        |judge, single, results| Plain { flaw: FLAW }.irradiance(judge, single, results),
     )
 }
 
-extern_calls!(plain_run, plain_step, plain_irradiance, FLAW, plain::<FLAW>());
+extern_calls!(
+    plain_run,
+    plain_step,
+    plain_irradiance,
+    FLAW,
+    plain::<FLAW>()
+);
 
 fn engine<const FLAW: u8>() -> Library {
     Library {
@@ -738,7 +760,10 @@ fn lawless_run<const WAY: u8>(judge: &mut Judge, job: &Job, results: &mut [u8]) 
         return answer;
     }
     let mut sum = 0.0;
-    for row in results.chunks_exact_mut(8 * ROW).take(answer.count as usize) {
+    for row in results
+        .chunks_exact_mut(8 * ROW)
+        .take(answer.count as usize)
+    {
         let doubles = doubles_of(row);
         let (direct, mut factor) = (doubles[2], doubles[5]);
         if is(Lawless::ObjectsCounted) {

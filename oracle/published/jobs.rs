@@ -408,7 +408,8 @@ pub fn rows_by_new(job: &Job) -> Vec<Result<[f64; ROW], u64>> {
     let [start, end, step] = job.times;
     let times = SimulationTime::new(start, end, step);
     let lists = lists_of(&job.sectors, &job.window).expect("lists in range");
-    let [diffuse, direct, reflectivity] = [0, 1, 2].map(|list: usize| doubles_of(&job.series[list]));
+    let [diffuse, direct, reflectivity] =
+        [0, 1, 2].map(|list: usize| doubles_of(&job.series[list]));
     let conditions = ExternalConditions::new(
         &times.iter(),
         vec![],
