@@ -17,6 +17,8 @@ pub mod conditions;
 pub mod interface;
 #[path = "published/irradiance.rs"]
 pub mod irradiance;
+#[path = "published/jobs.rs"]
+pub mod jobs;
 #[path = "published/sanity.rs"]
 pub mod sanity;
 #[path = "published/shading.rs"]

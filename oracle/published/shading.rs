@@ -36,7 +36,7 @@ pub const MOST_OBJECTS: usize = 8;
 pub const WINDOW_WORDS: usize = 4;
 pub const MOST_WINDOW_OBJECTS: usize = 16;
 
-fn within(x: f64, (low, high): (f64, f64)) -> Option<f64> {
+pub(super) fn within(x: f64, (low, high): (f64, f64)) -> Option<f64> {
     (low <= x && x <= high).then_some(x)
 }
 
@@ -123,6 +123,14 @@ fn records<T, const WORDS: usize>(
     whole.map(|bytes| record(&words(bytes))).collect()
 }
 
+pub(super) fn sectors_of(bytes: &[u8]) -> Option<Vec<ShadingSegment>> {
+    records::<_, SECTOR_WORDS>(bytes, MOST_SECTORS, sector)
+}
+
+pub(super) fn window_of(bytes: &[u8]) -> Option<Vec<WindowShadingObject>> {
+    records::<_, WINDOW_WORDS>(bytes, MOST_WINDOW_OBJECTS, window_object)
+}
+
 /// What the judge says of a call.
 #[derive(Clone, Copy)]
 pub struct Judged {
@@ -159,9 +167,7 @@ impl Judge {
         if !numbers.iter().zip(&RANGES).all(in_range) {
             return unseen(3);
         }
-        let sectors = records::<_, SECTOR_WORDS>(sectors, MOST_SECTORS, sector);
-        let window = records::<_, WINDOW_WORDS>(window, MOST_WINDOW_OBJECTS, window_object);
-        match (sectors, window) {
+        match (sectors_of(sectors), window_of(window)) {
             (Some(sectors), Some(window)) => self.published(numbers, sectors, &window),
             _ => unseen(4),
         }

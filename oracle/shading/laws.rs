@@ -43,7 +43,7 @@ impl Law {
         }
     }
 
-    fn words(self) -> &'static str {
+    pub fn words(self) -> &'static str {
         match self {
             Law::Range => "law: from 0 to 1",
             Law::Reordered => "law: objects reordered, the same",
@@ -54,7 +54,7 @@ impl Law {
     }
 
     /// The other call's lists.
-    fn change(self, random: &mut Random, scene: &mut Scene) {
+    pub fn change(self, random: &mut Random, scene: &mut Scene) {
         match self {
             Law::Range => {}
             Law::Reordered => reorder(random, scene),
@@ -64,7 +64,7 @@ impl Law {
         }
     }
 
-    fn holds(self, factor: f64, other: f64) -> bool {
+    pub fn holds(self, factor: f64, other: f64) -> bool {
         match self {
             Law::Range => 0.0 <= factor && factor <= 1.0,
             Law::Reordered | Law::Repeated => same(factor, other),
@@ -98,7 +98,7 @@ impl Pairs {
 /// Whether no extent can be NaN, by a simple test that is enough: all lengths are at most 10,000,
 /// so where the tangents are moderate and the cosine is not tiny no operation overflows, and none
 /// divides 0 by 0.
-fn extents_are_numbers(numbers: &Numbers) -> bool {
+pub fn extents_are_numbers(numbers: &Numbers) -> bool {
     let tan_altitude = stand_ins::tan(stand_ins::to_radians(numbers[ALTITUDE]));
     let difference = stand_ins::to_radians(difference(numbers));
     let tan_difference = stand_ins::tan(difference);
@@ -128,7 +128,7 @@ fn shuffle<T>(random: &mut Random, list: &mut [T]) {
     }
 }
 
-fn reorder(random: &mut Random, scene: &mut Scene) {
+pub fn reorder(random: &mut Random, scene: &mut Scene) {
     for sector in &mut scene.sectors {
         let mut list = objects(sector);
         shuffle(random, &mut list);
@@ -147,7 +147,7 @@ fn repeat_some<T: Copy>(random: &mut Random, list: &mut Vec<T>, most: usize) {
     }
 }
 
-fn repeat(random: &mut Random, scene: &mut Scene) {
+pub fn repeat(random: &mut Random, scene: &mut Scene) {
     for sector in &mut scene.sectors {
         let mut list = objects(sector);
         repeat_some(random, &mut list, MOST_OBJECTS);
@@ -157,7 +157,7 @@ fn repeat(random: &mut Random, scene: &mut Scene) {
 }
 
 /// More objects, but for reveals, which are refused.
-fn enlarge(random: &mut Random, scene: &mut Scene) {
+pub fn enlarge(random: &mut Random, scene: &mut Scene) {
     let aim = Aim::new(random, &scene.numbers);
     for sector in &mut scene.sectors {
         let mut list = objects(sector);
@@ -175,7 +175,7 @@ fn enlarge(random: &mut Random, scene: &mut Scene) {
     }
 }
 
-fn empty(scene: &mut Scene) {
+pub fn empty(scene: &mut Scene) {
     for sector in &mut scene.sectors {
         set_objects(sector, &[]);
     }

@@ -182,7 +182,7 @@ fn difference(call: &Call, judge: &mut Judge, lent: &mut Lent) -> String {
 }
 
 /// The call without one of its records, or without one object of a sector.
-fn smaller(call: &Call) -> Vec<Call> {
+pub fn smaller(call: &Call) -> Vec<Call> {
     let scene = Scene::of(call);
     if scene.call() != *call {
         return vec![]; // part records stay as they are
@@ -251,8 +251,13 @@ fn run(settings: &Settings, function: FactorCall, compared: bool, laws: &[Law]) 
 }
 
 pub fn section(settings: &Settings, rattle: &Probes) -> Outcome {
+    function(settings, rattle.factor)
+}
+
+/// The same of a function by itself.
+pub fn function(settings: &Settings, function: FactorCall) -> Outcome {
     settings.heading("the direct shading factor of one step: published Rust against Rattle");
-    run(settings, rattle.factor, true, &LAWS)
+    run(settings, function, true, &LAWS)
 }
 
 /// The comparison without the laws, for the self-test.

@@ -221,7 +221,7 @@ fn any_bounds(random: &mut Random, count: usize) -> Vec<f64> {
     bounds
 }
 
-fn any_sectors(random: &mut Random, aim: &Aim) -> Vec<Sector> {
+pub fn any_sectors(random: &mut Random, aim: &Aim) -> Vec<Sector> {
     let count = match random.below(64) {
         0 => return vec![],
         1..=28 => 1,
@@ -252,7 +252,7 @@ fn any_kind(random: &mut Random) -> u64 {
     ][random.below(8)]
 }
 
-fn any_window(random: &mut Random, aim: &Aim) -> Vec<WindowObject> {
+pub fn any_window(random: &mut Random, aim: &Aim) -> Vec<WindowObject> {
     let count = match random.below(16) {
         0 | 1 => 0,
         2..=9 => 1 + random.below(3),
@@ -320,7 +320,7 @@ fn azimuth_at_a_bound(random: &mut Random, scene: &mut Scene) {
 }
 
 /// A gap, an overlap or a turned sector at some place, before or after the match.
-fn bounds_moved(random: &mut Random, scene: &mut Scene) {
+pub fn bounds_moved(random: &mut Random, scene: &mut Scene) {
     if scene.sectors.is_empty() {
         return;
     }
@@ -349,7 +349,7 @@ fn bounds_moved(random: &mut Random, scene: &mut Scene) {
     }
 }
 
-fn reveal_put_in(random: &mut Random, scene: &mut Scene) {
+pub fn reveal_put_in(random: &mut Random, scene: &mut Scene) {
     let aim = Aim::new(random, &scene.numbers);
     let reveal = aim.window_object(random, REVEAL);
     match scene.window.len() {
@@ -370,7 +370,7 @@ fn clear_obstacle_alone(random: &mut Random, scene: &mut Scene) {
 }
 
 /// −0.0 wherever 0 is in range.
-fn minus_zeros(random: &mut Random, scene: &mut Scene) {
+pub fn minus_zeros(random: &mut Random, scene: &mut Scene) {
     for place in [ALTITUDE, AZIMUTH, TILT, ORIENTATION, BASE_HEIGHT] {
         if random.below(3) == 0 {
             scene.numbers[place] = -0.0;
@@ -394,7 +394,7 @@ fn minus_zeros(random: &mut Random, scene: &mut Scene) {
 }
 
 /// Both lists as long as they may be, and sometimes one record longer.
-fn filled(random: &mut Random, scene: &mut Scene) {
+pub fn filled(random: &mut Random, scene: &mut Scene) {
     let aim = Aim::new(random, &scene.numbers);
     let more = |random: &mut Random| (random.below(4) == 0) as usize;
     let count = MOST_SECTORS + more(random);
@@ -414,7 +414,7 @@ fn filled(random: &mut Random, scene: &mut Scene) {
 }
 
 /// A word of a list that is out of range, or as good as any other.
-fn word_damaged(random: &mut Random, scene: &mut Scene) {
+pub fn word_damaged(random: &mut Random, scene: &mut Scene) {
     let words = odd_words();
     let word = match random.below(8) {
         0 => random.word(),
@@ -430,7 +430,7 @@ fn word_damaged(random: &mut Random, scene: &mut Scene) {
 }
 
 /// A list that ends elsewhere.
-fn length_damaged(random: &mut Random, call: &mut Call) {
+pub fn length_damaged(random: &mut Random, call: &mut Call) {
     let list = match random.below(2) {
         0 => &mut call.sectors,
         _ => &mut call.window,

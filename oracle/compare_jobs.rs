@@ -1,0 +1,124 @@
+//! The judge of whole jobs: the library `pilgartze` against the published Rust, byte by byte.
+//!
+//!     compare_jobs [--seed N] [--count N] [--jobs N]   compares; stops at the first difference
+//!     compare_jobs --self-test [--seed N]              shows that the comparison can fail
+//!
+//! A count of 1,000,000 means 3,000 random jobs, beside those at the edges and some whole years.
+//!
+//! Exit status: 0 no difference; 1 a difference, or a comparison of nothing; 2 bad usage; 3 an
+//! access outside a buffer. `oracle/run` builds this program and runs it both ways.
+
+// What these modules have for the other program is not used here.
+#[allow(dead_code)]
+mod arguments;
+#[allow(dead_code)]
+mod comparison;
+#[allow(dead_code)]
+mod guarded;
+mod jobs;
+#[allow(dead_code)]
+mod probes;
+#[allow(dead_code)]
+mod random;
+#[allow(dead_code)]
+mod shading;
+#[allow(dead_code)]
+mod stand_ins;
+#[macro_use]
+#[allow(dead_code)]
+mod support;
+#[allow(dead_code)]
+#[allow(unused_imports)]
+mod published;
+
+use comparison::{Outcome, Settings};
+use jobs::library::{FACTOR, LIBRARY};
+use jobs::Plan;
+use shading::laws::LAWS;
+use std::process::ExitCode;
+
+/// The factor has its own comparison, in full on the library `probes`; here it is a short one.
+const FACTOR_PART: usize = 20;
+
+const YEARS: usize = 20;
+
+struct Arguments {
+    settings: Settings,
+    jobs: Option<usize>,
+    self_test: bool,
+}
+
+fn arguments() -> Result<Arguments, String> {
+    let settings = Settings {
+        seed: 1,
+        count: 1_000_000,
+        print: true,
+    };
+    let mut arguments = Arguments {
+        settings,
+        jobs: None,
+        self_test: false,
+    };
+    let mut words = std::env::args().skip(1);
+    while let Some(word) = words.next() {
+        let mut number = || {
+            let value = words.next().ok_or(format!("{word} needs a value"))?;
+            let value: u64 = value
+                .parse()
+                .map_err(|_| format!("{word} needs a whole number"))?;
+            Ok::<u64, String>(value)
+        };
+        match word.as_str() {
+            "--self-test" => arguments.self_test = true,
+            "--seed" => arguments.settings.seed = number()?,
+            "--count" => arguments.settings.count = number()?.max(1) as usize,
+            "--jobs" => arguments.jobs = Some(number()? as usize),
+            _ => return Err(format!("{word} is not known")),
+        }
+    }
+    Ok(arguments)
+}
+
+fn run(arguments: &Arguments) -> Outcome {
+    let settings = &arguments.settings;
+    if arguments.self_test {
+        return jobs::self_test::run(settings.seed);
+    }
+    let jobs = arguments
+        .jobs
+        .unwrap_or((settings.count * 3).div_ceil(1000));
+    println!("seed {}, {jobs} random jobs", settings.seed);
+    let edges = jobs::edges::edges();
+    let plan = Plan {
+        edges: &edges,
+        jobs,
+        years: YEARS,
+        compared: true,
+        laws: &LAWS,
+    };
+    jobs::section(settings, &LIBRARY, plan)?;
+    let factor = Settings {
+        count: (settings.count / FACTOR_PART).max(1),
+        ..*settings
+    };
+    shading::function(&factor, FACTOR)?;
+    println!("no difference");
+    Ok(())
+}
+
+fn main() -> ExitCode {
+    let arguments = match arguments() {
+        Ok(arguments) => arguments,
+        Err(words) => {
+            eprintln!("compare_jobs: {words}");
+            return ExitCode::from(2);
+        }
+    };
+    match run(&arguments) {
+        Ok(()) => ExitCode::SUCCESS,
+        Err(words) => {
+            eprintln!("compare_jobs: {words}");
+            ExitCode::from(1)
+        }
+    }
+}

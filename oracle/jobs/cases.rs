@@ -1,0 +1,563 @@
+//! Random jobs: most of them accepted, with the sun on the surface and partly in the shade.
+
+use crate::published::jobs::*;
+use crate::published::shading::{Numbers, ALTITUDE, AZIMUTH, ORIENTATION, TILT};
+use crate::random::{ulps_from, Random, NAN_PATTERNS};
+use crate::shading::call::{sector, Call, Scene, Sector, END, START};
+use crate::shading::scenes::{self, edges_of_range, Aim};
+
+/// The most words that a series can need: a year of quarter hours.
+const MOST_WORDS: usize = 36_000;
+
+/// No list is longer than this.
+pub const MOST_BYTES: usize = 8 * ROW * MOST_WORDS;
+
+pub struct Maker {
+    pub random: Random,
+    judge: Judge,
+    /// Words of any kind, few of them readings, for entries that no step uses.
+    junk: Vec<u8>,
+}
+
+type Damage = fn(&mut Maker, &mut Job);
+
+/// What can be wrong with a job, by the number that it leads to for the most part.
+const DAMAGES: [Damage; 17] = [
+    Maker::site_at_an_edge,
+    Maker::whole_number_at_an_edge,
+    Maker::times_at_an_edge,
+    Maker::end_of_the_year,
+    Maker::surface_at_an_edge,
+    Maker::word_damaged,
+    Maker::list_damaged,
+    Maker::series_shortened,
+    Maker::reading_damaged,
+    Maker::results_shortened,
+    Maker::bounds_moved,
+    Maker::bounds_moved,
+    Maker::bound_at_the_sun,
+    Maker::bound_at_the_sun,
+    Maker::bound_at_the_sun,
+    Maker::reveal_put_in,
+    Maker::minus_zeros,
+];
+
+impl Maker {
+    pub fn new(mut random: Random) -> Self {
+        let mut junk = Vec::with_capacity(8 * MOST_WORDS);
+        for _ in 0..MOST_WORDS {
+            let word = match random.below(4) {
+                0 => NAN_PATTERNS[random.below(NAN_PATTERNS.len())],
+                1 => random.uniform(-1.0, 2.0).to_bits(),
+                _ => random.word(),
+            };
+            junk.extend(word.to_le_bytes());
+        }
+        let judge = Judge::new();
+        Maker {
+            random,
+            judge,
+            junk,
+        }
+    }
+
+    pub fn one_of<T: Copy>(&mut self, all: &[T]) -> T {
+        all[self.random.below(all.len())]
+    }
+
+    // --- Site and times ---
+
+    fn any_site(&mut self) -> JobSite {
+        let timezone = self.random.below(28) as i64 - 13;
+        let longitude = match self.random.below(8) {
+            0 => self.random.uniform(-180.0, 180.0),
+            1 => 15.0 * timezone as f64,
+            _ => 15.0 * timezone as f64 + self.random.uniform(-12.0, 12.0),
+        };
+        let latitude = match self.random.below(8) {
+            0 => self.one_of(&[90.0, -90.0, 0.0, -0.0, 66.55, -23.45]),
+            1 => self.random.uniform(-90.0, 90.0),
+            _ => self.random.uniform(-60.0, 60.0),
+        };
+        let series_step = match self.random.below(12) {
+            0 => 0.25,
+            1 => 0.5,
+            2 => 24.0,
+            3 => self.one_of(&[2.0, 3.0, 7.1, 0.3, 1.5]),
+            4 => self.random.uniform(0.25, 24.0),
+            _ => 1.0,
+        };
+        JobSite {
+            latitude,
+            longitude: longitude.clamp(-180.0, 180.0),
+            timezone,
+            start_day: 0,
+            series_step,
+            leap_year: self.random.below(2) as u64,
+            direct_beam_conversion: self.random.below(2) as u64,
+        }
+    }
+
+    /// Up to some sixty steps, anywhere in the year.
+    fn any_times(&mut self, leap_year: u64) -> Times {
+        let step = match self.random.below(16) {
+            0 => 0.25,
+            1 => 0.5,
+            2 => 0.3,
+            3 => 7.1,
+            4 => 24.0,
+            5 => self.random.uniform(0.25, 24.0),
+            6 => self.random.uniform(0.25, 2.0),
+            _ => 1.0,
+        };
+        let count = match self.random.below(4) {
+            0 => self.random.below(4),
+            _ => self.random.below(61),
+        };
+        let hours = if leap_year == 1 { 8784.0 } else { 8760.0 };
+        let length = (step * count as f64).min(hours);
+        let start = match self.random.below(16) {
+            0 => 0.0,
+            1 => hours - length,
+            2 | 3 => self.random.uniform(0.0, hours - length),
+            4 => ulps_from(self.random.below(8700) as f64, -1).clamp(0.0, hours - length),
+            // about the morning of some day
+            _ => (24.0 * self.random.uniform(0.0, 365.0).floor() + self.random.below(14) as f64)
+                .min(hours - length),
+        };
+        let end = match self.random.below(12) {
+            0 => start + length - step * self.random.uniform(0.0, 1.0),
+            1 => ulps_from(start + length, self.random.below(5) as i64 - 2),
+            2 => self.random.uniform(0.0, start),
+            _ => start + length,
+        };
+        let end = match 0.0 < end && end <= 8784.0 {
+            true => end,
+            false => 1.0,
+        };
+        [start, end, step]
+    }
+
+    /// A day, for the most part not long before the run begins.
+    fn any_start_day(&mut self, start: f64) -> u64 {
+        let day = (start / 24.0) as u64;
+        match self.random.below(16) {
+            0 => 0,
+            1 => 365,
+            2 => (day + self.random.below(3) as u64).min(365),
+            3 => self.random.below(366) as u64,
+            _ => day.saturating_sub(self.random.below(3) as u64).min(365),
+        }
+    }
+
+    // --- Surface and objects ---
+
+    /// The highest sun of some steps.
+    fn sun_of(&mut self, site: &JobSite, steps: &[Step]) -> (f64, f64) {
+        let mut best = (0.0, 0.0);
+        for turn in 0..5 {
+            let Some(step) = steps.get(self.random.below(steps.len().max(1))) else {
+                break;
+            };
+            let surface = [90.0, 180.0, 0.0, 1.0, 1.0];
+            let row = self.judge.hour(site, &surface, step.hour % 8784, [0.0; 3]);
+            if turn == 0 || row[0] > best.0 {
+                best = (row[0], row[1]);
+            }
+        }
+        best
+    }
+
+    /// Sun and surface as the objects are aimed by, with the surface turned to that sun, about.
+    fn any_numbers(&mut self, (altitude, azimuth): (f64, f64)) -> Numbers {
+        let mut numbers = scenes::any_numbers(&mut self.random);
+        numbers[ALTITUDE] = if altitude > 0.0 { altitude } else { 0.0 };
+        numbers[AZIMUTH] = azimuth;
+        let beside = self.random.uniform(-70.0, 70.0);
+        let orientation = 180.0 - azimuth - beside;
+        numbers[ORIENTATION] = match self.random.below(16) {
+            0 => self.random.uniform(0.0, 360.0),
+            _ => orientation.clamp(0.0, 360.0),
+        };
+        if self.random.below(2) == 0 {
+            numbers[TILT] = 90.0;
+        }
+        numbers
+    }
+
+    /// Distant and near objects; few jobs have sectors that do not go all the way round.
+    fn any_lists(&mut self, numbers: &Numbers) -> (Vec<u8>, Vec<u8>) {
+        let aim = Aim::new(&mut self.random, numbers);
+        let mut sectors = scenes::any_sectors(&mut self.random, &aim);
+        if let (Some(last), true) = (sectors.len().checked_sub(1), self.random.below(8) != 0) {
+            sectors[0][START] = 0.0f64.to_bits();
+            sectors[last][END] = 360.0f64.to_bits();
+        }
+        if sectors.is_empty() && self.random.below(4) != 0 {
+            sectors = vec![sector(0.0, 360.0, &[])];
+        }
+        let window = scenes::any_window(&mut self.random, &aim);
+        let numbers = *numbers;
+        let call = Scene {
+            numbers,
+            sectors,
+            window,
+        }
+        .call();
+        (call.sectors, call.window)
+    }
+
+    // --- Series and results ---
+
+    pub fn any_reading(&mut self, list: usize) -> f64 {
+        let random = &mut self.random;
+        if list == 2 {
+            return match random.below(8) {
+                0 => [0.0, -0.0, 1.0, 0.2][random.below(4)],
+                _ => random.uniform(0.0, 1.0),
+            };
+        }
+        match random.below(16) {
+            0 | 1 => 0.0,
+            2 => -0.0,
+            3 => f64::from_bits(random.word() >> 12), // a subnormal, or 0
+            4 => 10_000.0,
+            5 => random.uniform(0.0, 10_000.0),
+            _ => random.uniform(0.0, 900.0),
+        }
+    }
+
+    /// Series and results that fit the steps: readings where a step uses them, anything elsewhere,
+    /// and now and then more than is needed.
+    pub fn fit(&mut self, job: &mut Job) {
+        let steps = steps_if_any(&job.site, &job.times);
+        let words = steps.iter().map(|step| step.index + 1).max().unwrap_or(0);
+        let all_minus_zero = self.random.below(16) == 0;
+        for list in 0..3 {
+            let more = match self.random.below(4) {
+                0 => self.random.below(8),
+                1 => self.random.below(40),
+                _ => 0,
+            };
+            let from = 8 * self.random.below(64);
+            let len = (8 * words + more).min(self.junk.len() - from);
+            let mut series = self.junk[from..from + len].to_vec();
+            for step in &steps {
+                let reading = match list == 1 && all_minus_zero {
+                    true => -0.0,
+                    false => self.any_reading(list),
+                };
+                let at = 8 * step.index;
+                series[at..at + 8].copy_from_slice(&reading.to_le_bytes());
+            }
+            job.series[list] = series;
+        }
+        let more = match self.random.below(4) {
+            0 => self.random.below(8),
+            1 => self.random.below(200),
+            _ => 0,
+        };
+        job.results = self.bytes(8 * ROW * steps.len() + more);
+    }
+
+    /// Random bytes, which a call is to leave where it stores nothing.
+    pub fn bytes(&mut self, len: usize) -> Vec<u8> {
+        let words = (0..len.div_ceil(8)).flat_map(|_| self.random.word().to_le_bytes());
+        let mut bytes: Vec<u8> = words.collect();
+        bytes.truncate(len);
+        bytes
+    }
+
+    // --- Jobs ---
+
+    /// A job in range with these times.
+    fn job_at(&mut self, mut site: JobSite, times: Times) -> Job {
+        site.start_day = self.any_start_day(times[0]);
+        let steps = steps_of(&site, &times);
+        let sun = self.sun_of(&site, &steps);
+        let numbers = self.any_numbers(sun);
+        let (sectors, window) = self.any_lists(&numbers);
+        let mut job = Job {
+            site,
+            times,
+            surface: numbers[2..].try_into().unwrap(),
+            series: [vec![], vec![], vec![]],
+            sectors,
+            window,
+            results: vec![],
+        };
+        self.fit(&mut job);
+        job
+    }
+
+    pub fn sound_job(&mut self) -> Job {
+        let site = self.any_site();
+        let times = self.any_times(site.leap_year);
+        self.job_at(site, times)
+    }
+
+    /// A job of a whole year; the first two in quarter hours.
+    pub fn whole_year(&mut self, turn: usize) -> Job {
+        let site = self.any_site();
+        let hours = if site.leap_year == 1 { 8784.0 } else { 8760.0 };
+        let step = match turn {
+            0 | 1 => 0.25,
+            2 => 0.3,
+            _ => 1.0,
+        };
+        let mut job = self.job_at(site, [0.0, hours, step]);
+        // one sector all the way round in place of some that the sun leaves in the course of a year
+        let mut scene = self.scene(&job);
+        if turn % 4 != 3 {
+            for (start, end) in [(0, START), (scene.sectors.len().saturating_sub(1), END)] {
+                if let Some(sector) = scene.sectors.get_mut(start) {
+                    sector[end] = if end == START { 0.0f64 } else { 360.0 }.to_bits();
+                }
+            }
+            if scene.sectors.is_empty() {
+                scene.sectors.push(sector(0.0, 360.0, &[]));
+            }
+        }
+        put_back(&mut job, scene.call());
+        job
+    }
+
+    /// Six in ten are sound; the others are damaged in one place, or in two or three.
+    pub fn any_job(&mut self) -> Job {
+        let mut job = self.sound_job();
+        let damages = match self.random.below(20) {
+            0..=11 => 0,
+            12..=17 => 1,
+            18 => 2,
+            _ => 3,
+        };
+        for _ in 0..damages {
+            let damage = self.one_of(&DAMAGES);
+            damage(self, &mut job);
+        }
+        job
+    }
+
+    // --- Damages ---
+
+    /// A double at an edge of its range, within or beyond.
+    fn edge_of(&mut self, range: (f64, f64)) -> f64 {
+        let edges = edges_of_range(range);
+        match self.random.below(8) {
+            0 => self.random.any_double(),
+            _ => self.one_of(&edges),
+        }
+    }
+
+    fn site_at_an_edge(&mut self, job: &mut Job) {
+        let place = self.random.below(3);
+        let x = self.edge_of(SITE_RANGES[place]);
+        *[
+            &mut job.site.latitude,
+            &mut job.site.longitude,
+            &mut job.site.series_step,
+        ][place] = x;
+    }
+
+    fn whole_number_at_an_edge(&mut self, job: &mut Job) {
+        let odd = [0, 1, 2, 365, 366, 1 << 32, (1 << 32) + 1, 1 << 63, u64::MAX];
+        let word = self.one_of(&odd);
+        match self.random.below(5) {
+            0 => job.site.start_day = word,
+            1 => job.site.leap_year = word,
+            2 => job.site.direct_beam_conversion = word,
+            3 => job.site.timezone = self.one_of(&[-13, 14, -14, 15]),
+            _ => job.site.timezone = word as i64,
+        }
+    }
+
+    fn times_at_an_edge(&mut self, job: &mut Job) {
+        let place = self.random.below(3);
+        job.times[place] = self.edge_of(TIME_RANGES[place]);
+    }
+
+    /// The run's last steps about the end of the year.
+    fn end_of_the_year(&mut self, job: &mut Job) {
+        let hours = self.one_of(&[8760.0, 8784.0, 8783.0, 8759.0]);
+        let step = job.times[2];
+        let start: f64 = hours - step * self.random.below(4) as f64;
+        let start = ulps_from(start, self.random.below(3) as i64 - 1);
+        let end = start + step * self.random.below(4) as f64;
+        job.times = [start.clamp(0.0, 8784.0), end.clamp(1.0, 8784.0), step];
+        job.site.start_day = 360 + self.random.below(6) as u64;
+        job.site.leap_year = self.random.below(2) as u64;
+        self.fit(job);
+    }
+
+    fn surface_at_an_edge(&mut self, job: &mut Job) {
+        let place = self.random.below(5);
+        job.surface[place] = self.edge_of(SURFACE_RANGES[place]);
+    }
+
+    /// The objects of a job with the sun of one of its steps.
+    fn scene(&mut self, job: &Job) -> Scene {
+        let steps = steps_if_any(&job.site, &job.times);
+        let (altitude, azimuth) = self.sun_of(&job.site, &steps);
+        let [tilt, orientation, base_height, height, width] = job.surface;
+        Scene::of(&Call {
+            numbers: [
+                altitude,
+                azimuth,
+                tilt,
+                orientation,
+                base_height,
+                height,
+                width,
+            ],
+            sectors: job.sectors.clone(),
+            window: job.window.clone(),
+        })
+    }
+
+    fn changed(&mut self, job: &mut Job, change: fn(&mut Random, &mut Scene)) {
+        let mut scene = self.scene(job);
+        change(&mut self.random, &mut scene);
+        put_back(job, scene.call());
+    }
+
+    fn word_damaged(&mut self, job: &mut Job) {
+        self.changed(job, scenes::word_damaged);
+    }
+
+    fn list_damaged(&mut self, job: &mut Job) {
+        let mut call = self.scene(job).call();
+        scenes::length_damaged(&mut self.random, &mut call);
+        put_back(job, call);
+    }
+
+    fn bounds_moved(&mut self, job: &mut Job) {
+        self.changed(job, scenes::bounds_moved);
+    }
+
+    fn reveal_put_in(&mut self, job: &mut Job) {
+        self.changed(job, scenes::reveal_put_in);
+    }
+
+    /// A sector cut in two where the sun stands at some step, about; or with a gap, or a turned
+    /// sector, there. The steps before are accepted where the sun stood in an earlier sector.
+    fn bound_at_the_sun(&mut self, job: &mut Job) {
+        let mut scene = self.scene(job);
+        let bound = 180.0 - scene.numbers[AZIMUTH];
+        let bound = ulps_from(bound, self.random.below(3) as i64 - 1);
+        let holds = |sector: &Sector| {
+            f64::from_bits(sector[START]) < bound && bound < f64::from_bits(sector[END])
+        };
+        if let Some(place) = scene.sectors.iter().position(holds) {
+            let mut second = scene.sectors[place];
+            let [start, end] = [START, END].map(|bound| f64::from_bits(second[bound]));
+            scene.sectors[place][END] = bound.to_bits();
+            second[START] = bound.to_bits();
+            match self.random.below(4) {
+                0 => {}
+                1 => second[START] = self.random.uniform(bound, end).to_bits(),
+                2 => second[END] = self.random.uniform(start, bound).to_bits(),
+                _ => scene.sectors[place][END] = self.random.uniform(start, bound).to_bits(),
+            }
+            scene.sectors.insert(place + 1, second);
+        }
+        put_back(job, scene.call());
+    }
+
+    fn minus_zeros(&mut self, job: &mut Job) {
+        self.changed(job, scenes::minus_zeros);
+        for place in 0..3 {
+            if self.random.below(2) == 0 {
+                job.surface[place] = -0.0;
+            }
+        }
+        if job.times[0] == 0.0 {
+            job.times[0] = -0.0;
+        }
+        if self.random.below(2) == 0 {
+            job.site.latitude = -0.0;
+        }
+    }
+
+    fn series_shortened(&mut self, job: &mut Job) {
+        let list = self.random.below(3);
+        let by = 1 + self.random.below(60);
+        let series = &mut job.series[list];
+        series.truncate(series.len().saturating_sub(by));
+    }
+
+    /// A reading that a step uses, or the one beside it.
+    pub fn reading_damaged(&mut self, job: &mut Job) {
+        let list = self.random.below(3);
+        let x = match self.random.below(4) {
+            0 => f64::from_bits(self.one_of(&NAN_PATTERNS)),
+            _ => self.edge_of(READING_RANGES[list]),
+        };
+        let whole = job.series[list].len() / 8;
+        if whole > 0 {
+            // the last ones are those of the last steps
+            let back = 1 + self.random.below(whole.min(60));
+            let at = 8 * (whole - back);
+            job.series[list][at..at + 8].copy_from_slice(&x.to_le_bytes());
+        }
+    }
+
+    fn results_shortened(&mut self, job: &mut Job) {
+        let by = 1 + self.random.below(2 * 8 * ROW);
+        let results = &mut job.results;
+        results.truncate(results.len().saturating_sub(by));
+    }
+
+    // --- Single steps ---
+
+    /// The call of one of a job's steps, where it has any, for the most part with room for all of
+    /// its doubles.
+    pub fn single_of(&mut self, job: &Job, doubles: usize) -> Single {
+        let steps = steps_if_any(&job.site, &job.times);
+        let step = steps.get(self.random.below(steps.len().max(1)));
+        let reading = |list: usize| {
+            let series = doubles_of(&job.series[list]);
+            step.and_then(|step| series.get(step.index).copied())
+        };
+        let readings = [reading(0), reading(1), reading(2)];
+        let readings = [0, 1, 2].map(|k: usize| match readings[k] {
+            Some(x) => x,
+            None => self.any_reading(k),
+        });
+        let time = step.map_or(job.times[0], |step| step.time);
+        let more = match self.random.below(4) {
+            0 => self.random.below(20),
+            _ => 0,
+        };
+        let mut single = Single {
+            site: job.site,
+            time,
+            surface: job.surface,
+            readings,
+            sectors: job.sectors.clone(),
+            window: job.window.clone(),
+            results: self.bytes(8 * doubles + more),
+        };
+        match self.random.below(32) {
+            0 => {
+                let len = self.random.below(8 * doubles + 1);
+                single.results = self.bytes(len);
+            }
+            1 => {
+                let list = self.random.below(3);
+                single.readings[list] = self.edge_of(READING_RANGES[list]);
+            }
+            2 => single.time = self.edge_of((0.0, 8784.0)),
+            3 => {
+                let hour = self.one_of(&[8760.0, 8784.0, 0.0, 8759.0]);
+                single.time = ulps_from(hour, self.random.below(3) as i64 - 1);
+            }
+            _ => {}
+        }
+        single
+    }
+}
+
+fn put_back(job: &mut Job, call: Call) {
+    job.sectors = call.sectors;
+    job.window = call.window;
+}

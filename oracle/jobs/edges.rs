@@ -1,0 +1,302 @@
+//! Jobs at the edges, one by one.
+
+use super::cases::Maker;
+use crate::published::jobs::*;
+use crate::random::{ulps_from, Random, NAN_PATTERNS};
+use crate::shading::call::{sector, Call, Scene, REVEAL};
+use crate::shading::scenes::edges_of_range;
+
+/// Accepted jobs to change in one place: some steps, one of them at least partly in the shade.
+fn plain_jobs(maker: &mut Maker) -> Vec<Job> {
+    let mut judge = Judge::new();
+    let mut jobs = vec![];
+    while jobs.len() < 2 {
+        let job = maker.sound_job();
+        let mut results = job.results.clone();
+        let answer = judge.run(&job, &mut results);
+        let rows = doubles_of(&results);
+        let shaded = rows.chunks_exact(ROW).take(answer.count as usize);
+        let shaded = shaded.filter(|row| 0.0 < row[5] && row[5] < 1.0 && row[2] > 1.0);
+        let short = job.series.iter().all(|series| series.len() < 1000);
+        let fits = answer.number == 0 && (4..16).contains(&answer.count) && short;
+        if fits && shaded.count() > 2 && job.site.leap_year == jobs.len() as u64 {
+            jobs.push(job);
+        }
+    }
+    jobs
+}
+
+/// Each number at each edge, all others as they were.
+fn single_fields(jobs: &mut Vec<Job>, job: &Job) {
+    let mut push = |change: &dyn Fn(&mut Job)| {
+        let mut other = job.clone();
+        change(&mut other);
+        jobs.push(other);
+    };
+    for x in edges_of_range(SITE_RANGES[0]) {
+        push(&|job| job.site.latitude = x);
+    }
+    for x in edges_of_range(SITE_RANGES[1]) {
+        push(&|job| job.site.longitude = x);
+    }
+    for x in edges_of_range(SITE_RANGES[2]) {
+        push(&|job| job.site.series_step = x);
+    }
+    for n in -15..=15 {
+        push(&|job| job.site.timezone = n);
+    }
+    for n in [1i64 << 32, -1 << 32, i64::MIN, i64::MAX, (1 << 32) + 1] {
+        push(&|job| job.site.timezone = n);
+    }
+    for n in [0, 1, 2, 3, 364, 365, 366, 367, 1 << 32, 1 << 63, u64::MAX] {
+        push(&|job| job.site.start_day = n);
+        push(&|job| job.site.leap_year = n);
+        push(&|job| job.site.direct_beam_conversion = n);
+    }
+    for (place, range) in TIME_RANGES.into_iter().enumerate() {
+        for x in edges_of_range(range) {
+            push(&|job| job.times[place] = x);
+        }
+    }
+    for (place, range) in SURFACE_RANGES.into_iter().enumerate() {
+        for x in edges_of_range(range) {
+            push(&|job| job.surface[place] = x);
+        }
+    }
+}
+
+/// Each list at every length about the one that is needed, and the empty one.
+fn lengths(jobs: &mut Vec<Job>, job: &Job, maker: &mut Maker) {
+    let steps = steps_of(&job.site, &job.times);
+    let words = steps.iter().map(|step| step.index + 1).max().unwrap_or(0);
+    for list in 0..3 {
+        for len in (8 * words).saturating_sub(20)..8 * words + 20 {
+            let mut other = job.clone();
+            other.series[list].resize(len, 0);
+            jobs.push(other);
+        }
+        let mut other = job.clone();
+        other.series[list].clear();
+        jobs.push(other);
+    }
+    let needed = 8 * ROW * steps.len();
+    for len in [0, 1, 8].into_iter().chain(needed - 60..needed + 60) {
+        let mut other = job.clone();
+        other.results = maker.bytes(len);
+        jobs.push(other);
+    }
+    for by in 1..=8 {
+        for list in 0..2 {
+            let mut other = job.clone();
+            let bytes = if list == 0 {
+                &mut other.sectors
+            } else {
+                &mut other.window
+            };
+            bytes.resize(bytes.len() + by, 0);
+            jobs.push(other);
+        }
+    }
+}
+
+/// The reading of each of some steps at each edge, in each list.
+fn readings(jobs: &mut Vec<Job>, job: &Job) {
+    let steps = steps_of(&job.site, &job.times);
+    for (list, range) in READING_RANGES.into_iter().enumerate() {
+        let mut values = edges_of_range(range);
+        values.extend(NAN_PATTERNS.map(f64::from_bits));
+        for x in values {
+            for step in [steps[0], steps[1], steps[steps.len() - 1]] {
+                let mut other = job.clone();
+                let at = 8 * step.index;
+                other.series[list][at..at + 8].copy_from_slice(&x.to_le_bytes());
+                jobs.push(other);
+            }
+        }
+    }
+}
+
+/// Sectors without objects.
+fn sectors_of(bounds: &[(f64, f64)]) -> Vec<u8> {
+    let sectors = bounds.iter().map(|&(start, end)| sector(start, end, &[]));
+    let scene = Scene {
+        numbers: [0.0; 7],
+        sectors: sectors.collect(),
+        window: vec![],
+    };
+    scene.call().sectors
+}
+
+/// The fault that leads to this number where there is no other.
+fn fault(job: &mut Job, number: u32, variant: usize) {
+    match number {
+        1 => job.site.latitude = [91.0, f64::NAN][variant],
+        2 if variant == 0 => job.times[2] = 0.0,
+        // the hour is past the year, and the series are too short as well
+        2 => job.times = [8784.0, 1.0, 1.0],
+        3 => job.surface[variant] = 361.0,
+        4 => job.window.push(0),
+        5 => job.series[variant].clear(),
+        6 => {
+            let list = 2 - variant;
+            let nan = f64::NAN.to_le_bytes();
+            let words = job.series[list].len() / 8;
+            job.series[list] = nan.repeat(words);
+        }
+        7 => job.results.truncate(40),
+        8 => job.sectors = sectors_of(&[(0.0, 1e-9), (2.0, 360.0)]),
+        9 => job.sectors = sectors_of(&[(200.0, 100.0)]),
+        10 => job.sectors = sectors_of(&[]),
+        _ => {
+            let mut scene = Scene::of(&Call {
+                numbers: [0.0; 7],
+                sectors: vec![],
+                window: job.window.clone(),
+            });
+            scene.window.truncate(15);
+            let one = 1.0f64.to_bits();
+            scene.window.push([REVEAL, one, one, 0]);
+            job.window = scene.call().window;
+        }
+    }
+}
+
+/// Every set of faults: which of them is told is told by the order of the refusals.
+fn sets_of_faults(jobs: &mut Vec<Job>, job: &Job, variant: usize) {
+    for set in 1u32..1 << 11 {
+        let mut other = job.clone();
+        // from the last on, so that a part record stays one
+        for number in (1..=11).rev().filter(|number| set >> (number - 1) & 1 == 1) {
+            fault(&mut other, number, variant);
+        }
+        jobs.push(other);
+    }
+}
+
+/// The last steps of the year, in both kinds of year.
+fn ends_of_the_year(jobs: &mut Vec<Job>, job: &Job, maker: &mut Maker) {
+    for leap_year in [0, 1] {
+        for hours in [8760.0, 8784.0] {
+            for step in [0.25, 0.3, 1.0, 7.1, 24.0] {
+                for back in 0..3 {
+                    for count in 0..4 {
+                        let mut other = job.clone();
+                        other.site.leap_year = leap_year;
+                        other.site.start_day = 364;
+                        let start: f64 = hours - step * back as f64;
+                        let end = (start + step * count as f64).min(8784.0);
+                        other.times = [start, end, step];
+                        maker.fit(&mut other);
+                        jobs.push(other);
+                    }
+                }
+            }
+            for steps in -2..=2 {
+                let mut other = job.clone();
+                other.site.leap_year = leap_year;
+                other.site.start_day = 364;
+                other.times = [ulps_from(hours, steps), 10.0, 1.0];
+                maker.fit(&mut other);
+                jobs.push(other);
+            }
+        }
+    }
+}
+
+/// Starts, ends and steps that stand to each other in every way.
+fn step_counts(jobs: &mut Vec<Job>, job: &Job, maker: &mut Maker) {
+    let mut push = |times: Times| {
+        let mut other = job.clone();
+        other.times = times;
+        other.site.start_day = (times[0] / 24.0).min(365.0) as u64;
+        maker.fit(&mut other);
+        jobs.push(other);
+    };
+    for step in [0.25, 0.3, 0.5, 1.0, 7.1, 24.0] {
+        for start in [0.0, -0.0, 3.0, 5000.5, 8784.0] {
+            push([start, f64::max(start, 1.0), step]);
+            push([start, f64::max(start - 1.0, 1.0), step]);
+            for count in 1..=4 {
+                let end = start + step * count as f64;
+                for ulps in -2..=2 {
+                    if end <= 8783.0 {
+                        push([start, ulps_from(end, ulps), step]);
+                    }
+                }
+            }
+        }
+    }
+    push([0.0, 3.0, 0.3]);
+    push([0.0, 3.0, 1.0]);
+    push([0.0, f64::from_bits(1), 1.0]);
+    push([0.0, 6.0, 0.1 + 0.2]);
+}
+
+/// Indexes: before the series begin, at the turn of an entry, and one past the end.
+fn indexes(jobs: &mut Vec<Job>, job: &Job, maker: &mut Maker) {
+    for start in [0.0, 0.25, 5.5, 24.0, 47.9, 700.0] {
+        for start_day in [0, 1, 2, 29, 365] {
+            for series_step in [0.25, 0.3, 1.0, 7.1, 24.0] {
+                for step in [0.25, 1.0] {
+                    let mut other = job.clone();
+                    other.site.start_day = start_day;
+                    other.site.series_step = series_step;
+                    other.times = [start, start + 7.0 * step, step];
+                    maker.fit(&mut other);
+                    jobs.push(other.clone());
+                    let list = other.results.len() % 3;
+                    let len = other.series[list].len();
+                    other.series[list].truncate(len - 8);
+                    jobs.push(other);
+                }
+            }
+        }
+    }
+}
+
+/// Direct −0.0 at every step, and so every product: their sum is 0.
+fn minus_zero_products(jobs: &mut Vec<Job>, job: &Job) {
+    let mut other = job.clone();
+    let words = other.series[1].len() / 8;
+    other.series[1] = (-0.0f64).to_le_bytes().repeat(words);
+    jobs.push(other);
+}
+
+/// The sun square on the glass, where direct is NaN, and overhead, where the altitude is; among
+/// other steps, and by itself.
+fn nan_rows(jobs: &mut Vec<Job>, job: &Job, maker: &mut Maker) {
+    for (latitude, longitude, hour) in [(-8.067087, 8.26, 11.0), (-7.854071, 10.648195, 1427.0)] {
+        for (before, after) in [(0.0, 1.0), (2.0, 1.0), (1.0, 3.0)] {
+            let mut other = job.clone();
+            other.site.latitude = latitude;
+            other.site.longitude = longitude;
+            other.site.timezone = 0;
+            other.site.start_day = 0;
+            other.site.direct_beam_conversion = 0;
+            other.surface[0] = 15.0;
+            other.surface[1] = 180.0;
+            other.times = [hour - before, hour + after, 1.0];
+            other.sectors = sectors_of(&[(0.0, 360.0)]);
+            maker.fit(&mut other);
+            jobs.push(other);
+        }
+    }
+}
+
+pub fn edges() -> Vec<Job> {
+    let mut maker = Maker::new(Random::new(1, "edge jobs"));
+    let mut jobs = vec![];
+    for (variant, job) in plain_jobs(&mut maker).iter().enumerate() {
+        jobs.push(job.clone());
+        single_fields(&mut jobs, job);
+        lengths(&mut jobs, job, &mut maker);
+        readings(&mut jobs, job);
+        sets_of_faults(&mut jobs, job, variant);
+        ends_of_the_year(&mut jobs, job, &mut maker);
+        step_counts(&mut jobs, job, &mut maker);
+        indexes(&mut jobs, job, &mut maker);
+        minus_zero_products(&mut jobs, job);
+        nan_rows(&mut jobs, job, &mut maker);
+    }
+    jobs
+}

@@ -1,0 +1,144 @@
+//! Two jobs compared: the factor's laws over whole runs, from the first step to the last, and over
+//! their sums.
+
+use super::lent::{Left, Lent};
+use crate::comparison::{same, shown, Outcome, Settings};
+use crate::published::jobs::*;
+use crate::published::shading::{Numbers, ALTITUDE};
+use crate::random::Random;
+use crate::shading::call::{Call, Scene};
+use crate::shading::laws::{extents_are_numbers, Law, LAWS};
+
+/// How many pairs of jobs were tried for each law, and how many of their steps; a pair with the same
+/// lists does not count.
+#[derive(Default)]
+pub struct Pairs {
+    tried: [u64; LAWS.len()],
+    steps: u64,
+    skipped: u64,
+}
+
+impl Pairs {
+    pub fn report(&self, settings: &Settings, laws: &[Law]) -> Outcome {
+        for &law in laws {
+            let count = self.tried[law as usize];
+            if count == 0 {
+                return Err(format!("run: no pair of jobs for the {}", law.words()));
+            }
+            settings.detail(&format!("jobs, {}", law.words()), count);
+        }
+        settings.detail("steps of these pairs", self.steps);
+        settings.detail("laws not tried: an extent might be NaN", self.skipped);
+        Ok(())
+    }
+}
+
+/// A run's rows.
+struct Rows(Vec<[f64; ROW]>);
+
+impl Rows {
+    fn of(left: &Left<RunAnswer>) -> Rows {
+        let doubles = doubles_of(&left.results);
+        let rows = doubles.chunks_exact(ROW).map(|row| row.try_into().unwrap());
+        Rows(rows.take(left.answer.count as usize).collect())
+    }
+
+    /// The sum from 0 of the unshaded direct values.
+    fn unshaded(&self) -> f64 {
+        self.0.iter().fold(0.0, |sum, row| sum + row[2])
+    }
+}
+
+/// At most, where both are numbers; a NaN direct value makes both sums NaN.
+fn at_most(a: f64, b: f64) -> bool {
+    a <= b || (a.is_nan() && b.is_nan())
+}
+
+fn sums_hold(law: Law, sum: f64, other: f64, unshaded: f64) -> bool {
+    match law {
+        Law::Range => at_most(0.0, sum) && at_most(sum, unshaded) || unshaded.is_nan(),
+        Law::Reordered | Law::Repeated => same(sum, other),
+        Law::Enlarged => at_most(other, sum),
+        Law::Emptied => same(other, unshaded),
+    }
+}
+
+/// A NaN altitude is outside the beam, where nothing has an extent.
+fn no_nan_extent(numbers: &Numbers) -> bool {
+    numbers[ALTITUDE].is_nan() || extents_are_numbers(numbers)
+}
+
+/// Tries the laws on a job that was accepted and left this.
+pub fn try_laws(
+    laws: &[Law],
+    pairs: &mut Pairs,
+    random: &mut Random,
+    job: &Job,
+    left: &Left<RunAnswer>,
+    lent: &mut Lent,
+) -> Outcome {
+    let rows = Rows::of(left);
+    let [tilt, orientation, base_height, height, width] = job.surface;
+    let numbers = |row: &[f64; ROW]| {
+        let [altitude, azimuth, ..] = *row;
+        [
+            altitude,
+            azimuth,
+            tilt,
+            orientation,
+            base_height,
+            height,
+            width,
+        ]
+    };
+    if rows.0.is_empty() || !rows.0.iter().all(|row| no_nan_extent(&numbers(row))) {
+        pairs.skipped += !rows.0.is_empty() as u64;
+        return Ok(());
+    }
+    // the sun by which further objects are aimed
+    let mut sun = numbers(&rows.0[random.below(rows.0.len())]);
+    if sun[ALTITUDE].is_nan() {
+        sun[ALTITUDE] = 0.0;
+    }
+    let call = Call {
+        numbers: sun,
+        sectors: job.sectors.clone(),
+        window: job.window.clone(),
+    };
+    for &law in laws {
+        let mut scene = Scene::of(&call);
+        law.change(random, &mut scene);
+        let changed = scene.call();
+        let other = Job {
+            sectors: changed.sectors,
+            window: changed.window,
+            ..job.clone()
+        };
+        if law != Law::Range && other == *job {
+            continue;
+        }
+        let got = lent.run(&other)?;
+        let other_rows = Rows::of(&got);
+        let (sum, other_sum) = (left.answer.sum, got.answer.sum);
+        let factors = rows.0.iter().zip(&other_rows.0);
+        let broken = factors
+            .enumerate()
+            .find(|(_, (row, other))| !law.holds(row[5], other[5]) || !same(row[2], other[2]))
+            .map(|(step, _)| step);
+        let alike = got.answer.number == 0 && other_rows.0.len() == rows.0.len();
+        if !alike || broken.is_some() || !sums_hold(law, sum, other_sum, rows.unshaded()) {
+            return Err(format!(
+                "run breaks the law of the {}, step {broken:?}, number {}, sums {} and {}\n{}\n{}",
+                law.name(),
+                got.answer.number,
+                shown(sum),
+                shown(other_sum),
+                super::shown_job(job),
+                super::shown_job(&other),
+            ));
+        }
+        pairs.tried[law as usize] += 1;
+        pairs.steps += rows.0.len() as u64;
+    }
+    Ok(())
+}

@@ -1,0 +1,229 @@
+//! Calls with every list between guard pages.
+
+use super::library::Library;
+use crate::guarded::{Guarded, Side};
+use crate::published::jobs::{Job, RunAnswer, Single};
+
+/// So many bytes beside a list, on the side without a guard page, are looked at too.
+const BESIDE: usize = 64;
+const BESIDE_BYTE: u8 = 0xA5;
+
+/// One list's pages.
+struct Pages {
+    pages: Guarded,
+    side: Side,
+    len: usize,
+}
+
+impl Pages {
+    fn holding(most: usize) -> Self {
+        Pages {
+            pages: Guarded::holding(most),
+            side: Side::Front,
+            len: 0,
+        }
+    }
+
+    fn beside(&mut self) -> &mut [u8] {
+        let offset = self.pages.offset(self.side, self.len);
+        let end = offset + self.len;
+        let bytes = self.pages.bytes();
+        match self.side {
+            Side::Front => {
+                let last = bytes.len().min(end + BESIDE);
+                &mut bytes[end..last]
+            }
+            Side::Back => &mut bytes[offset.saturating_sub(BESIDE)..offset],
+        }
+    }
+
+    fn list(&mut self) -> &mut [u8] {
+        let offset = self.pages.offset(self.side, self.len);
+        let end = offset + self.len;
+        &mut self.pages.bytes()[offset..end]
+    }
+
+    /// Puts a list there, against an end, and gives its address.
+    fn put(&mut self, call: &'static str, back: bool, list: &[u8], more: usize) -> *mut u8 {
+        self.side = if back { Side::Back } else { Side::Front };
+        self.len = list.len();
+        self.list().copy_from_slice(list);
+        self.beside().fill(BESIDE_BYTE);
+        self.pages.lend(call, self.side, self.len, more)
+    }
+
+    fn beside_is_left(&mut self) -> bool {
+        self.beside().iter().all(|&byte| byte == BESIDE_BYTE)
+    }
+}
+
+/// What a call gives and what it leaves in the results.
+pub struct Left<T> {
+    pub answer: T,
+    pub results: Vec<u8>,
+}
+
+/// A side of the comparison, with pages for the lists.
+pub struct Lent {
+    library: Library,
+    /// Diffuse, direct, reflectivity, sectors, window, results.
+    pages: [Pages; 6],
+    turn: usize,
+}
+
+const RESULTS: usize = 5;
+
+impl Lent {
+    /// For lists of at most that many bytes.
+    pub fn new(library: Library, most: usize) -> Self {
+        Lent {
+            library,
+            pages: std::array::from_fn(|_| Pages::holding(most)),
+            turn: 0,
+        }
+    }
+
+    /// Lends the lists, each against the front or the back of its pages, by turns; looks at them
+    /// and at the bytes beside them after the call.
+    fn with<T>(
+        &mut self,
+        call: &'static str,
+        lists: [&[u8]; 6],
+        function: impl FnOnce(&Library, [*mut u8; 6]) -> T,
+    ) -> Result<Left<T>, String> {
+        self.turn += 1;
+        // 41 is odd, so that all 64 patterns of sides come in 64 turns
+        let sides = self.turn * 41;
+        let starts = std::array::from_fn(|k| {
+            self.pages[k].put(call, sides >> k & 1 == 1, lists[k], lists[RESULTS].len())
+        });
+        let answer = function(&self.library, starts);
+        for k in 0..RESULTS {
+            if self.pages[k].list() != lists[k] {
+                return Err(format!(
+                    "{call} changes a list that it only reads, number {k}"
+                ));
+            }
+        }
+        if !self.pages.iter_mut().all(Pages::beside_is_left) {
+            return Err(format!("{call} writes beside a list"));
+        }
+        let results = self.pages[RESULTS].list().to_vec();
+        Ok(Left { answer, results })
+    }
+
+    pub fn run(&mut self, job: &Job) -> Result<Left<RunAnswer>, String> {
+        let Job {
+            site,
+            times: [start, end, step],
+            surface: [tilt, orientation, base_height, height, width],
+            ..
+        } = *job;
+        let [diffuse, direct, reflectivity] = &job.series;
+        let (sectors, window, results) = (&job.sectors, &job.window, &job.results);
+        let lists: [&[u8]; 6] = [diffuse, direct, reflectivity, sectors, window, results];
+        self.with("run", lists, |library, starts| unsafe {
+            (library.run)(
+                site.latitude,
+                site.longitude,
+                site.timezone,
+                site.start_day,
+                site.series_step,
+                site.leap_year,
+                site.direct_beam_conversion,
+                start,
+                end,
+                step,
+                tilt,
+                orientation,
+                base_height,
+                height,
+                width,
+                starts[0],
+                diffuse.len(),
+                starts[1],
+                direct.len(),
+                starts[2],
+                reflectivity.len(),
+                starts[3],
+                sectors.len(),
+                starts[4],
+                window.len(),
+                starts[5],
+                results.len(),
+            )
+        })
+    }
+
+    pub fn step(&mut self, single: &Single) -> Result<Left<u64>, String> {
+        let Single {
+            site,
+            time,
+            surface: [tilt, orientation, base_height, height, width],
+            readings: [diffuse, direct, reflectivity],
+            ..
+        } = *single;
+        let (sectors, window, results) = (&single.sectors, &single.window, &single.results);
+        let lists: [&[u8]; 6] = [&[], &[], &[], sectors, window, results];
+        self.with("step", lists, |library, starts| unsafe {
+            (library.step)(
+                site.latitude,
+                site.longitude,
+                site.timezone,
+                site.start_day,
+                site.series_step,
+                site.leap_year,
+                site.direct_beam_conversion,
+                time,
+                tilt,
+                orientation,
+                base_height,
+                height,
+                width,
+                diffuse,
+                direct,
+                reflectivity,
+                starts[3],
+                sectors.len(),
+                starts[4],
+                window.len(),
+                starts[5],
+                results.len(),
+            )
+        })
+    }
+
+    pub fn irradiance(&mut self, single: &Single) -> Result<Left<u64>, String> {
+        let Single {
+            site,
+            time,
+            surface: [tilt, orientation, base_height, height, width],
+            readings: [diffuse, direct, reflectivity],
+            ..
+        } = *single;
+        let results = &single.results;
+        let lists: [&[u8]; 6] = [&[], &[], &[], &[], &[], results];
+        self.with("irradiance", lists, |library, starts| unsafe {
+            (library.irradiance)(
+                site.latitude,
+                site.longitude,
+                site.timezone,
+                site.start_day,
+                site.series_step,
+                site.leap_year,
+                site.direct_beam_conversion,
+                time,
+                tilt,
+                orientation,
+                base_height,
+                height,
+                width,
+                diffuse,
+                direct,
+                reflectivity,
+                starts[5],
+                results.len(),
+            )
+        })
+    }
+}

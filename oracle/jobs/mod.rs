@@ -1,0 +1,452 @@
+//! Whole jobs and single steps through the library: the specification's checks and the published
+//! Rust against Rattle, every number, step, count, sum and byte of the results.
+
+pub mod cases;
+pub mod edges;
+pub mod laws;
+pub mod lent;
+pub mod library;
+pub mod self_test;
+pub mod wrong;
+
+use crate::comparison::{same, shown, Outcome, Settings, Tally};
+use crate::published::jobs::*;
+use crate::shading::call::Call;
+use crate::shading::laws::Law;
+use crate::shading::smaller;
+use cases::{Maker, MOST_BYTES};
+use laws::{try_laws, Pairs};
+use lent::{Left, Lent};
+use library::Library;
+
+/// What is to be tried.
+#[derive(Clone, Copy)]
+pub struct Plan<'a> {
+    pub edges: &'a [Job],
+    /// Random jobs.
+    pub jobs: usize,
+    pub years: usize,
+    /// Whether answers are compared; else the laws are tried alone.
+    pub compared: bool,
+    pub laws: &'a [Law],
+}
+
+/// Among so many random jobs one is also judged by the published record of the whole job.
+const BY_NEW: usize = 50;
+
+// --- Telling ---
+
+pub fn shown_job(job: &Job) -> String {
+    let JobSite {
+        timezone,
+        start_day,
+        leap_year,
+        direct_beam_conversion,
+        ..
+    } = job.site;
+    let whole = format!(
+        "  timezone {timezone}, start day {start_day}, leap year {leap_year}, conversion \
+         {direct_beam_conversion}"
+    );
+    let doubles = [
+        ("latitude", job.site.latitude),
+        ("longitude", job.site.longitude),
+        ("series step", job.site.series_step),
+        ("start", job.times[0]),
+        ("end", job.times[1]),
+        ("step", job.times[2]),
+    ];
+    let mut lines = vec![whole];
+    lines.extend(doubles.map(|(name, x)| format!("  {name:<11} {}", shown(x))));
+    let steps = steps_if_any(&job.site, &job.times);
+    for (list, name) in ["diffuse", "direct", "reflectivity"].iter().enumerate() {
+        let series = doubles_of(&job.series[list]);
+        let used = steps
+            .iter()
+            .take(8)
+            .map(|step| match series.get(step.index) {
+                Some(&x) => format!("{}: {}", step.index, shown(x)),
+                None => format!("{}: none", step.index),
+            });
+        let used: Vec<String> = used.collect();
+        let len = job.series[list].len();
+        lines.push(format!("  {name}, {len} bytes, {}", used.join(", ")));
+    }
+    lines.push(format!("  results, {} bytes", job.results.len()));
+    lines.push(shown_objects(&job.surface, &job.sectors, &job.window));
+    lines.join("\n")
+}
+
+fn shown_objects(surface: &Surface, sectors: &[u8], window: &[u8]) -> String {
+    let &[tilt, orientation, base_height, height, width] = surface;
+    let call = Call {
+        numbers: [0.0, 0.0, tilt, orientation, base_height, height, width],
+        sectors: sectors.to_vec(),
+        window: window.to_vec(),
+    };
+    let lines = call.shown();
+    let lines: Vec<&str> = lines.lines().skip(2).collect(); // no sun here
+    lines.join("\n")
+}
+
+fn shown_single(single: &Single) -> String {
+    let job = Job {
+        site: single.site,
+        times: [single.time, single.time, 1.0],
+        surface: single.surface,
+        series: single.readings.map(|x| x.to_le_bytes().to_vec()),
+        sectors: single.sectors.clone(),
+        window: single.window.clone(),
+        results: single.results.clone(),
+    };
+    let [d, b, r] = single.readings.map(shown);
+    format!("{}\n  readings {d}, {b}, {r}", shown_job(&job))
+}
+
+fn shown_answer(answer: &RunAnswer) -> String {
+    let RunAnswer {
+        number,
+        step,
+        count,
+        sum,
+    } = *answer;
+    format!(
+        "number {number}, step {step}, count {count}, sum {}",
+        shown(sum)
+    )
+}
+
+fn first_other_byte(right: &[u8], got: &[u8]) -> String {
+    match (0..right.len()).find(|&at| right[at] != got[at]) {
+        Some(at) => {
+            let (row, column) = (at / (8 * ROW), at / 8 % ROW);
+            let word = |bytes: &[u8]| match bytes.get(at / 8 * 8..at / 8 * 8 + 8) {
+                Some(word) => shown(f64::from_le_bytes(word.try_into().unwrap())),
+                None => String::from("a part word"),
+            };
+            format!(
+                "results, byte {at} (row {row}, double {column} of a run): Rust {}, Rattle {}",
+                word(right),
+                word(got)
+            )
+        }
+        None => String::from("results as they should be"),
+    }
+}
+
+// --- Comparing ---
+
+fn answers_same(a: &RunAnswer, b: &RunAnswer) -> bool {
+    (a.number, a.step, a.count) == (b.number, b.step, b.count) && same(a.sum, b.sum)
+}
+
+/// What the judge says of a job, and what it leaves in the results.
+fn judged(judge: &mut Judge, job: &Job) -> Left<RunAnswer> {
+    let mut results = job.results.clone();
+    let answer = judge.run(job, &mut results);
+    Left { answer, results }
+}
+
+fn same_left(right: &Left<RunAnswer>, got: &Left<RunAnswer>) -> bool {
+    answers_same(&right.answer, &got.answer) && right.results == got.results
+}
+
+/// A difference, with the smallest job by which it was found.
+fn difference(job: &Job, judge: &mut Judge, lent: &mut Lent) -> String {
+    let mut differ = |job: &Job| {
+        let right = judged(judge, job);
+        let got = lent.run(job).ok()?;
+        (!same_left(&right, &got)).then_some((right, got))
+    };
+    let mut smallest = job.clone();
+    while let Some(smaller) = smaller_jobs(&smallest)
+        .into_iter()
+        .find(|job| differ(job).is_some())
+    {
+        smallest = smaller;
+    }
+    match differ(&smallest) {
+        Some((right, got)) => format!(
+            "{}\n  Rust   {}\n  Rattle {}\n  {}",
+            shown_job(&smallest),
+            shown_answer(&right.answer),
+            shown_answer(&got.answer),
+            first_other_byte(&right.results, &got.results),
+        ),
+        None => format!("{}\n  differs once and not again", shown_job(job)),
+    }
+}
+
+/// The job without one of its records, or with fewer steps.
+fn smaller_jobs(job: &Job) -> Vec<Job> {
+    let call = Call {
+        numbers: [0.0; 7],
+        sectors: job.sectors.clone(),
+        window: job.window.clone(),
+    };
+    let mut all: Vec<Job> = smaller(&call)
+        .into_iter()
+        .map(|call| Job {
+            sectors: call.sectors,
+            window: call.window,
+            ..job.clone()
+        })
+        .collect();
+    let steps = steps_if_any(&job.site, &job.times);
+    for place in [steps.len() / 2, steps.len().saturating_sub(1)] {
+        if place > 0 && place < steps.len() && steps[place].time < job.times[1] {
+            let mut other = job.clone();
+            other.times[1] = steps[place].time;
+            all.push(other);
+        }
+    }
+    all
+}
+
+/// The judge's rows held to those by the published record of the whole job.
+fn by_new(job: &Job, right: &Left<RunAnswer>) -> Outcome {
+    let rows = doubles_of(&right.results);
+    let by_new = rows_by_new(job);
+    let RunAnswer {
+        number,
+        step,
+        count,
+        ..
+    } = right.answer;
+    let (expected, refused) = match number {
+        0 => (count as usize, 0),
+        _ => (step as usize, 1),
+    };
+    let each = by_new.iter().enumerate();
+    let agree = by_new.len() == expected + refused
+        && each.into_iter().all(|(k, row)| match row {
+            Ok(row) => (0..ROW).all(|place| same(row[place], rows[ROW * k + place])),
+            Err(other) => (*other, k) == (number, expected),
+        });
+    match agree {
+        true => Ok(()),
+        false => Err(format!(
+            "the judge differs from the published record of the whole job\n{}",
+            shown_job(job)
+        )),
+    }
+}
+
+// --- Counting ---
+
+/// How many calls came out in each way.
+#[derive(Default)]
+struct Met {
+    run: [u64; 12],
+    later: [u64; 12],
+    step: [u64; 12],
+    irradiance: [u64; 12],
+    no_steps: u64,
+    one_above_end: u64,
+    leap_day: u64,
+    before_series: u64,
+    shaded: u64,
+    dark: u64,
+    minus_zero: u64,
+    nan: u64,
+    rows: u64,
+}
+
+impl Met {
+    fn note(&mut self, job: &Job, right: &Left<RunAnswer>) {
+        let RunAnswer {
+            number,
+            step,
+            count,
+            ..
+        } = right.answer;
+        self.run[number as usize] += 1;
+        self.later[number as usize] += (step > 0) as u64;
+        if number != 0 {
+            return;
+        }
+        let [start, end, _] = job.times;
+        self.no_steps += (count == 0) as u64;
+        self.one_above_end += (start > end) as u64;
+        self.rows += count;
+        let steps = steps_of(&job.site, &job.times);
+        let rows = doubles_of(&right.results);
+        for (step, row) in steps.iter().zip(rows.chunks_exact(ROW)) {
+            self.leap_day += (step.hour >= 8760) as u64;
+            self.before_series += (step.time < 24.0 * job.site.start_day as f64) as u64;
+            self.shaded += (0.0 < row[5] && row[5] < 1.0 && row[2] > 0.0) as u64;
+            self.dark += (row[5] == 0.0) as u64;
+            self.minus_zero += same(row[2], -0.0) as u64;
+            self.nan += row.iter().any(|x| x.is_nan()) as u64;
+        }
+    }
+
+    fn report(&self, settings: &Settings) -> Outcome {
+        const WORDS: [&str; 12] = [
+            "accepted",
+            "site",
+            "run",
+            "surface",
+            "object",
+            "series",
+            "reading",
+            "results",
+            "gap",
+            "turned",
+            "no sector",
+            "reveal",
+        ];
+        let mut counts = vec![];
+        for number in 0..12 {
+            let word = WORDS[number];
+            counts.push((format!("run, {number} {word}"), self.run[number]));
+            if number >= 8 {
+                let words = format!("run, {number} {word}, past step 0");
+                counts.push((words, self.later[number]));
+            }
+        }
+        for number in [0, 1, 2, 3, 4, 6, 7, 8, 9, 10, 11] {
+            let words = format!("single step, {number} {}", WORDS[number]);
+            counts.push((words, self.step[number]));
+        }
+        for number in [0, 1, 2, 3, 6, 7] {
+            let words = format!("irradiance, {number} {}", WORDS[number]);
+            counts.push((words, self.irradiance[number]));
+        }
+        let kinds = [
+            ("accepted, no steps", self.no_steps),
+            ("accepted, start above end", self.one_above_end),
+            ("rows of accepted runs", self.rows),
+            ("rows past hour 8759", self.leap_day),
+            ("rows before the series begin", self.before_series),
+            ("rows with direct, partly in the shade", self.shaded),
+            ("rows all in the shade", self.dark),
+            ("rows with direct -0.0", self.minus_zero),
+            ("rows with a NaN", self.nan),
+        ];
+        counts.extend(kinds.map(|(what, count)| (String::from(what), count)));
+        for (what, count) in &counts {
+            if *count == 0 {
+                return Err(format!("jobs: none had {what}"));
+            }
+            settings.detail(what, *count);
+        }
+        Ok(())
+    }
+}
+
+// --- The section ---
+
+struct Comparison<'a> {
+    plan: Plan<'a>,
+    judge: Judge,
+    lent: Lent,
+    met: Met,
+    pairs: Pairs,
+    laws_random: crate::random::Random,
+    tally: Tally,
+    by_new: u64,
+}
+
+impl Comparison<'_> {
+    /// One job: its answer and its results, then the laws.
+    fn job(&mut self, job: &Job, also_by_new: bool) -> Outcome {
+        let got = self.lent.run(job)?;
+        if self.plan.compared {
+            let right = judged(&mut self.judge, job);
+            if !same_left(&right, &got) {
+                let words = difference(job, &mut self.judge, &mut self.lent);
+                let cases = self.tally.compared;
+                return Err(format!("run differs after {cases} cases\n{words}"));
+            }
+            self.met.note(job, &right);
+            if also_by_new && (right.answer.number == 0 || right.answer.number >= 8) {
+                by_new(job, &right)?;
+                self.by_new += 1;
+            }
+            self.tally.both_nan += right.answer.sum.is_nan() as u64;
+        }
+        self.tally.compared += 1;
+        if got.answer.number == 0 {
+            let (pairs, random) = (&mut self.pairs, &mut self.laws_random);
+            try_laws(self.plan.laws, pairs, random, job, &got, &mut self.lent)?;
+        }
+        Ok(())
+    }
+
+    /// Both single-step calls of a step.
+    fn singles(&mut self, maker: &mut Maker, job: &Job) -> Outcome {
+        let single = maker.single_of(job, ROW);
+        let mut results = single.results.clone();
+        let number = self.judge.step(&single, &mut results);
+        let got = self.lent.step(&single)?;
+        self.single("step", &single, (number, results), got)?;
+        self.met.step[number as usize] += 1;
+
+        let single = maker.single_of(job, IRRADIANCE_ROW);
+        let mut results = single.results.clone();
+        let number = self.judge.irradiance(&single, &mut results);
+        let got = self.lent.irradiance(&single)?;
+        self.single("irradiance", &single, (number, results), got)?;
+        self.met.irradiance[number as usize] += 1;
+        Ok(())
+    }
+
+    fn single(
+        &self,
+        call: &str,
+        single: &Single,
+        (number, results): (u64, Vec<u8>),
+        got: Left<u64>,
+    ) -> Outcome {
+        if number == got.answer && results == got.results {
+            return Ok(());
+        }
+        Err(format!(
+            "{call} differs after {} jobs\n{}\n  Rust number {number}, Rattle {}\n  {}",
+            self.tally.compared,
+            shown_single(single),
+            got.answer,
+            first_other_byte(&results, &got.results),
+        ))
+    }
+}
+
+pub fn section(settings: &Settings, library: &Library, plan: Plan) -> Outcome {
+    settings.heading("whole jobs and single steps: published Rust against Rattle");
+    let mut all = Comparison {
+        plan,
+        judge: Judge::new(),
+        lent: Lent::new(*library, MOST_BYTES),
+        met: Met::default(),
+        pairs: Pairs::default(),
+        laws_random: settings.random("laws of jobs"),
+        tally: Tally::default(),
+        by_new: 0,
+    };
+    let mut maker = Maker::new(settings.random("jobs"));
+    for job in plan.edges {
+        all.job(job, false)?;
+        if plan.compared {
+            all.singles(&mut maker, job)?;
+        }
+    }
+    for turn in 0..plan.jobs {
+        let job = maker.any_job();
+        all.job(&job, turn % BY_NEW == 0)?;
+        if plan.compared {
+            all.singles(&mut maker, &job)?;
+        }
+    }
+    for turn in 0..plan.years {
+        let job = maker.whole_year(turn);
+        all.job(&job, true)?;
+    }
+    settings.report("jobs", all.tally)?;
+    if plan.compared {
+        all.met.report(settings)?;
+        settings.detail("also judged by the record of a year", all.by_new);
+        settings.detail("jobs of a whole year", plan.years as u64);
+    }
+    all.pairs.report(settings, plan.laws)
+}

@@ -1,0 +1,813 @@
+//! Engines that are wrong in one small way each. The self-test has to find them all.
+//!
+//! They are one plain form of the run and of the single steps, by which a flaw is built in where it
+//! is asked for; a step's row is the judge's own.
+
+use super::library::Library;
+use crate::published::jobs::*;
+use crate::random::ulps_from;
+use crate::shading::call::{Call, Scene};
+use std::cell::RefCell;
+use Flaw::*;
+
+/// The call under which an engine must be found, its name for messages, and the engine.
+pub type Wrong = (&'static str, &'static str, Library);
+
+/// The flaws, and a side of the comparison for each.
+macro_rules! flaws {
+    ($($call:literal: $($flaw:ident),* $(,)?;)*) => {
+        #[derive(Clone, Copy, PartialEq)]
+        #[repr(u8)]
+        pub enum Flaw {
+            /// None: the plain form itself has to pass.
+            Nothing,
+            $($($flaw,)*)*
+        }
+
+        /// What the comparison has to find, with the call that differs.
+        pub fn engines() -> Vec<Wrong> {
+            vec![$($((
+                $call,
+                stringify!($flaw),
+                only($call, engine::<{ Flaw::$flaw as u8 }>()),
+            ),)*)*]
+        }
+    };
+}
+
+flaws! {
+    "run":
+        // lazy ones
+        RefusesAll,
+        NoSectorWithoutWalk,
+        FactorOneAlways,
+        FirstStepCopied,
+        StoresNothing,
+        StepsByQuotient,
+        // the steps
+        StartAboveEndNone,
+        StartAtEndOne,
+        TimeByProduct,
+        HourRounded,
+        LeapHoursAlways,
+        LeapHoursNever,
+        LastHourClosed,
+        // the checks and their order
+        TimezoneOfFourBytes,
+        FlagAboveOneTaken,
+        StartDay366Taken,
+        EndOfZeroTaken,
+        LeastStepOpen,
+        NanTimeTaken,
+        SurfaceBeforeHours,
+        ObjectsBeforeRun,
+        ReadingBeforeSeries,
+        SeriesListByList,
+        SeriesStepByStep,
+        ResultsBeforeReading,
+        ResultsNeverTooShort,
+        ResultsOneRowShort,
+        PartWordInSeries,
+        PartWordInResults,
+        SeriesNotAllSteps,
+        UnusedReadingsChecked,
+        MinusZeroReadingRefused,
+        NanReadingTaken,
+        ReflectivityUpTo10000,
+        // the series
+        IndexRounded,
+        IndexOfTheStep,
+        IndexFromYearStart,
+        NegativeIndexRefused,
+        SeriesStepIgnored,
+        DirectForDiffuse,
+        // what is stored and answered
+        RefusedRowStored,
+        EarlierRowsTakenBack,
+        RowsClearedFirst,
+        BytesPastTheLastTouched,
+        NanWrittenOtherwise,
+        ColumnsSwapped,
+        StepOfRefusalZero,
+        StepOfAcceptanceLast,
+        CountKeptOnRefusal,
+        SumKeptOnRefusal,
+        SumBegunWithFirstProduct,
+        SumBackwards,
+        SumOfDirect,
+        SeriesWrittenTo;
+    "step":
+        StepStoresOnRefusal,
+        StepAtTheYearsEnd,
+        StepResultsUnchecked,
+        StepReadingBeforeObject,
+        StepWithoutFactor,
+        StepNanTime,
+        StepSiteUnchecked;
+    "irradiance":
+        BreakdownLeftOut,
+        IrradianceResultsShort,
+        ConversionIgnored,
+        IrradianceHeightUnchecked,
+        SkyAndGroundSwapped;
+}
+
+struct Plain {
+    flaw: u8,
+}
+
+/// What a run is after its checks: its steps, and the readings of each.
+type Checked = Vec<(Step, Readings)>;
+
+impl Plain {
+    fn is(&self, flaw: Flaw) -> bool {
+        flaw as u8 == self.flaw
+    }
+
+    // --- The steps ---
+
+    fn steps(&self, job: &Job) -> Vec<Step> {
+        let [start, end, step] = job.times;
+        let mut times = vec![];
+        let mut time = start;
+        if start != end || self.is(StartAtEndOne) {
+            times.push(start);
+        }
+        if self.is(StartAboveEndNone) && start > end {
+            times.clear();
+        }
+        while time < end - step {
+            time = match self.is(TimeByProduct) {
+                true => start + step * times.len() as f64,
+                false => time + step,
+            };
+            times.push(time);
+        }
+        if self.is(StepsByQuotient) && start < end {
+            times.truncate(((end - start) / step).ceil() as usize);
+        }
+        let day_hours = match self.is(IndexFromYearStart) {
+            true => 0.0,
+            false => (24 * job.site.start_day) as f64,
+        };
+        let series_step = match self.is(SeriesStepIgnored) {
+            true => 1.0,
+            false => job.site.series_step,
+        };
+        let each = times.iter().enumerate().map(|(k, &time)| {
+            let place = (time - day_hours) / series_step;
+            let index = match self.is(IndexRounded) {
+                true => place.round(),
+                false => place.floor(),
+            };
+            Step {
+                time,
+                hour: match self.is(HourRounded) {
+                    true => time.round() as u32,
+                    false => time.floor() as u32,
+                },
+                index: match () {
+                    _ if self.is(IndexOfTheStep) => k,
+                    _ if self.is(NegativeIndexRefused) && index < 0.0 => usize::MAX,
+                    _ => index as usize,
+                },
+            }
+        });
+        each.collect()
+    }
+
+    fn hours(&self, site: &JobSite) -> u32 {
+        let leap = match site.leap_year {
+            _ if self.is(LeapHoursAlways) => true,
+            _ if self.is(LeapHoursNever) => false,
+            leap => leap == 1,
+        };
+        8760 + 24 * leap as u32 + self.is(LastHourClosed) as u32
+    }
+
+    // --- The checks ---
+
+    fn site_fine(&self, site: &JobSite) -> bool {
+        let mut site = *site;
+        if self.is(TimezoneOfFourBytes) {
+            site.timezone = site.timezone as i32 as i64;
+        }
+        if self.is(FlagAboveOneTaken) {
+            site.leap_year = site.leap_year.min(1);
+        }
+        if self.is(StartDay366Taken) && site.start_day == 366 {
+            site.start_day = 365;
+        }
+        site_fine(&site)
+    }
+
+    fn times_fine(&self, times: &Times) -> bool {
+        let [start, end, step] = *times;
+        let start_fine = match self.is(NanTimeTaken) {
+            true => !(start < 0.0 || start > 8784.0),
+            false => 0.0 <= start && start <= 8784.0,
+        };
+        let end_fine = (0.0 < end || self.is(EndOfZeroTaken) && end == 0.0) && end <= 8784.0;
+        let step_fine = 0.25 <= step && step <= 24.0 && !(self.is(LeastStepOpen) && step == 0.25);
+        start_fine && end_fine && step_fine
+    }
+
+    fn series(&self, bytes: &[u8]) -> Vec<f64> {
+        let mut bytes = bytes.to_vec();
+        if self.is(PartWordInSeries) {
+            bytes.resize(bytes.len().div_ceil(8) * 8, 0);
+        }
+        doubles_of(&bytes)
+    }
+
+    fn reading_fine(&self, list: usize, x: f64) -> bool {
+        match () {
+            _ if self.is(MinusZeroReadingRefused) && x == 0.0 => x.to_bits() == 0,
+            _ if self.is(NanReadingTaken) && x.is_nan() => true,
+            _ if self.is(ReflectivityUpTo10000) => reading_fine(0, x),
+            _ => reading_fine(list, x),
+        }
+    }
+
+    /// 5, then 6, over all steps.
+    fn series_checked(&self, series: &[Vec<f64>; 3], steps: &[Step]) -> Option<u64> {
+        let short = |list: usize, step: &Step| step.index >= series[list].len();
+        let bad = |list: usize, step: &Step| {
+            let x = series[list].get(step.index);
+            x.is_some_and(|&x| !self.reading_fine(list, x))
+        };
+        let steps = match self.is(SeriesNotAllSteps) && steps.len() > 2 {
+            true => &steps[..steps.len() - 1],
+            false => steps,
+        };
+        let some = |lists: &[usize], steps: &[Step], test: &dyn Fn(usize, &Step) -> bool| {
+            steps
+                .iter()
+                .any(|step| lists.iter().any(|&list| test(list, step)))
+        };
+        let both = |lists: &[usize], steps: &[Step]| {
+            if some(lists, steps, &short) {
+                return Some(5);
+            }
+            some(lists, steps, &bad).then_some(6)
+        };
+        let all = [0, 1, 2];
+        if self.is(ReadingBeforeSeries) && some(&all, steps, &bad) {
+            return Some(6);
+        }
+        if self.is(SeriesListByList) {
+            return all.iter().find_map(|&list| both(&[list], steps));
+        }
+        if self.is(SeriesStepByStep) {
+            return steps.iter().find_map(|&step| both(&all, &[step]));
+        }
+        if self.is(UnusedReadingsChecked) && both(&all, steps).is_none() {
+            let any = (0..3).any(|list| series[list].iter().any(|&x| !reading_fine(list, x)));
+            return any.then_some(6);
+        }
+        both(&all, steps)
+    }
+
+    fn checked(&self, job: &Job, results: usize) -> Result<Checked, u64> {
+        if !self.site_fine(&job.site) {
+            return Err(1);
+        }
+        let objects_fine = lists_of(&job.sectors, &job.window).is_some();
+        if self.is(ObjectsBeforeRun) && !objects_fine {
+            return Err(4);
+        }
+        if !self.times_fine(&job.times) {
+            return Err(2);
+        }
+        let steps = self.steps(job);
+        if self.is(SurfaceBeforeHours) && !surface_fine(&job.surface) {
+            return Err(3);
+        }
+        let hours = self.hours(&job.site);
+        if steps.iter().any(|step| step.hour >= hours) {
+            return Err(2);
+        }
+        if !surface_fine(&job.surface) {
+            return Err(3);
+        }
+        if !objects_fine {
+            return Err(4);
+        }
+        let words = match self.is(PartWordInResults) {
+            true => results.div_ceil(8),
+            false => results / 8,
+        };
+        let rows = steps.len() - (self.is(ResultsOneRowShort) && steps.len() > 0) as usize;
+        let too_short = words < ROW * rows && !self.is(ResultsNeverTooShort);
+        let series = [0, 1, 2].map(|list: usize| self.series(&job.series[list]));
+        let of_series = self.series_checked(&series, &steps);
+        if self.is(ResultsBeforeReading) && of_series == Some(6) && too_short {
+            return Err(7);
+        }
+        if let Some(number) = of_series {
+            return Err(number);
+        }
+        if too_short {
+            return Err(7);
+        }
+        let reading = |list: usize, step: &Step| series[list].get(step.index).copied();
+        let readings = |step: &Step| {
+            let mut readings = [0, 1, 2].map(|list| reading(list, step).unwrap_or(0.0));
+            if self.is(DirectForDiffuse) {
+                readings[0] = readings[1];
+            }
+            readings
+        };
+        Ok(steps.iter().map(|step| (*step, readings(step))).collect())
+    }
+
+    // --- The run ---
+
+    /// As much of the doubles as there is room for.
+    fn store(&self, results: &mut [u8], place: usize, row: &[f64]) {
+        for (k, &x) in row.iter().enumerate() {
+            let nan = match self.is(NanWrittenOtherwise) {
+                true => 0xFFF8_0000_0000_0000u64,
+                false => 0x7FF8_0000_0000_0000,
+            };
+            let bits = if x.is_nan() { nan } else { x.to_bits() };
+            let at = (8 * (place + k)).min(results.len());
+            let end = (at + 8).min(results.len());
+            results[at..end].copy_from_slice(&bits.to_le_bytes()[..end - at]);
+        }
+    }
+
+    fn row(&self, judge: &mut Judge, job: &Job, step: Step, readings: Readings) -> Row {
+        if self.is(NoSectorWithoutWalk) {
+            return Err(10);
+        }
+        // the judge panics at an hour past the leap year's
+        let hour = step.hour.min(8783);
+        let mut row = judge.row(&job.site, &job.surface, hour, readings);
+        if let (Ok(row), true) = (&mut row, self.is(FactorOneAlways)) {
+            row[5] = 1.0;
+        }
+        if let (Ok(row), true) = (&mut row, self.is(ColumnsSwapped)) {
+            row.swap(3, 4);
+        }
+        row
+    }
+
+    fn refused(&self, number: u64, step: usize, sum: f64) -> RunAnswer {
+        RunAnswer {
+            number,
+            step: if self.is(StepOfRefusalZero) {
+                0
+            } else {
+                step as u64
+            },
+            count: if self.is(CountKeptOnRefusal) {
+                step as u64
+            } else {
+                0
+            },
+            sum: if self.is(SumKeptOnRefusal) { sum } else { 0.0 },
+        }
+    }
+
+    fn sum(&self, rows: &[[f64; ROW]]) -> f64 {
+        let mut products: Vec<f64> = rows
+            .iter()
+            .map(|row| match self.is(SumOfDirect) {
+                true => row[2],
+                false => row[5] * row[2],
+            })
+            .collect();
+        if self.is(SumBackwards) {
+            products.reverse();
+        }
+        match (self.is(SumBegunWithFirstProduct), products.split_first()) {
+            (true, Some((first, rest))) => rest.iter().fold(*first, |sum, x| sum + x),
+            _ => products.iter().fold(0.0, |sum, x| sum + x),
+        }
+    }
+
+    fn run(&self, judge: &mut Judge, job: &Job, results: &mut [u8]) -> RunAnswer {
+        if self.is(RefusesAll) {
+            return refused(1, 0);
+        }
+        let before = results.to_vec();
+        let steps = match self.checked(job, results.len()) {
+            Ok(steps) => steps,
+            Err(number) => return self.refused(number, 0, 0.0),
+        };
+        judge.lend(lists_of(&job.sectors, &job.window).unwrap());
+        if self.is(RowsClearedFirst) {
+            results[..8 * ROW * steps.len()].fill(0);
+        }
+        let mut rows = vec![];
+        for (k, &(step, readings)) in steps.iter().enumerate() {
+            let row = match self.row(judge, job, step, readings) {
+                Ok(row) => row,
+                Err(number) => {
+                    if self.is(RefusedRowStored) {
+                        let row = judge.hour(&job.site, &job.surface, step.hour, readings);
+                        self.store(results, ROW * k, &row[..5]);
+                    }
+                    if self.is(EarlierRowsTakenBack) {
+                        results.copy_from_slice(&before);
+                    }
+                    return self.refused(number, k, self.sum(&rows));
+                }
+            };
+            rows.push(if self.is(FirstStepCopied) && k > 0 {
+                rows[0]
+            } else {
+                row
+            });
+            self.store(results, ROW * k, &rows[k]);
+        }
+        if self.is(StoresNothing) {
+            results.copy_from_slice(&before);
+        }
+        if self.is(BytesPastTheLastTouched) {
+            results[8 * ROW * rows.len()..].fill(0);
+        }
+        RunAnswer {
+            number: 0,
+            step: match self.is(StepOfAcceptanceLast) {
+                true => (rows.len() as u64).saturating_sub(1),
+                false => 0,
+            },
+            count: rows.len() as u64,
+            sum: self.sum(&rows),
+        }
+    }
+
+    // --- Single steps ---
+
+    fn single_checked(&self, single: &Single, objects: bool, doubles: usize) -> Option<u64> {
+        let time = single.time;
+        let time_fine = 0.0 <= time && time <= 8784.0 || self.is(StepNanTime) && time.is_nan();
+        let hours = self.hours(&single.site) + self.is(StepAtTheYearsEnd) as u32;
+        let mut surface = single.surface;
+        if self.is(IrradianceHeightUnchecked) && !objects {
+            surface[3] = 1.0;
+        }
+        let site_fine = self.site_fine(&single.site) || self.is(StepSiteUnchecked) && objects;
+        let objects_fine = !objects || lists_of(&single.sectors, &single.window).is_some();
+        let all = single.readings.iter().enumerate();
+        let readings_fine = all.into_iter().all(|(k, &x)| reading_fine(k, x));
+        let too_short = match self.is(IrradianceResultsShort) && !objects {
+            true => single.results.len() / 8 < doubles - 1,
+            false => single.results.len() / 8 < doubles,
+        };
+        let mut checks = [
+            (!site_fine, 1),
+            (!time_fine || time.floor() as u32 >= hours, 2),
+            (!surface_fine(&surface), 3),
+            (!objects_fine, 4),
+            (!readings_fine, 6),
+            (too_short && !(self.is(StepResultsUnchecked) && objects), 7),
+        ];
+        if self.is(StepReadingBeforeObject) {
+            checks.swap(3, 4);
+        }
+        checks.iter().find(|(holds, _)| *holds).map(|&(_, n)| n)
+    }
+
+    fn step(&self, judge: &mut Judge, single: &Single, results: &mut [u8]) -> u64 {
+        if let Some(number) = self.single_checked(single, true, ROW) {
+            return number;
+        }
+        judge.lend(lists_of(&single.sectors, &single.window).unwrap());
+        let hour = (single.time.floor() as u32).min(8783);
+        let (site, surface) = (&single.site, &single.surface);
+        match judge.row(site, surface, hour, single.readings) {
+            Ok(mut row) => {
+                if self.is(StepWithoutFactor) {
+                    row[5] = 1.0;
+                }
+                self.store(results, 0, &row);
+                0
+            }
+            Err(number) => {
+                if self.is(StepStoresOnRefusal) {
+                    let row = judge.hour(site, surface, hour, single.readings);
+                    self.store(results, 0, &row[..5]);
+                }
+                number
+            }
+        }
+    }
+
+    fn irradiance(&self, judge: &mut Judge, single: &Single, results: &mut [u8]) -> u64 {
+        if let Some(number) = self.single_checked(single, false, IRRADIANCE_ROW) {
+            return number;
+        }
+        let mut site = single.site;
+        if self.is(ConversionIgnored) {
+            site.direct_beam_conversion = 0;
+        }
+        let hour = single.time.floor() as u32;
+        let mut row = judge.hour(&site, &single.surface, hour, single.readings);
+        if self.is(SkyAndGroundSwapped) {
+            row.swap(5, 8);
+        }
+        let stored = if self.is(BreakdownLeftOut) { 5 } else { 9 };
+        self.store(results, 0, &row[..stored]);
+        0
+    }
+}
+
+type Row = Result<[f64; ROW], u64>;
+
+// --- Behind the C interface ---
+
+thread_local! {
+    static JUDGE: RefCell<Judge> = RefCell::new(Judge::new());
+}
+
+unsafe fn list(start: *const u8, len: usize) -> Vec<u8> {
+    std::slice::from_raw_parts(start, len).to_vec()
+}
+
+/// The three calls with what they are given made into records.
+macro_rules! extern_calls {
+    ($run:ident, $step:ident, $irradiance:ident, $flaw:ident, $answers:expr) => {
+        unsafe extern "C" fn $run<const $flaw: u8>(
+            latitude: f64,
+            longitude: f64,
+            timezone: i64,
+            start_day: u64,
+            series_step: f64,
+            leap_year: u64,
+            direct_beam_conversion: u64,
+            start: f64,
+            end: f64,
+            step: f64,
+            tilt: f64,
+            orientation: f64,
+            base_height: f64,
+            height: f64,
+            width: f64,
+            diffuse: *const u8,
+            diffuse_len: usize,
+            direct: *const u8,
+            direct_len: usize,
+            reflectivity: *const u8,
+            reflectivity_len: usize,
+            sectors: *const u8,
+            sectors_len: usize,
+            window: *const u8,
+            window_len: usize,
+            results: *mut u8,
+            results_len: usize,
+        ) -> RunAnswer {
+            let job = Job {
+                site: JobSite {
+                    latitude,
+                    longitude,
+                    timezone,
+                    start_day,
+                    series_step,
+                    leap_year,
+                    direct_beam_conversion,
+                },
+                times: [start, end, step],
+                surface: [tilt, orientation, base_height, height, width],
+                series: [
+                    list(diffuse, diffuse_len),
+                    list(direct, direct_len),
+                    list(reflectivity, reflectivity_len),
+                ],
+                sectors: list(sectors, sectors_len),
+                window: list(window, window_len),
+                results: vec![],
+            };
+            if $flaw == SeriesWrittenTo as u8 && direct_len > 100 {
+                direct.cast_mut().add(50).write(job.series[1][50] ^ 1);
+            }
+            let results = std::slice::from_raw_parts_mut(results, results_len);
+            JUDGE.with_borrow_mut(|judge| $answers.0(judge, &job, results))
+        }
+
+        unsafe extern "C" fn $step<const $flaw: u8>(
+            latitude: f64,
+            longitude: f64,
+            timezone: i64,
+            start_day: u64,
+            series_step: f64,
+            leap_year: u64,
+            direct_beam_conversion: u64,
+            time: f64,
+            tilt: f64,
+            orientation: f64,
+            base_height: f64,
+            height: f64,
+            width: f64,
+            diffuse: f64,
+            direct: f64,
+            reflectivity: f64,
+            sectors: *const u8,
+            sectors_len: usize,
+            window: *const u8,
+            window_len: usize,
+            results: *mut u8,
+            results_len: usize,
+        ) -> u64 {
+            let results = std::slice::from_raw_parts_mut(results, results_len);
+            let single = Single {
+                site: JobSite {
+                    latitude,
+                    longitude,
+                    timezone,
+                    start_day,
+                    series_step,
+                    leap_year,
+                    direct_beam_conversion,
+                },
+                time,
+                surface: [tilt, orientation, base_height, height, width],
+                readings: [diffuse, direct, reflectivity],
+                sectors: list(sectors, sectors_len),
+                window: list(window, window_len),
+                results: results.to_vec(),
+            };
+            JUDGE.with_borrow_mut(|judge| $answers.1(judge, &single, results))
+        }
+
+        unsafe extern "C" fn $irradiance<const $flaw: u8>(
+            latitude: f64,
+            longitude: f64,
+            timezone: i64,
+            start_day: u64,
+            series_step: f64,
+            leap_year: u64,
+            direct_beam_conversion: u64,
+            time: f64,
+            tilt: f64,
+            orientation: f64,
+            base_height: f64,
+            height: f64,
+            width: f64,
+            diffuse: f64,
+            direct: f64,
+            reflectivity: f64,
+            results: *mut u8,
+            results_len: usize,
+        ) -> u64 {
+            let results = std::slice::from_raw_parts_mut(results, results_len);
+            let single = Single {
+                site: JobSite {
+                    latitude,
+                    longitude,
+                    timezone,
+                    start_day,
+                    series_step,
+                    leap_year,
+                    direct_beam_conversion,
+                },
+                time,
+                surface: [tilt, orientation, base_height, height, width],
+                readings: [diffuse, direct, reflectivity],
+                sectors: vec![],
+                window: vec![],
+                results: results.to_vec(),
+            };
+            JUDGE.with_borrow_mut(|judge| $answers.2(judge, &single, results))
+        }
+    };
+}
+
+/// What answers a run, a step and an irradiance.
+struct Answers(
+    fn(&mut Judge, &Job, &mut [u8]) -> RunAnswer,
+    fn(&mut Judge, &Single, &mut [u8]) -> u64,
+    fn(&mut Judge, &Single, &mut [u8]) -> u64,
+);
+
+fn plain<const FLAW: u8>() -> Answers {
+    Answers(
+        |judge, job, results| Plain { flaw: FLAW }.run(judge, job, results),
+        |judge, single, results| Plain { flaw: FLAW }.step(judge, single, results),
+        |judge, single, results| Plain { flaw: FLAW }.irradiance(judge, single, results),
+    )
+}
+
+extern_calls!(
+    plain_run,
+    plain_step,
+    plain_irradiance,
+    FLAW,
+    plain::<FLAW>()
+);
+
+fn engine<const FLAW: u8>() -> Library {
+    Library {
+        run: plain_run::<FLAW>,
+        step: plain_step::<FLAW>,
+        irradiance: plain_irradiance::<FLAW>,
+    }
+}
+
+/// The flaw in one of the calls, the others without it.
+fn only(call: &str, flawed: Library) -> Library {
+    let mut library = without_flaw();
+    match call {
+        "run" => library.run = flawed.run,
+        "step" => library.step = flawed.step,
+        _ => library.irradiance = flawed.irradiance,
+    }
+    library
+}
+
+/// The plain form without a flaw, which has to pass.
+pub fn without_flaw() -> Library {
+    engine::<{ Nothing as u8 }>()
+}
+
+// --- Engines that break a law ---
+
+#[derive(Clone, Copy, PartialEq)]
+#[repr(u8)]
+enum Lawless {
+    FirstObjectLeftOut,
+    LastObjectAlone,
+    ObjectsCounted,
+    AboveTheWhole,
+    NeverWhole,
+    SumByTheObjects,
+}
+
+fn lawless_run<const WAY: u8>(judge: &mut Judge, job: &Job, results: &mut [u8]) -> RunAnswer {
+    let is = |way: Lawless| way as u8 == WAY;
+    let mut scene = Scene::of(&Call {
+        numbers: [0.0; 7],
+        sectors: job.sectors.clone(),
+        window: job.window.clone(),
+    });
+    let objects = scene.window.len();
+    if is(Lawless::FirstObjectLeftOut) && objects > 0 {
+        scene.window.remove(0);
+    }
+    if is(Lawless::LastObjectAlone) && objects > 0 {
+        scene.window.drain(..objects - 1);
+    }
+    let changed = scene.call();
+    let whole = changed.sectors == job.sectors && 32 * objects == job.window.len();
+    let mut job = job.clone();
+    if whole {
+        job.window = changed.window;
+    }
+    let mut answer = judge.run(&job, results);
+    if answer.number != 0 {
+        return answer;
+    }
+    let mut sum = 0.0;
+    for row in results
+        .chunks_exact_mut(8 * ROW)
+        .take(answer.count as usize)
+    {
+        let doubles = doubles_of(row);
+        let (direct, mut factor) = (doubles[2], doubles[5]);
+        if is(Lawless::ObjectsCounted) {
+            factor *= 1.0 - objects as f64 / 1000.0;
+        }
+        if is(Lawless::AboveTheWhole) && factor == 1.0 {
+            factor = ulps_from(1.0, 1);
+        }
+        if is(Lawless::NeverWhole) && factor == 1.0 {
+            factor = ulps_from(1.0, -1);
+        }
+        store(row, 5, &[factor]);
+        sum += factor * direct;
+    }
+    answer.sum = sum;
+    if is(Lawless::SumByTheObjects) {
+        answer.sum += objects as f64;
+    }
+    answer
+}
+
+fn lawless<const WAY: u8>() -> Answers {
+    Answers(lawless_run::<WAY>, |_, _, _| 0, |_, _, _| 0)
+}
+
+extern_calls!(run_by, step_by, irradiance_by, WAY, lawless::<WAY>());
+
+/// What each law has to find, tried alone.
+pub fn lawless_engines(law: crate::shading::laws::Law) -> Vec<Wrong> {
+    use crate::shading::laws::Law;
+    macro_rules! ways {
+        ($($way:ident),*) => {
+            vec![$(("run", stringify!($way), Library {
+                run: run_by::<{ Lawless::$way as u8 }>,
+                step: step_by::<{ Lawless::$way as u8 }>,
+                irradiance: irradiance_by::<{ Lawless::$way as u8 }>,
+            })),*]
+        };
+    }
+    match law {
+        Law::Range => ways!(AboveTheWhole),
+        Law::Reordered => ways!(FirstObjectLeftOut, LastObjectAlone),
+        Law::Repeated => ways!(ObjectsCounted, SumByTheObjects),
+        Law::Enlarged => ways!(LastObjectAlone, SumByTheObjects),
+        Law::Emptied => ways!(NeverWhole),
+    }
+}

@@ -1,0 +1,452 @@
+//! Whole jobs and single steps: the specification's checks of what goes in, read off its text, and
+//! then the published Rust, step by step.
+//!
+//! Each step has its hour put into a published record of one hour, which takes a microsecond where
+//! the record of a whole year takes milliseconds; `rows_by_new` has the same rows by the latter.
+
+use super::conditions::{sun_at, OneHour, Site, FIRST_STEP};
+use super::shading::{sectors_of, window_of, within};
+use super::*;
+use crate::support::refusal_number;
+
+/// "Latitude −90..90, longitude −180..180, timezone −13..14, start day 0..365, series step 0.25..24
+/// hours, leap year or not, conversion of direct beam or not (each 0 or 1)."
+#[derive(Clone, Copy, PartialEq)]
+pub struct JobSite {
+    pub latitude: f64,
+    pub longitude: f64,
+    pub timezone: i64,
+    pub start_day: u64,
+    pub series_step: f64,
+    pub leap_year: u64,
+    pub direct_beam_conversion: u64,
+}
+
+/// Start, end, step.
+pub type Times = [f64; 3];
+
+/// Tilt, orientation, base height, height, width.
+pub type Surface = [f64; 5];
+
+/// Diffuse, direct, reflectivity.
+pub type Readings = [f64; 3];
+
+/// What a run is given; the results list as it is lent.
+#[derive(Clone, PartialEq)]
+pub struct Job {
+    pub site: JobSite,
+    pub times: Times,
+    pub surface: Surface,
+    pub series: [Vec<u8>; 3],
+    pub sectors: Vec<u8>,
+    pub window: Vec<u8>,
+    pub results: Vec<u8>,
+}
+
+/// What a single-step call is given; the lists of objects are for the one with the factor.
+#[derive(Clone, PartialEq)]
+pub struct Single {
+    pub site: JobSite,
+    pub time: f64,
+    pub surface: Surface,
+    pub readings: Readings,
+    pub sectors: Vec<u8>,
+    pub window: Vec<u8>,
+    pub results: Vec<u8>,
+}
+
+/// A run's answer, as C has it.
+#[repr(C)]
+#[derive(Clone, Copy, Debug)]
+pub struct RunAnswer {
+    pub number: u64,
+    pub step: u64,
+    pub count: u64,
+    pub sum: f64,
+}
+
+/// "On every refusal the step count and the sum are 0."
+pub fn refused(number: u64, step: usize) -> RunAnswer {
+    RunAnswer {
+        number,
+        step: step as u64,
+        count: 0,
+        sum: 0.0,
+    }
+}
+
+/// The doubles of a run's row: altitude, azimuth, direct, diffuse, total, factor.
+pub const ROW: usize = 6;
+/// Those of `pilgartze_irradiance`: the first five and the breakdown.
+pub const IRRADIANCE_ROW: usize = 9;
+
+pub const SITE_RANGES: [(f64, f64); 3] = [(-90.0, 90.0), (-180.0, 180.0), (0.25, 24.0)];
+pub const TIME_RANGES: [(f64, f64); 3] = [(0.0, 8784.0), (0.0, 8784.0), (0.25, 24.0)];
+pub const SURFACE_RANGES: [(f64, f64); 5] = [
+    (0.0, 180.0),
+    (0.0, 360.0),
+    (0.0, 1000.0),
+    (0.001, 1000.0),
+    (0.001, 1000.0),
+];
+pub const READING_RANGES: [(f64, f64); 3] = [(0.0, 10_000.0), (0.0, 10_000.0), (0.0, 1.0)];
+
+fn all_within(values: &[f64], ranges: &[(f64, f64)]) -> bool {
+    let each = values.iter().zip(ranges);
+    each.clone().count() == values.len() && each.into_iter().all(|(&x, &r)| within(x, r).is_some())
+}
+
+pub fn site_fine(site: &JobSite) -> bool {
+    let doubles = [site.latitude, site.longitude, site.series_step];
+    all_within(&doubles, &SITE_RANGES)
+        && (-13..=14).contains(&site.timezone)
+        && site.start_day <= 365
+        && site.leap_year <= 1
+        && site.direct_beam_conversion <= 1
+}
+
+/// "Start 0..8784, end above 0 and up to 8784, step 0.25..24 (hours)."
+fn times_fine(times: &Times) -> bool {
+    all_within(times, &TIME_RANGES) && times[1] > 0.0
+}
+
+pub fn surface_fine(surface: &Surface) -> bool {
+    all_within(surface, &SURFACE_RANGES)
+}
+
+pub fn reading_fine(list: usize, value: f64) -> bool {
+    within(value, READING_RANGES[list]).is_some()
+}
+
+/// "A step's hour not below 8760 (leap 8784)" is refused.
+fn hours_of(site: &JobSite) -> u32 {
+    if site.leap_year == 1 {
+        8784
+    } else {
+        8760
+    }
+}
+
+/// One step of a run whose site and times are in range.
+#[derive(Clone, Copy)]
+pub struct Step {
+    pub time: f64,
+    pub hour: u32,
+    /// The place in the series.
+    pub index: usize,
+}
+
+/// The steps by the published iterator.
+pub fn steps_of(site: &JobSite, times: &Times) -> Vec<Step> {
+    let [start, end, step] = *times;
+    SimulationTime::new(start, end, step)
+        .iter()
+        .map(|step| Step {
+            time: step.time,
+            hour: step.current_hour(),
+            index: step.time_series_idx(site.start_day as u32, site.series_step),
+        })
+        .collect()
+}
+
+/// The steps of any site and times: none where one of their fields is out of range.
+pub fn steps_if_any(site: &JobSite, times: &Times) -> Vec<Step> {
+    match site_fine(site) && times_fine(times) {
+        true => steps_of(site, times),
+        false => vec![],
+    }
+}
+
+/// The doubles of a list of bytes; "a part word at the end counts for nothing".
+pub fn doubles_of(bytes: &[u8]) -> Vec<f64> {
+    let word = |bytes: &[u8]| f64::from_le_bytes(bytes.try_into().unwrap());
+    bytes.chunks_exact(8).map(word).collect()
+}
+
+/// Stores doubles one after the other, from the word at that place on. There is one NaN, and this is
+/// how it is written.
+pub fn store(results: &mut [u8], place: usize, row: &[f64]) {
+    for (k, &x) in row.iter().enumerate() {
+        let bits = match x.is_nan() {
+            true => 0x7FF8_0000_0000_0000u64,
+            false => x.to_bits(),
+        };
+        let at = 8 * (place + k);
+        results[at..at + 8].copy_from_slice(&bits.to_le_bytes());
+    }
+}
+
+/// Both lists of objects, in range.
+pub struct Lists {
+    sectors: Vec<ShadingSegment>,
+    window: Vec<WindowShadingObject>,
+}
+
+pub fn lists_of(sectors: &[u8], window: &[u8]) -> Option<Lists> {
+    Some(Lists {
+        sectors: sectors_of(sectors)?,
+        window: window_of(window)?,
+    })
+}
+
+/// Checks 1 to 7 of a run, in number order: its steps with their readings and its lists, or the
+/// number.
+fn checked(job: &Job, results: usize) -> Result<(Vec<(Step, Readings)>, Lists), u64> {
+    if !site_fine(&job.site) {
+        return Err(1);
+    }
+    if !times_fine(&job.times) {
+        return Err(2);
+    }
+    let steps = steps_of(&job.site, &job.times);
+    if steps.iter().any(|step| step.hour >= hours_of(&job.site)) {
+        return Err(2);
+    }
+    if !surface_fine(&job.surface) {
+        return Err(3);
+    }
+    let lists = lists_of(&job.sectors, &job.window).ok_or(4u64)?;
+    let series = [0, 1, 2].map(|list: usize| doubles_of(&job.series[list]));
+    for list in &series {
+        if steps.iter().any(|step| step.index >= list.len()) {
+            return Err(5);
+        }
+    }
+    let readings = |step: &Step| [0, 1, 2].map(|list: usize| series[list][step.index]);
+    for step in &steps {
+        if !all_within(&readings(step), &READING_RANGES) {
+            return Err(6);
+        }
+    }
+    if results / 8 < ROW * steps.len() {
+        return Err(7);
+    }
+    let steps = steps.into_iter().map(|step| (step, readings(&step)));
+    Ok((steps.collect(), lists))
+}
+
+/// The checks of a single step but for its results: its hour, or the number.
+fn single_checked(single: &Single, with_lists: bool) -> Result<(u32, Option<Lists>), u64> {
+    if !site_fine(&single.site) {
+        return Err(1);
+    }
+    let step = Timestep {
+        index: 0,
+        time: single.time,
+        step: 1.0,
+    };
+    let in_year = within(single.time, (0.0, 8784.0)).is_some();
+    if !in_year || step.current_hour() >= hours_of(&single.site) {
+        return Err(2);
+    }
+    if !surface_fine(&single.surface) {
+        return Err(3);
+    }
+    let lists = match with_lists {
+        true => Some(lists_of(&single.sectors, &single.window).ok_or(4u64)?),
+        false => None,
+    };
+    if !all_within(&single.readings, &READING_RANGES) {
+        return Err(6);
+    }
+    Ok((step.current_hour(), lists))
+}
+
+/// The published record, kept from call to call.
+pub struct Judge {
+    conditions: ExternalConditions,
+    window: Vec<WindowShadingObject>,
+}
+
+impl Judge {
+    pub fn new() -> Self {
+        let conditions = sun_at(0.0, 0.0, vec![]);
+        let window = vec![];
+        Judge { conditions, window }
+    }
+
+    pub fn lend(&mut self, lists: Lists) {
+        self.conditions.shading_segments = Some(lists.sectors);
+        self.window = lists.window;
+    }
+
+    /// The nine doubles of an hour; the record then holds it.
+    pub fn hour(
+        &mut self,
+        site: &JobSite,
+        surface: &Surface,
+        hour: u32,
+        [diffuse, direct, reflectivity]: Readings,
+    ) -> [f64; IRRADIANCE_ROW] {
+        let hour = OneHour {
+            site: Site {
+                latitude: site.latitude,
+                longitude: site.longitude,
+                timezone: site.timezone as i32,
+                conversion_needed: site.direct_beam_conversion == 1,
+                tilt: surface[0],
+                orientation: surface[1],
+            },
+            hour,
+            diffuse,
+            direct,
+            reflectivity,
+        };
+        hour.fill(&mut self.conditions);
+        let answer = hour.answer(&self.conditions);
+        [
+            answer.altitude,
+            answer.azimuth,
+            answer.direct,
+            answer.diffuse,
+            answer.total,
+            answer.sky,
+            answer.circumsolar,
+            answer.horizontal,
+            answer.ground,
+        ]
+    }
+
+    /// The factor in the hour that the record holds, or the number.
+    fn factor(&self, surface: &Surface) -> Result<f64, u64> {
+        factor_by(&self.conditions, surface, &self.window, FIRST_STEP)
+    }
+
+    /// One row of a run, or the number; `lend` comes before it.
+    pub fn row(
+        &mut self,
+        site: &JobSite,
+        surface: &Surface,
+        hour: u32,
+        readings: Readings,
+    ) -> Result<[f64; ROW], u64> {
+        let [altitude, azimuth, direct, diffuse, total, ..] =
+            self.hour(site, surface, hour, readings);
+        let factor = self.factor(surface)?;
+        Ok([altitude, azimuth, direct, diffuse, total, factor])
+    }
+
+    pub fn run(&mut self, job: &Job, results: &mut [u8]) -> RunAnswer {
+        let (steps, lists) = match checked(job, results.len()) {
+            Ok(all) => all,
+            Err(number) => return refused(number, 0),
+        };
+        self.lend(lists);
+        let mut sum = 0.0;
+        for (k, &(step, readings)) in steps.iter().enumerate() {
+            match self.row(&job.site, &job.surface, step.hour, readings) {
+                Ok(row) => {
+                    store(results, ROW * k, &row);
+                    sum += row[5] * row[2];
+                }
+                Err(number) => return refused(number, k),
+            }
+        }
+        RunAnswer {
+            number: 0,
+            step: 0,
+            count: steps.len() as u64,
+            sum,
+        }
+    }
+
+    pub fn step(&mut self, single: &Single, results: &mut [u8]) -> u64 {
+        let (hour, lists) = match single_checked(single, true) {
+            Ok(all) => all,
+            Err(number) => return number,
+        };
+        if results.len() / 8 < ROW {
+            return 7;
+        }
+        self.lend(lists.expect("the lists were asked for"));
+        match self.row(&single.site, &single.surface, hour, single.readings) {
+            Ok(row) => {
+                store(results, 0, &row);
+                0
+            }
+            Err(number) => number,
+        }
+    }
+
+    pub fn irradiance(&mut self, single: &Single, results: &mut [u8]) -> u64 {
+        let (hour, _) = match single_checked(single, false) {
+            Ok(all) => all,
+            Err(number) => return number,
+        };
+        if results.len() / 8 < IRRADIANCE_ROW {
+            return 7;
+        }
+        let row = self.hour(&single.site, &single.surface, hour, single.readings);
+        store(results, 0, &row);
+        0
+    }
+}
+
+fn factor_by(
+    conditions: &ExternalConditions,
+    &[tilt, orientation, base_height, height, width]: &Surface,
+    window: &[WindowShadingObject],
+    step: Timestep,
+) -> Result<f64, u64> {
+    conditions
+        .direct_shading_reduction_factor(
+            base_height,
+            height,
+            width,
+            tilt,
+            Orientation360(orientation),
+            Some(window),
+            step,
+        )
+        .map_err(|error| refusal_number(&error))
+}
+
+/// The rows of a job that passes the checks, by the published record of the whole job and its own
+/// steps; the number of a refusal in place of the first row that is refused.
+pub fn rows_by_new(job: &Job) -> Vec<Result<[f64; ROW], u64>> {
+    let site = &job.site;
+    let [start, end, step] = job.times;
+    let times = SimulationTime::new(start, end, step);
+    let lists = lists_of(&job.sectors, &job.window).expect("lists in range");
+    let [diffuse, direct, reflectivity] =
+        [0, 1, 2].map(|list: usize| doubles_of(&job.series[list]));
+    let conditions = ExternalConditions::new(
+        &times.iter(),
+        vec![],
+        vec![],
+        vec![],
+        diffuse,
+        direct,
+        reflectivity,
+        site.latitude,
+        site.longitude,
+        site.timezone as i32,
+        site.start_day as u32,
+        None,
+        site.series_step,
+        None,
+        None,
+        site.leap_year == 1,
+        site.direct_beam_conversion == 1,
+        Some(lists.sectors),
+    );
+    let mut rows = vec![];
+    for step in times.iter() {
+        let hour = step.current_hour() as usize;
+        let CalculatedDirectDiffuseTotalIrradiance(direct, diffuse, total, _) = conditions
+            .calculated_direct_diffuse_total_irradiance(
+                job.surface[0],
+                Orientation360(job.surface[1]),
+                false,
+                step,
+            );
+        let altitude = conditions.solar_altitudes[hour];
+        let azimuth = conditions.solar_azimuth_angles[hour];
+        let factor = factor_by(&conditions, &job.surface, &lists.window, step);
+        rows.push(factor.map(|factor| [altitude, azimuth, direct, diffuse, total, factor]));
+        if factor.is_err() {
+            break;
+        }
+    }
+    rows
+}
