@@ -2,7 +2,7 @@
 use mathlib.Core.Path.{_≡_, refl, sym, subst, ap}
 use mathlib.Core.Bool.{Bool, true, false, _&&_}
 use mathlib.Core.List.{List}
-use Prim.Native.Nat.{ℕ}
+use Prim.Native.Nat.{ℕ, _<_}
 use lib.Dec.{T, leb}
 use lib.Ieee.{Float}
 use lib.Ieee.Bits.{is-true}
@@ -17,7 +17,13 @@ use Rattle.objects.specs.Checks.{surfaceFine, sectorsFine, windowFine}
 use Rattle.jobs.specs.declared.answers.Reading.{Reading}
 use Rattle.jobs.specs.declared.single.Single.{Single}
 use Rattle.jobs.specs.declared.single.Single.the-variants.{Stored, Refused}
-use Rattle.jobs.specs.Single.{timeFine, first, stepChecked}
+use Rattle.jobs.specs.Single.{timeFine, first, stepChecked, called, storedStep, unlessRefused, stepCall}
+use Rattle.jobs.specs.Job.{Job, readingAt}
+use Rattle.jobs.specs.Step.{stepAt}
+use Rattle.jobs.specs.Run.{putRow, runOf}
+use Rattle.simulation_time.specs.Steps.{timeAt}
+use Rattle.jobs.proofs.RowStores.{Holding}
+use Rattle.jobs.proofs.RunLaws.{rowAt, filled, run-rows}
 
 isStored : Single → Bool
 isStored Stored = true
@@ -48,3 +54,15 @@ lists-passed site time surface reading sectors window results e =
     in
     let t : T (sectorsFine sectors && windowFine window) = subst T (sym both) tt in
     (is-true (sectorsFine sectors) (and-l (sectorsFine sectors) (windowFine window) t), is-true (windowFine window) (and-r (sectorsFine sectors) (windowFine window) t))
+
+-- A single-step call that is given what a run reads at a step, and passes its checks, stores the row that the run holds there.
+pub record RunsRow (job : Job) (r s : List ℕ) (i : ℕ) : Type 0 where
+  pub held : Holding (runOf job r .results) i (rowAt job i)
+  pub stored : stepCall (job .site) (timeAt (job .run) i) (job .surface) (readingAt job (timeAt (job .run) i)) (job .sectors) (job .window) s
+      ≡ called Stored (putRow s 0 (rowAt job i))
+
+pub runs-row : (job : Job) (r s : List ℕ) (i : ℕ) → i < filled (runOf job r .answer)
+    → stepChecked (job .site) (timeAt (job .run) i) (job .surface) (readingAt job (timeAt (job .run) i)) (job .sectors) (job .window) s ≡ Stored
+    → RunsRow job r s i
+unfolding stepCall unlessRefused storedStep stepAt
+runs-row job r s i h e = let p = run-rows job r i h in record { held = p .held; stored = rw (e, p .has-row) refl }

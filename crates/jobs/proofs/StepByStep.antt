@@ -4,10 +4,7 @@ use mathlib.Core.Path.{_≡_, refl, sym, _∙_, ap, ap₂}
 use mathlib.Core.List.{List}
 use Prim.Native.Nat.{ℕ, suc, _+_, _-_, _≤_, _<_}
 use native.Mathlib.Omega.{arith}
-use lib.ListN.{length}
-use lib.Ieee.{Float, binary64, toBits}
-use Rattle.words.specs.Words.{putDouble}
-use Rattle.words.proofs.Laws.{length-putWord}
+use lib.Ieee.{Float}
 use Rattle.doubles.specs.Arithmetic.{_⊕_, _⊗_, whole}
 use Rattle.sun.specs.Hour.{hourOf}
 use Rattle.simulation_time.specs.Timestep.{currentHour}
@@ -26,7 +23,8 @@ use Rattle.jobs.specs.declared.answers.StepAnswer.the-variants as step
 use Rattle.jobs.specs.declared.answers.RunAnswer.the-variants.{Accepted, Refused}
 use Rattle.jobs.specs.Job.{Job, indexAt, readingAt}
 use Rattle.jobs.specs.Step.{sunAt, irradianceAt, shadingAt, stepWith, stepAt}
-use Rattle.jobs.specs.Run.{Ran, ran, putRow, withRow, onRow, runFrom}
+use Rattle.jobs.specs.Run.{ran, putRow, withRow, runFrom}
+use Rattle.jobs.proofs.RunLaws.{run-ended, run-refused, run-onward}
 use Rattle.jobs.specs.Kept.{fixedOf, keptDay, keptHour, irradianceKept, stepKept}
 
 -- by what is kept
@@ -60,37 +58,22 @@ pub of-its-day : (index : ℕ) (kept : KeptDay) → kept ≡ keptDay index → k
 unfolding keptDay
 of-its-day index kept e = e ∙ sym (ap (λ (k : KeptDay). keptDay (k .index)) e)
 
+-- ---- the same over a loop that counts up to `count`
+
 module _ (job : Job) (count i : ℕ) (time sum : Float) (results : List ℕ) where
   one-left : i < count → count - i ≡ suc (count - (i + 1))
   one-left h = omega (arith, h)
 
   pub row-next : (row : Row) → stepAt job time ≡ step.Row row → i < count
       → runFrom (count - (i + 1)) job (i + 1) (time ⊕ job .run .step) (sum ⊕ row .factor ⊗ row .direct) (putRow results i row) ≡ runFrom (count - i) job i time sum results
-  unfolding runFrom onRow withRow
-  row-next row e h = rw (one-left h, e) refl
+  unfolding withRow
+  row-next row e h = rw (one-left h) (sym (run-onward job i time sum results (count - (i + 1)) row e))
 
   pub refused-here : (r : Refusal) → stepAt job time ≡ step.Refused r → i < count → ran (Refused r i) results ≡ runFrom (count - i) job i time sum results
-  unfolding runFrom onRow
-  refused-here r e h = rw (one-left h, e) refl
+  refused-here r e h = rw (one-left h) (sym (run-refused job i time sum results (count - (i + 1)) r e))
 
   pub at-end : i ≡ count → ran (Accepted count sum) results ≡ runFrom (count - i) job i time sum results
-  unfolding runFrom
-  at-end e = let z : count - i ≡ 0 = omega (arith, e) in rw (z, e) refl
+  at-end e = let z : count - i ≡ 0 = omega (arith, e) in rw (z, ← e) (sym (run-ended job i time sum results))
 
 pub at-start : (job : Job) (count : ℕ) (results : List ℕ) → runFrom (count - 0) job 0 (job .run .start) (whole 0) results ≡ runFrom count job 0 (job .run .start) (whole 0) results
 at-start job count results = let z : count - 0 ≡ count = omega arith in ap (λ (n : ℕ). runFrom n job 0 (job .run .start) (whole 0) results) z
-
--- a stored row leaves the list as long as it was
-length-putDouble : (l : List ℕ) (k : ℕ) (x : Float) → length (putDouble l k x) ≡ length l
-unfolding putDouble
-length-putDouble l k x = length-putWord l k (toBits binary64 x)
-
-pub length-putRow : (l : List ℕ) (i : ℕ) (row : Row) → length (putRow l i row) ≡ length l
-unfolding putRow
-length-putRow l i row =
-    length-putDouble _ _ (row .factor)
-    ∙ length-putDouble _ _ (row .total)
-    ∙ length-putDouble _ _ (row .diffuse)
-    ∙ length-putDouble _ _ (row .direct)
-    ∙ length-putDouble _ _ (row .azimuth)
-    ∙ length-putDouble _ _ (row .altitude)

@@ -16,7 +16,8 @@ use Rattle.objects.proofs.AcceptedWindow.{window-places}
 use Rattle.jobs.specs.Job.{Job, jobOf, indexAt, readingAt}
 use Rattle.jobs.specs.Run.{runFrom}
 use Rattle.jobs.specs.Kept.{fixedOf, keptDay, keptHour}
-use Rattle.jobs.proofs.StepByStep.{by-kept, job-step, of-its-hour, of-its-day, row-next, refused-here, at-end, at-start, length-putRow}
+use Rattle.jobs.proofs.StepByStep.{by-kept, job-step, of-its-hour, of-its-day, row-next, refused-here, at-end, at-start}
+use Rattle.jobs.proofs.RowStores.{length-putRow}
 use Rattle.jobs.proofs.run.run_steps.Statement.{statement}
 use Rattle.jobs.proofs.run.run_steps.Tie as tie
 
