@@ -36,13 +36,22 @@ published_items() {
     export ORACLE_PUBLISHED_ITEMS=$PWD/target/oracle/published_items.rs
 }
 
-# need_probes ARCHIVE: the functions that oracle/probes.rs declares, each by name.
-need_probes() {
+# need_functions ARCHIVE SOURCE PREFIX: the functions that the source declares under that prefix, each
+# by name.
+need_functions() {
     [ -f "$1" ] || fail "no library $1"
     local missing
-    missing=$(comm -23 <(sed -n 's/^    fn \(probe_[a-z0-9_]*\)(.*/\1/p' oracle/probes.rs | sort) \
+    missing=$(comm -23 <(sed -n "s/^    fn \\($3_[a-z0-9_]*\\)(.*/\\1/p" "$2" | sort) \
         <(nm -g --defined-only "$1" 2>/dev/null | sed -n 's/.* T //p' | sort))
     [ -z "$missing" ] || fail "the library $1 lacks these functions:"$'\n'"$missing" 1
+}
+
+need_probes() {
+    need_functions "$1" oracle/probes.rs probe
+}
+
+need_pilgartze() {
+    need_functions "$1" oracle/jobs/library.rs pilgartze
 }
 
 # compile SOURCE PROGRAM ARCHIVE: x86-64 without later extensions, as Rattle compiles, so that no

@@ -23,7 +23,7 @@ mod support;
 mod published;
 mod words;
 
-use comparison::{Outcome, Settings};
+use comparison::{whole_number, Outcome, Settings};
 use listing::Program;
 use std::path::PathBuf;
 use std::process::ExitCode;
@@ -45,14 +45,6 @@ struct Arguments {
     // what the self-test has this program do
     read_outside: Option<String>,
     shade_listing: Option<String>,
-}
-
-/// A whole number, decimal or with 0x hexadecimal.
-fn whole_number(text: &str) -> Option<u64> {
-    match text.strip_prefix("0x") {
-        Some(digits) => u64::from_str_radix(digits, 16).ok(),
-        None => text.parse().ok(),
-    }
 }
 
 fn arguments() -> Result<Arguments, String> {

@@ -31,7 +31,7 @@ mod support;
 #[allow(unused_imports)]
 mod published;
 
-use comparison::{Outcome, Settings};
+use comparison::{whole_number, Outcome, Settings};
 use jobs::library::{FACTOR, LIBRARY};
 use jobs::Plan;
 use shading::laws::LAWS;
@@ -62,16 +62,19 @@ fn arguments() -> Result<Arguments, String> {
     let mut words = std::env::args().skip(1);
     while let Some(word) = words.next() {
         let mut number = || {
-            let value = words.next().ok_or(format!("{word} needs a value"))?;
-            let value: u64 = value
-                .parse()
-                .map_err(|_| format!("{word} needs a whole number"))?;
-            Ok::<u64, String>(value)
+            let value = words.next().and_then(|value| whole_number(&value));
+            value.ok_or(format!("{word} needs a whole number"))
         };
         match word.as_str() {
             "--self-test" => arguments.self_test = true,
             "--seed" => arguments.settings.seed = number()?,
-            "--count" => arguments.settings.count = number()?.max(1) as usize,
+            "--count" => {
+                let count = number()? as usize;
+                if count == 0 {
+                    return Err(String::from("--count needs a number above 0"));
+                }
+                arguments.settings.count = count;
+            }
             "--jobs" => arguments.jobs = Some(number()? as usize),
             _ => return Err(format!("{word} is not known")),
         }

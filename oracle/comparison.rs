@@ -97,3 +97,11 @@ pub fn compare<const I: usize, const O: usize>(
     }
     Ok(tally)
 }
+
+/// A whole number, decimal or with 0x hexadecimal.
+pub fn whole_number(text: &str) -> Option<u64> {
+    match text.strip_prefix("0x") {
+        Some(digits) => u64::from_str_radix(digits, 16).ok(),
+        None => text.parse().ok(),
+    }
+}

@@ -2,8 +2,9 @@
 
 use super::cases::Maker;
 use crate::published::jobs::*;
+use crate::published::shading::{MOST_SECTORS, MOST_WINDOW_OBJECTS, SECTOR_WORDS, WINDOW_WORDS};
 use crate::random::{ulps_from, Random, NAN_PATTERNS};
-use crate::shading::call::{sector, Call, Scene, REVEAL};
+use crate::shading::call::{sector, Call, Scene, OVERHANG, REVEAL};
 use crate::shading::scenes::edges_of_range;
 
 /// Accepted jobs to change in one place: some steps, one of them at least partly in the shade.
@@ -85,17 +86,47 @@ fn lengths(jobs: &mut Vec<Job>, job: &Job, maker: &mut Maker) {
         other.results = maker.bytes(len);
         jobs.push(other);
     }
-    for by in 1..=8 {
-        for list in 0..2 {
-            let mut other = job.clone();
-            let bytes = if list == 0 {
-                &mut other.sectors
-            } else {
-                &mut other.window
-            };
-            bytes.resize(bytes.len() + by, 0);
-            jobs.push(other);
-        }
+}
+
+/// The lists of objects at every length about a whole record, and about the most there may be.
+fn object_lengths(jobs: &mut Vec<Job>, job: &Job) {
+    let scene = Scene::of(&Call {
+        numbers: [0.0; 7],
+        sectors: job.sectors.clone(),
+        window: job.window.clone(),
+    });
+    let width = 360.0 / (MOST_SECTORS + 2) as f64;
+    let around =
+        (0..MOST_SECTORS + 2).map(|i| sector(i as f64 * width, (i + 1) as f64 * width, &[]));
+    let near = [OVERHANG, 1.0f64.to_bits(), 0, 0];
+    let window = scene
+        .window
+        .iter()
+        .copied()
+        .chain([near; MOST_WINDOW_OBJECTS + 2]);
+    let long = Scene {
+        numbers: [0.0; 7],
+        sectors: around.collect(),
+        window: window.take(MOST_WINDOW_OBJECTS + 2).collect(),
+    }
+    .call();
+    let about = |most: usize, words: usize| {
+        let records = [0, 1, 2, most - 1, most, most + 1, most + 2];
+        let places = records.map(|records| 8 * words * records);
+        places.into_iter().flat_map(move |place| {
+            let lengths = place.saturating_sub(9)..place + 10;
+            lengths.filter(move |&len| len <= 8 * words * (most + 2))
+        })
+    };
+    for len in about(MOST_SECTORS, SECTOR_WORDS) {
+        let mut other = job.clone();
+        other.sectors = long.sectors[..len].to_vec();
+        jobs.push(other);
+    }
+    for len in about(MOST_WINDOW_OBJECTS, WINDOW_WORDS) {
+        let mut other = job.clone();
+        other.window = long.window[..len].to_vec();
+        jobs.push(other);
     }
 }
 
@@ -290,6 +321,7 @@ pub fn edges() -> Vec<Job> {
         jobs.push(job.clone());
         single_fields(&mut jobs, job);
         lengths(&mut jobs, job, &mut maker);
+        object_lengths(&mut jobs, job);
         readings(&mut jobs, job);
         sets_of_faults(&mut jobs, job, variant);
         ends_of_the_year(&mut jobs, job, &mut maker);

@@ -346,6 +346,7 @@ struct Comparison<'a> {
     laws_random: crate::random::Random,
     tally: Tally,
     by_new: u64,
+    years_accepted: u64,
 }
 
 impl Comparison<'_> {
@@ -423,6 +424,7 @@ pub fn section(settings: &Settings, library: &Library, plan: Plan) -> Outcome {
         laws_random: settings.random("laws of jobs"),
         tally: Tally::default(),
         by_new: 0,
+        years_accepted: 0,
     };
     let mut maker = Maker::new(settings.random("jobs"));
     for job in plan.edges {
@@ -440,13 +442,19 @@ pub fn section(settings: &Settings, library: &Library, plan: Plan) -> Outcome {
     }
     for turn in 0..plan.years {
         let job = maker.whole_year(turn);
+        let accepted = all.met.run[0];
         all.job(&job, true)?;
+        all.years_accepted += all.met.run[0] - accepted;
     }
     settings.report("jobs", all.tally)?;
     if plan.compared {
         all.met.report(settings)?;
         settings.detail("also judged by the record of a year", all.by_new);
         settings.detail("jobs of a whole year", plan.years as u64);
+        settings.detail("of these accepted", all.years_accepted);
+        if plan.years > 0 && all.years_accepted == 0 {
+            return Err(String::from("jobs: no whole year was accepted"));
+        }
     }
     all.pairs.report(settings, plan.laws)
 }

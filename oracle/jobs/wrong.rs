@@ -5,6 +5,7 @@
 
 use super::library::Library;
 use crate::published::jobs::*;
+use crate::published::shading::{MOST_SECTORS, MOST_WINDOW_OBJECTS, SECTOR_WORDS, WINDOW_WORDS};
 use crate::random::ulps_from;
 use crate::shading::call::{Call, Scene};
 use std::cell::RefCell;
@@ -64,6 +65,8 @@ flaws! {
         ReadingBeforeSeries,
         SeriesListByList,
         SeriesStepByStep,
+        PartRecordDropped,
+        LongListsTaken,
         ResultsBeforeReading,
         ResultsNeverTooShort,
         ResultsOneRowShort,
@@ -95,7 +98,8 @@ flaws! {
         SumBegunWithFirstProduct,
         SumBackwards,
         SumOfDirect,
-        SeriesWrittenTo;
+        SeriesWrittenTo,
+        WritesBeside;
     "step":
         StepStoresOnRefusal,
         StepAtTheYearsEnd,
@@ -229,6 +233,20 @@ impl Plain {
         }
     }
 
+    fn lists(&self, job: &Job) -> Option<Lists> {
+        let (sector, object) = (8 * SECTOR_WORDS, 8 * WINDOW_WORDS);
+        let (mut sectors, mut window) = (&job.sectors[..], &job.window[..]);
+        if self.is(PartRecordDropped) {
+            sectors = &sectors[..sectors.len() / sector * sector];
+            window = &window[..window.len() / object * object];
+        }
+        if self.is(LongListsTaken) {
+            sectors = &sectors[..sectors.len().min(MOST_SECTORS * sector)];
+            window = &window[..window.len().min(MOST_WINDOW_OBJECTS * object)];
+        }
+        lists_of(sectors, window)
+    }
+
     /// 5, then 6, over all steps.
     fn series_checked(&self, series: &[Vec<f64>; 3], steps: &[Step]) -> Option<u64> {
         let short = |list: usize, step: &Step| step.index >= series[list].len();
@@ -272,7 +290,7 @@ impl Plain {
         if !self.site_fine(&job.site) {
             return Err(1);
         }
-        let objects_fine = lists_of(&job.sectors, &job.window).is_some();
+        let objects_fine = self.lists(job).is_some();
         if self.is(ObjectsBeforeRun) && !objects_fine {
             return Err(4);
         }
@@ -396,7 +414,7 @@ impl Plain {
             Ok(steps) => steps,
             Err(number) => return self.refused(number, 0, 0.0),
         };
-        judge.lend(lists_of(&job.sectors, &job.window).unwrap());
+        judge.lend(self.lists(job).unwrap());
         if self.is(RowsClearedFirst) {
             results[..8 * ROW * steps.len()].fill(0);
         }
@@ -582,6 +600,11 @@ macro_rules! extern_calls {
             };
             if $flaw == SeriesWrittenTo as u8 && direct_len > 100 {
                 direct.cast_mut().add(50).write(job.series[1][50] ^ 1);
+            }
+            if $flaw == WritesBeside as u8 {
+                let end = results.add(results_len);
+                let guarded = end as usize % crate::guarded::PAGE == 0;
+                *(if guarded { results.sub(1) } else { end }) ^= 1;
             }
             let results = std::slice::from_raw_parts_mut(results, results_len);
             JUDGE.with_borrow_mut(|judge| $answers.0(judge, &job, results))
