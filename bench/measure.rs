@@ -17,23 +17,28 @@ pub fn nanoseconds(what: impl FnOnce()) -> f64 {
     start.elapsed().as_nanos() as f64
 }
 
-/// Takes rounds of both sides in turns, so that a slow spell of the machine meets both, and prints
-/// a line of the table: the medians and their ratio.
-pub fn line(name: &str, mut rattle: impl FnMut() -> f64, mut rust: impl FnMut() -> f64) {
-    let (mut rattle_times, mut rust_times) = (vec![], vec![]);
-    rattle(); // the first round of each side warms up and does not count
-    rust();
+/// The medians of both sides. Their rounds are taken in turns, so that a slow spell of the machine
+/// meets both.
+pub fn medians(mut one: impl FnMut() -> f64, mut other: impl FnMut() -> f64) -> (f64, f64) {
+    let (mut one_times, mut other_times) = (vec![], vec![]);
+    one(); // the first round of each side warms up and does not count
+    other();
     for turn in 0..ROUNDS {
         // each side goes first in every other turn
         if turn % 2 == 0 {
-            rattle_times.push(rattle());
-            rust_times.push(rust());
+            one_times.push(one());
+            other_times.push(other());
         } else {
-            rust_times.push(rust());
-            rattle_times.push(rattle());
+            other_times.push(other());
+            one_times.push(one());
         }
     }
-    let (rattle, rust) = (median(rattle_times), median(rust_times));
+    (median(one_times), median(other_times))
+}
+
+/// Measures both sides and prints a line of the table: the medians and their ratio.
+pub fn line(name: &str, rattle: impl FnMut() -> f64, rust: impl FnMut() -> f64) {
+    let (rattle, rust) = medians(rattle, rust);
     println!(
         "| {name} | {rattle:.2} | {rust:.2} | {:.2} |",
         rattle / rust
