@@ -10,7 +10,3 @@ pub mod ObjectLists
 pub mod TwoJobs
 pub mod Instances
 pub mod EdgeValues
-pub mod AllSteps
-pub mod StepByStep
-pub mod CheckSteps
-pub mod SingleSteps

@@ -5,6 +5,4 @@ pub mod Job
 pub mod Checks
 pub mod Step
 pub mod Run
-pub mod Single
 pub mod Comparison
-pub mod Kept

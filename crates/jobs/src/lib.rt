@@ -1,8 +1,3 @@
-// Jobs: the checks of a call, the run over its steps, and the comparison of two.
+// Jobs: what goes into a job and what comes out of it. The definitions of a run and of two jobs compared stand in specs/, the laws of
+// both in proofs/; the code that meets them is the crate `runs`.
 pub mod answers;
-pub mod checks;
-pub mod kept;
-pub mod rows;
-pub mod run;
-pub mod series;
-pub mod single;

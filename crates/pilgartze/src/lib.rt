@@ -4,7 +4,7 @@ ghost use mathlib.Core.Path.{_≡_};
 ghost use Rattle.shading.specs.Call.{factorCall};
 ghost use Rattle.jobs.specs.Job.{jobOf};
 ghost use Rattle.jobs.specs.Run.{runOf};
-ghost use Rattle.jobs.specs.Single.{singleNumber, stepCall, irradianceCall};
+ghost use Rattle.runs.specs.Single.{singleNumber, stepCall, irradianceCall};
 ghost use Rattle.pilgartze.specs.Answers.{answerFor, factorFor, siteOf, timesOf, surfaceOf, readingOf};
 use jobs::answers::Reading;
 use jobs::answers::RunAnswer;
@@ -113,7 +113,7 @@ pub extern "C" fn pilgartze_run(
         height: height,
         width: width,
     };
-    answer_for(jobs::run::run_job(
+    answer_for(runs::run::run_job(
         site,
         times,
         surface,
@@ -173,7 +173,7 @@ pub extern "C" fn pilgartze_step(
         direct: direct,
         reflectivity: reflectivity,
     };
-    jobs::single::single_number(jobs::single::step_call(
+    runs::single::single_number(runs::single::step_call(
         site,
         time,
         surface,
@@ -229,7 +229,7 @@ pub extern "C" fn pilgartze_irradiance(
         direct: direct,
         reflectivity: reflectivity,
     };
-    jobs::single::single_number(jobs::single::irradiance_call(
+    runs::single::single_number(runs::single::irradiance_call(
         site,
         time,
         surface,

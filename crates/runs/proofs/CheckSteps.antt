@@ -1,0 +1,80 @@
+-- The checks of a job, one after the other: where one fails its refusal is the answer, and where it passes the next is tried.
+use mathlib.Core.Path.{_≡_, refl}
+use mathlib.Core.Bool.{Bool, true, false, _&&_}
+use mathlib.Core.List.{List}
+use Prim.Native.Nat.{ℕ, _*_, _≤_, _<_}
+use borrow.Author.Tests.{le-leb, lt-leb}
+use lib.Dec.{T, leb, leb→le}
+use lib.IntN.{pos, negℤ}
+use lib.Signed.{leZ}
+use lib.Ieee.{Float, neg}
+use Rattle.doubles.specs.Arithmetic.{whole, decimal}
+use lib.Ieee.Fits.{and-l, and-r}
+use Rattle.sun.specs.declared.site.Site.{Site}
+use Rattle.words.specs.Words.{wordCount}
+use Rattle.simulation_time.specs.Steps.{stepCount, times}
+use Rattle.simulation_time.specs.Checks.{runAccepted}
+use Rattle.objects.specs.declared.answers.Refusal.the-variants as refusal
+use Rattle.objects.specs.Checks.{within, surfaceFine, sectorsFine, windowFine}
+use Rattle.jobs.specs.declared.answers.Checked.{Checked}
+use Rattle.jobs.specs.declared.answers.Checked.the-variants.{Steps, Refused}
+use Rattle.jobs.specs.Job.{Job, readingAt}
+use Rattle.jobs.specs.Checks.{siteFine, hoursInYear, atAll, indexFine, readingFine, resultsFine, tried, seriesChecked, checked}
+
+abbrev pub IndicesAre : Job → Bool → Type 0
+IndicesAre job b = atAll (indexFine job) (times (job .run)) ≡ b
+
+abbrev pub ReadingsAre : Job → Bool → Type 0
+ReadingsAre job b = atAll (λ (time : Float). readingFine (readingAt job time)) (times (job .run)) ≡ b
+
+module _ (job : Job) (results : List ℕ) where
+  pub series-refused : IndicesAre job false → Refused refusal.Series ≡ seriesChecked job results
+  unfolding seriesChecked tried
+  series-refused e = rw e refl
+
+  pub reading-refused : IndicesAre job true → ReadingsAre job false → Refused refusal.Reading ≡ seriesChecked job results
+  unfolding seriesChecked tried
+  reading-refused e f = rw (e, f) refl
+
+  pub results-refused : IndicesAre job true → ReadingsAre job true → wordCount results < 6 * stepCount (job .run) → Refused refusal.Results ≡ seriesChecked job results
+  unfolding seriesChecked tried resultsFine
+  results-refused e f h = rw (e, f, lt-leb _ _ h) refl
+
+  pub series-passed : IndicesAre job true → ReadingsAre job true → 6 * stepCount (job .run) ≤ wordCount results → Steps (stepCount (job .run)) ≡ seriesChecked job results
+  unfolding seriesChecked tried resultsFine
+  series-passed e f h = rw (e, f, le-leb _ _ h) refl
+
+  pub site-refused : siteFine (job .site) ≡ false → Refused refusal.Site ≡ checked job results
+  unfolding checked tried
+  site-refused e = rw e refl
+
+  module _ (site : siteFine (job .site) ≡ true) where
+    pub run-refused : runAccepted (hoursInYear (job .site)) (job .run) ≡ false → Refused refusal.Run ≡ checked job results
+    unfolding checked tried
+    run-refused e = rw (site, e) refl
+
+    module _ (steps : runAccepted (hoursInYear (job .site)) (job .run) ≡ true) where
+      pub surface-refused : surfaceFine (job .surface) ≡ false → Refused refusal.Surface ≡ checked job results
+      unfolding checked tried
+      surface-refused e = rw (site, steps, e) refl
+
+      module _ (surface : surfaceFine (job .surface) ≡ true) where
+        pub object-refused : sectorsFine (job .sectors) && windowFine (job .window) ≡ false → Refused refusal.Object ≡ checked job results
+        unfolding checked tried
+        object-refused e = rw (site, steps, surface, e) refl
+
+        pub first-passed : sectorsFine (job .sectors) && windowFine (job .window) ≡ true → seriesChecked job results ≡ checked job results
+        unfolding checked tried
+        first-passed e = rw (site, steps, surface, e) refl
+
+-- the start day of an accepted site
+fourth : (a b c d e f g : Bool) → T (a && b && c && d && e && f && g) → T d
+fourth a b c d e f g t = and-r (a && b && c) d (and-l (a && b && c && d) e (and-l (a && b && c && d && e) f (and-l (a && b && c && d && e && f) g t)))
+
+pub start-day : (site : Site) → T (siteFine site) → site .«start_day» ≤ 365
+unfolding siteFine
+start-day site t =
+    leb→le (site .«start_day») 365
+    (fourth (within (neg (whole 90)) (whole 90) (site .latitude)) (within (neg (whole 180)) (whole 180) (site .longitude))
+    (leZ (negℤ (pos 13)) (site .timezone) && leZ (site .timezone) (pos 14)) (leb (site .«start_day») 365)
+    (within (decimal 25 2) (whole 24) (site .«time_series_step»)) (leb (site .«leap_year») 1) (leb (site .«direct_beam_conversion») 1) t)

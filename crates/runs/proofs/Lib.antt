@@ -1,0 +1,6 @@
+-- `AllSteps` has a test at every step, `CheckSteps` the checks one after the other, `StepByStep` the run over a loop and a step by what
+-- is kept, `SingleSteps` the calls for one step.
+pub mod AllSteps
+pub mod CheckSteps
+pub mod StepByStep
+pub mod SingleSteps

@@ -1,0 +1,153 @@
+-- `run_steps` meets its contract. The loop's invariant: from here the run goes on to what it comes to from the start, and what is kept is that of its hour.
+use mathlib.Core.Path.{_≡_, refl, sym, _∙_, ap, subst}
+use lib.Dec.{T}
+use lib.Ieee.{ofBits}
+use Prim.Native.Nat.{_+_, _-_, _/_, _≤_}
+use Rattle.words.specs.Words.{wordCount}
+use native.Mathlib.Omega.{arith}
+use borrow.Author.Needs.{needs}
+use denote.Ref.{now}
+use lib.ListN.{length}
+use Rattle.doubles.specs.Arithmetic.{_⊕_, _⊗_, whole}
+use Rattle.objects.specs.Objects.{placed}
+use Rattle.objects.specs.Records.{windowObjectsOf}
+use Rattle.objects.proofs.AcceptedSectors.{sector-count}
+use Rattle.objects.proofs.AcceptedWindow.{window-places}
+use Rattle.jobs.specs.Job.{Job, jobOf, indexAt, readingAt}
+use Rattle.jobs.specs.Run.{runFrom}
+use Rattle.runs.specs.Kept.{fixedOf, keptDay, keptHour}
+use Rattle.runs.proofs.StepByStep.{by-kept, job-step, of-its-hour, of-its-day, row-next, refused-here, at-end, at-start}
+use Rattle.jobs.proofs.RowStores.{length-putRow}
+use Rattle.runs.proofs.run.run_steps.Statement.{statement}
+use Rattle.runs.proofs.run.run_steps.Tie as tie
+
+abbrev Inv-loop : tie.InvT-loop
+Inv-loop site run count surface diffuse direct reflectivity sectors window results₀ objects fixed first kept₀ time₀ sum₀ i₀ results kept time sum i =
+    (i ≤ count)
+    × (length results ≡ length results₀)
+    × (fixed ≡ fixedOf site surface)
+    × (placed objects ≡ windowObjectsOf window)
+    × (kept ≡ keptHour site surface sectors (placed objects) (kept .hour))
+    × (runFrom (count - i) (jobOf site run surface diffuse direct reflectivity sectors window) i time sum results
+    ≡ runFrom count (jobOf site run surface diffuse direct reflectivity sectors window) 0 (run .start) (whole 0) results₀)
+
+abbrev μ-loop : tie.MeasureT-loop
+μ-loop site run count surface diffuse direct reflectivity sectors window results₀ objects fixed first kept₀ time₀ sum₀ i₀ results kept time sum i = count - i
+
+few-sectors : (c : tie.Start Inv-loop μ-loop) → wordCount (now (c .args .sectors)) / 27 ≤ 36
+few-sectors c = sector-count (now (c .args .sectors)) (subst T (sym (c .pre .1 .1 .0)) tt)
+
+abbrev job : tie.Start Inv-loop μ-loop → Job
+job c =
+    let a = c .args in
+    jobOf (a .site) (a .run) (a .surface) (now (a .diffuse)) (now (a .direct)) (now (a .reflectivity)) (now (a .sectors)) (now (a .window))
+
+window-of-requires : tie.Need-window-of-requires Inv-loop μ-loop
+window-of-requires c κs = tt
+
+fixed-of-requires : tie.Need-fixed-of-requires Inv-loop μ-loop
+fixed-of-requires c κs = tt
+
+current-hour-requires : tie.Need-current-hour-requires Inv-loop μ-loop
+current-hour-requires c κs = tt
+
+kept-day-requires : tie.Need-kept-day-requires Inv-loop μ-loop
+kept-day-requires c κs = tt
+
+kept-hour-requires : tie.Need-kept-hour-requires Inv-loop μ-loop
+kept-hour-requires c κs = (c .before .before .fixed-of .ensures, (of-its-day _ _ (c .kept-day .ensures), few-sectors (c .before .before .before .before .before .before .before .before .before .before)))
+
+loop-holds : tie.Need-loop-holds Inv-loop μ-loop
+unfolding ofBits whole placed
+loop-holds c =
+    let s = c .before .before .before .before .before .before .before .before .before .before .before in (
+      omega arith,
+      refl,
+      c .before .before .before .fixed-of .ensures,
+      ap placed (c .before .before .before .before .window-of .ensures) ∙ window-places (now (s .args .window)) (subst T (sym (s .pre .1 .1 .1)) tt),
+      of-its-hour _ _ _ _ _ _ (c .kept-hour .ensures),
+      at-start (job s) (s .args .count) (now (s .args .results)),
+    )
+
+hour-at-requires : tie.Need-hour-at-requires Inv-loop μ-loop
+hour-at-requires c κs = let q = c .before .loop .inv in (q .2, (few-sectors (c .before .before .before .before .before .before .before .before .before .before .before .before .before), q .4))
+
+step-at-requires : tie.Need-step-at-requires Inv-loop μ-loop
+step-at-requires c κs = c .before .before .before .before .before .before .before .before .before .before .before .before .before .before .pre .0
+
+enum-known-answer : tie.Need-enum-known-answer Inv-loop μ-loop
+enum-known-answer c = search needs
+
+same-length : tie.Need-same-length Inv-loop μ-loop
+same-length c = c .before .before .before .before .before .before .loop .inv .1
+
+returns : tie.Need-returns Inv-loop μ-loop
+unfolding readingAt indexAt
+returns c =
+    let s = c .before .before .before .before .before .before .before .before .before .before .before .before .before .before .before .before .before .before in
+    let q = c .before .before .before .before .before .before .loop in
+    let e = job-step (job s) (q .time) _ (by-kept (s .args .site) (s .args .surface) (now (s .args .sectors)) (now (s .args .window)) (q .time) (readingAt (job s) (q .time)) _ _ _ _ (q .inv .2) (c .before .before .before .before .hour-at .ensures) (q .inv .3) (c .before .before .before .step-at .ensures)) in
+    refused-here (job s) (s .args .count) (q .i) (q .time) (q .sum) (q .results) _ (sym e ∙ c .before .answer .given .1) (omega arith) ∙ q .inv .5
+
+enum-known-answer-2 : tie.Need-enum-known-answer-2 Inv-loop μ-loop
+enum-known-answer-2 c = search needs
+
+store-row-requires : tie.Need-store-row-requires Inv-loop μ-loop
+store-row-requires c κs = omega (arith, c .before .before .before .before .before .before .before .before .before .before .before .before .before .before .before .before .before .before .before .pre .1 .0)
+
+add-i : tie.Need-add-i Inv-loop μ-loop
+add-i c = omega (arith, c .before .before .before .before .before .before .before .before .before .before .before .before .before .before .before .before .before .before .before .before .before .before .before .before .pre .1 .0)
+
+loop-less : tie.Need-loop-less Inv-loop μ-loop
+loop-less c = omega arith
+
+loop-again : tie.Need-loop-again Inv-loop μ-loop
+unfolding readingAt indexAt
+loop-again c =
+    let s = c .before .before .before .before .before .before .before .before .before .before .before .before .before .before .before .before .before .before .before .before .before .before .before .before in
+    let q = c .before .before .before .before .before .before .before .before .before .before .before .before .loop in
+    let row = c .before .before .before .before .before .before .before .answer2 .given .0 .0 in
+    let kept = c .before .before .before .before .before .before .before .before .before .before .hour-at .ensures in
+    let e = job-step (job s) (q .time) _ (by-kept (s .args .site) (s .args .surface) (now (s .args .sectors)) (now (s .args .window)) (q .time) (readingAt (job s) (q .time)) _ _ _ _ (q .inv .2) kept (q .inv .3) (c .before .before .before .before .before .before .before .before .before .step-at .ensures)) in
+    let on = c .before .before .before .before .before .before .before .before .before .before .before .loop-test .taken in
+    let stored = c .before .before .before .before .store-row .ensures in (
+      omega (arith, on),
+      ap length stored ∙ length-putRow (q .results) (q .i) row ∙ q .inv .1,
+      q .inv .2,
+      q .inv .3,
+      of-its-hour _ _ _ _ _ _ kept,
+      ap (runFrom (s .args .count - (q .i + 1)) (job s) (q .i + 1) (q .time ⊕ s .args .run .step) (q .sum ⊕ row .factor ⊗ row .direct)) stored
+          ∙ row-next (job s) (s .args .count) (q .i) (q .time) (q .sum) (q .results) row (sym e ∙ c .before .before .before .before .before .before .before .answer2 .given .1) on
+          ∙ q .inv .5,
+    )
+
+same-length-2 : tie.Need-same-length-2 Inv-loop μ-loop
+same-length-2 c = c .before .loop .inv .1
+
+returns-2 : tie.Need-returns-2 Inv-loop μ-loop
+returns-2 c = let s = c .before .before .before .before .before .before .before .before .before .before .before .before .before in let q = c .before .loop in at-end (job s) (s .args .count) (q .i) (q .time) (q .sum) (q .results) (omega arith) ∙ q .inv .5
+
+pub run-steps-spec : {M : Type 1} → statement M
+run-steps-spec =
+    tie.close
+    (tie.spec
+    Inv-loop
+    μ-loop
+    window-of-requires
+    fixed-of-requires
+    current-hour-requires
+    kept-day-requires
+    kept-hour-requires
+    loop-holds
+    hour-at-requires
+    step-at-requires
+    enum-known-answer
+    same-length
+    returns
+    enum-known-answer-2
+    store-row-requires
+    add-i
+    loop-less
+    loop-again
+    same-length-2
+    returns-2)

@@ -1,0 +1,210 @@
+// The run: the checks before the first step, then step by step.
+ghost use mathlib.Core.Path.{_≡_};
+ghost use mathlib.Core.Bool.{true};
+ghost use Prim.Native.Nat.{_≤_};
+ghost use Rattle.doubles.specs.Arithmetic.{whole};
+ghost use Rattle.objects.specs.Checks.{sectorsFine, windowFine};
+ghost use Rattle.simulation_time.specs.Steps.{stepCount};
+ghost use Rattle.jobs.specs.Job.{jobOf};
+ghost use Rattle.jobs.specs.Checks.{seriesChecked, checked};
+ghost use Rattle.jobs.specs.Run.{ran, runFrom, runOf};
+use crate::checks::hours_in_year;
+use crate::checks::site_fine;
+use crate::kept::fixed_of;
+use crate::kept::hour_at;
+use crate::kept::kept_day;
+use crate::kept::kept_hour;
+use crate::rows::step_at;
+use crate::rows::store_row;
+use crate::series::indices_fine;
+use crate::series::readings_fine;
+use jobs::answers::Checked;
+use jobs::answers::RunAnswer;
+use jobs::answers::StepAnswer;
+use objects::answers::Refusal;
+use objects::checks::sectors_fine;
+use objects::checks::surface_fine;
+use objects::checks::window_fine;
+use objects::records::window_of;
+use objects::surface::Surface;
+use simulation_time::run::Run;
+use simulation_time::steps::check_run;
+use simulation_time::timestep::current_hour;
+use sun::site::Site;
+use words::word_count;
+
+// Refusals 5 to 7: every step's index on all three series before any value, and room for every step's row.
+fn check_series(
+    site: Site,
+    run: Run,
+    count: u64,
+    surface: Surface,
+    diffuse: &[u8],
+    direct: &[u8],
+    reflectivity: &[u8],
+    sectors: &[u8],
+    window: &[u8],
+    results: &[u8],
+) -> Checked
+    requires { ⌜ site .«start_day» ≤ 365 ⌝ }
+    requires { ⌜ count ≡ stepCount run ⌝ }
+    ensures { λ r. ⌜ r ≡ seriesChecked (jobOf site run surface (now (diffuse .entry)) (now (direct .entry)) (now (reflectivity .entry)) (now (sectors .entry)) (now (window .entry))) (now (results .entry)) ⌝ }
+{
+    let day = site.start_day as u32;
+    let width = site.time_series_step;
+    if !indices_fine(run, count, day, width, diffuse, direct, reflectivity) {
+        return Checked::Refused(Refusal::Series);
+    }
+    if !readings_fine(run, count, day, width, diffuse, direct, reflectivity) {
+        return Checked::Refused(Refusal::Reading);
+    }
+    if (word_count(results) as u64) < 6 * count {
+        return Checked::Refused(Refusal::Results);
+    }
+    Checked::Steps(count)
+}
+
+// Refusals 1 to 7 in number order, or how many steps the job has.
+fn check_job(
+    site: Site,
+    run: Run,
+    surface: Surface,
+    diffuse: &[u8],
+    direct: &[u8],
+    reflectivity: &[u8],
+    sectors: &[u8],
+    window: &[u8],
+    results: &[u8],
+) -> Checked
+    ensures { λ r. ⌜ r ≡ checked (jobOf site run surface (now (diffuse .entry)) (now (direct .entry)) (now (reflectivity .entry)) (now (sectors .entry)) (now (window .entry))) (now (results .entry)) ⌝ }
+{
+    if !site_fine(site) {
+        return Checked::Refused(Refusal::Site);
+    }
+    let steps = check_run(run, hours_in_year(site));
+    if !steps.fine {
+        return Checked::Refused(Refusal::Run);
+    }
+    if !surface_fine(surface) {
+        return Checked::Refused(Refusal::Surface);
+    }
+    if !(sectors_fine(sectors) & window_fine(window)) {
+        return Checked::Refused(Refusal::Object);
+    }
+    let count = steps.count;
+    check_series(
+        site,
+        run,
+        count,
+        surface,
+        diffuse,
+        direct,
+        reflectivity,
+        sectors,
+        window,
+        results,
+    )
+}
+
+// All steps of a job that has passed the checks.
+pub fn run_steps(
+    site: Site,
+    run: Run,
+    count: u64,
+    surface: Surface,
+    diffuse: &[u8],
+    direct: &[u8],
+    reflectivity: &[u8],
+    sectors: &[u8],
+    window: &[u8],
+    results: &mut [u8],
+) -> RunAnswer
+    requires { ⌜ site .«start_day» ≤ 365 ⌝ }
+    requires { ⌜ count ≤ 35137 ⌝ }
+    requires { ⌜ sectorsFine (now sectors) ≡ true ⌝ }
+    requires { ⌜ windowFine (now window) ≡ true ⌝ }
+    ensures { λ r. ⌜ ran r (now (results .exit)) ≡ runFrom count (jobOf site run surface (now (diffuse .entry)) (now (direct .entry)) (now (reflectivity .entry)) (now (sectors .entry)) (now (window .entry))) 0 (run .start) (whole 0) (now (results .entry)) ⌝ }
+{
+    let objects = window_of(window);
+    let fixed = fixed_of(site, surface);
+    let first = current_hour(run.start);
+    let mut kept = kept_hour(
+        site,
+        surface,
+        fixed,
+        kept_day(first / 24),
+        first,
+        sectors,
+        objects,
+    );
+    let mut time = run.start;
+    let mut sum = 0.0;
+    let mut i: u64 = 0;
+    while i < count {
+        kept = hour_at(site, surface, fixed, kept, time, sectors, objects);
+        let answer = step_at(site, fixed, kept, time, diffuse, direct, reflectivity);
+        match answer {
+            StepAnswer::Refused(refusal) => {
+                return RunAnswer::Refused {
+                    refusal: refusal,
+                    step: i,
+                };
+            }
+            StepAnswer::Row(row) => {
+                store_row(results, i as usize, row);
+                sum = sum + row.factor * row.direct;
+            }
+        }
+        time += run.step;
+        i += 1;
+    }
+    RunAnswer::Accepted {
+        count: count,
+        sum: sum,
+    }
+}
+
+// One call of the run: the answer, and in the results a row for each step.
+pub fn run_job(
+    site: Site,
+    run: Run,
+    surface: Surface,
+    diffuse: &[u8],
+    direct: &[u8],
+    reflectivity: &[u8],
+    sectors: &[u8],
+    window: &[u8],
+    results: &mut [u8],
+) -> RunAnswer
+    ensures { λ r. ⌜ ran r (now (results .exit)) ≡ runOf (jobOf site run surface (now (diffuse .entry)) (now (direct .entry)) (now (reflectivity .entry)) (now (sectors .entry)) (now (window .entry))) (now (results .entry)) ⌝ }
+{
+    let answer = check_job(
+        site,
+        run,
+        surface,
+        diffuse,
+        direct,
+        reflectivity,
+        sectors,
+        window,
+        results,
+    );
+    match answer {
+        Checked::Refused(refusal) => RunAnswer::Refused {
+            refusal: refusal,
+            step: 0,
+        },
+        Checked::Steps(count) => run_steps(
+            site,
+            run,
+            count,
+            surface,
+            diffuse,
+            direct,
+            reflectivity,
+            sectors,
+            window,
+            results,
+        ),
+    }
+}
