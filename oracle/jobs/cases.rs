@@ -275,7 +275,12 @@ impl Maker {
         site.start_day = self.any_start_day(times[0]);
         let steps = steps_of(&site, &times);
         let sun = self.sun_of(&site, &steps);
-        let numbers = self.any_numbers(sun);
+        let mut numbers = self.any_numbers(sun);
+        if !steps.is_empty() && self.random.below(8) == 0 {
+            let hour = steps[self.random.below(steps.len())].hour.min(8783);
+            let surface = (&mut numbers[2..]).try_into().unwrap();
+            aim(&mut self.random, &mut site, surface, hour);
+        }
         let (sectors, window) = self.any_lists(&numbers);
         let mut job = Job {
             site,

@@ -63,9 +63,54 @@ fn sums_hold(law: Law, sum: f64, other: f64, unshaded: f64) -> bool {
     }
 }
 
+/// Sun and surface in a row.
+fn numbers(job: &Job, row: &[f64; ROW]) -> Numbers {
+    let mut numbers = [0.0; 7];
+    numbers[..2].copy_from_slice(&row[..2]);
+    numbers[2..].copy_from_slice(&job.surface);
+    numbers
+}
+
 /// A NaN altitude is outside the beam, where nothing has an extent.
 fn no_nan_extent(numbers: &Numbers) -> bool {
     numbers[ALTITUDE].is_nan() || extents_are_numbers(numbers)
+}
+
+/// The job with other objects; further ones are aimed by the sun of one of the rows.
+fn changed(law: Law, random: &mut Random, job: &Job, rows: &Rows) -> Job {
+    let mut sun = numbers(job, &rows.0[random.below(rows.0.len())]);
+    if sun[ALTITUDE].is_nan() {
+        sun[ALTITUDE] = 0.0;
+    }
+    let mut scene = Scene::of(&Call {
+        numbers: sun,
+        sectors: job.sectors.clone(),
+        window: job.window.clone(),
+    });
+    law.change(random, &mut scene);
+    let call = scene.call();
+    Job {
+        sectors: call.sectors,
+        window: call.window,
+        ..job.clone()
+    }
+}
+
+/// What breaks the law in two runs, in words.
+fn broken(law: Law, left: &Left<RunAnswer>, other: &Left<RunAnswer>) -> Option<String> {
+    let (rows, other_rows) = (Rows::of(left), Rows::of(other));
+    let (sum, other_sum) = (left.answer.sum, other.answer.sum);
+    if other.answer.number != 0 || other_rows.0.len() != rows.0.len() {
+        return Some(format!("number {}", other.answer.number));
+    }
+    for (step, (row, other)) in rows.0.iter().zip(&other_rows.0).enumerate() {
+        if !law.holds(row[5], other[5]) || !same(row[2], other[2]) {
+            let (factor, other) = (shown(row[5]), shown(other[5]));
+            return Some(format!("step {step}, factors {factor} and {other}"));
+        }
+    }
+    let holds = sums_hold(law, sum, other_sum, rows.unshaded());
+    (!holds).then(|| format!("sums {} and {}", shown(sum), shown(other_sum)))
 }
 
 /// Tries the laws on a job that was accepted and left this.
@@ -78,61 +123,21 @@ pub fn try_laws(
     lent: &mut Lent,
 ) -> Outcome {
     let rows = Rows::of(left);
-    let [tilt, orientation, base_height, height, width] = job.surface;
-    let numbers = |row: &[f64; ROW]| {
-        let [altitude, azimuth, ..] = *row;
-        [
-            altitude,
-            azimuth,
-            tilt,
-            orientation,
-            base_height,
-            height,
-            width,
-        ]
-    };
-    if rows.0.is_empty() || !rows.0.iter().all(|row| no_nan_extent(&numbers(row))) {
-        pairs.skipped += !rows.0.is_empty() as u64;
+    let all_numbers = rows.0.iter().all(|row| no_nan_extent(&numbers(job, row)));
+    if rows.0.is_empty() || !all_numbers {
+        pairs.skipped += !all_numbers as u64;
         return Ok(());
     }
-    // the sun by which further objects are aimed
-    let mut sun = numbers(&rows.0[random.below(rows.0.len())]);
-    if sun[ALTITUDE].is_nan() {
-        sun[ALTITUDE] = 0.0;
-    }
-    let call = Call {
-        numbers: sun,
-        sectors: job.sectors.clone(),
-        window: job.window.clone(),
-    };
     for &law in laws {
-        let mut scene = Scene::of(&call);
-        law.change(random, &mut scene);
-        let changed = scene.call();
-        let other = Job {
-            sectors: changed.sectors,
-            window: changed.window,
-            ..job.clone()
-        };
+        let other = changed(law, random, job, &rows);
         if law != Law::Range && other == *job {
             continue;
         }
         let got = lent.run(&other)?;
-        let other_rows = Rows::of(&got);
-        let (sum, other_sum) = (left.answer.sum, got.answer.sum);
-        let factors = rows.0.iter().zip(&other_rows.0);
-        let broken = factors
-            .enumerate()
-            .find(|(_, (row, other))| !law.holds(row[5], other[5]) || !same(row[2], other[2]))
-            .map(|(step, _)| step);
-        let alike = got.answer.number == 0 && other_rows.0.len() == rows.0.len();
-        if !alike || broken.is_some() || !sums_hold(law, sum, other_sum, rows.unshaded()) {
+        if let Some(words) = broken(law, left, &got) {
             return Err(format!(
-                "run breaks the law of the {}, step {broken:?}, number {}, sums {} and {}\n{}\n{}",
+                "run breaks the law of the {}: {words}\n{}\nand\n{}",
                 law.name(),
-                got.answer.number,
-                shown(sum),
-                shown(other_sum),
                 super::shown_job(job),
                 super::shown_job(&other),
             ));

@@ -234,6 +234,22 @@ fn by_new(job: &Job, right: &Left<RunAnswer>) -> Outcome {
 
 // --- Counting ---
 
+/// The specification's words for its numbers.
+const WORDS: [&str; 12] = [
+    "accepted",
+    "site",
+    "run",
+    "surface",
+    "object",
+    "series",
+    "reading",
+    "results",
+    "gap",
+    "turned",
+    "no sector",
+    "reveal",
+];
+
 /// How many calls came out in each way.
 #[derive(Default)]
 struct Met {
@@ -281,21 +297,8 @@ impl Met {
         }
     }
 
-    fn report(&self, settings: &Settings) -> Outcome {
-        const WORDS: [&str; 12] = [
-            "accepted",
-            "site",
-            "run",
-            "surface",
-            "object",
-            "series",
-            "reading",
-            "results",
-            "gap",
-            "turned",
-            "no sector",
-            "reveal",
-        ];
+    /// The calls by the number they gave.
+    fn by_number(&self) -> Vec<(String, u64)> {
         let mut counts = vec![];
         for number in 0..12 {
             let word = WORDS[number];
@@ -313,6 +316,10 @@ impl Met {
             let words = format!("irradiance, {number} {}", WORDS[number]);
             counts.push((words, self.irradiance[number]));
         }
+        counts
+    }
+
+    fn report(&self, settings: &Settings) -> Outcome {
         let kinds = [
             ("accepted, no steps", self.no_steps),
             ("accepted, start above end", self.one_above_end),
@@ -324,6 +331,7 @@ impl Met {
             ("rows with direct -0.0", self.minus_zero),
             ("rows with a NaN", self.nan),
         ];
+        let mut counts = self.by_number();
         counts.extend(kinds.map(|(what, count)| (String::from(what), count)));
         for (what, count) in &counts {
             if *count == 0 {
@@ -373,6 +381,28 @@ impl Comparison<'_> {
             try_laws(self.plan.laws, pairs, random, job, &got, &mut self.lent)?;
         }
         Ok(())
+    }
+
+    fn job_and_singles(&mut self, maker: &mut Maker, job: &Job, also_by_new: bool) -> Outcome {
+        self.job(job, also_by_new)?;
+        match self.plan.compared {
+            true => self.singles(maker, job),
+            false => Ok(()),
+        }
+    }
+
+    fn report(&self, settings: &Settings) -> Outcome {
+        settings.report("jobs", self.tally)?;
+        if self.plan.compared {
+            self.met.report(settings)?;
+            settings.detail("also judged by the record of a year", self.by_new);
+            settings.detail("jobs of a whole year", self.plan.years as u64);
+            settings.detail("of these accepted", self.years_accepted);
+            if self.plan.years > 0 && self.years_accepted == 0 {
+                return Err(String::from("jobs: no whole year was accepted"));
+            }
+        }
+        self.pairs.report(settings, self.plan.laws)
     }
 
     /// Both single-step calls of a step.
@@ -428,17 +458,11 @@ pub fn section(settings: &Settings, library: &Library, plan: Plan) -> Outcome {
     };
     let mut maker = Maker::new(settings.random("jobs"));
     for job in plan.edges {
-        all.job(job, false)?;
-        if plan.compared {
-            all.singles(&mut maker, job)?;
-        }
+        all.job_and_singles(&mut maker, job, false)?;
     }
     for turn in 0..plan.jobs {
         let job = maker.any_job();
-        all.job(&job, turn % BY_NEW == 0)?;
-        if plan.compared {
-            all.singles(&mut maker, &job)?;
-        }
+        all.job_and_singles(&mut maker, &job, turn % BY_NEW == 0)?;
     }
     for turn in 0..plan.years {
         let job = maker.whole_year(turn);
@@ -446,15 +470,5 @@ pub fn section(settings: &Settings, library: &Library, plan: Plan) -> Outcome {
         all.job(&job, true)?;
         all.years_accepted += all.met.run[0] - accepted;
     }
-    settings.report("jobs", all.tally)?;
-    if plan.compared {
-        all.met.report(settings)?;
-        settings.detail("also judged by the record of a year", all.by_new);
-        settings.detail("jobs of a whole year", plan.years as u64);
-        settings.detail("of these accepted", all.years_accepted);
-        if plan.years > 0 && all.years_accepted == 0 {
-            return Err(String::from("jobs: no whole year was accepted"));
-        }
-    }
-    all.pairs.report(settings, plan.laws)
+    all.report(settings)
 }

@@ -3,7 +3,7 @@
 
 use super::{edges, section, wrong, Plan};
 use crate::comparison::{Outcome, Settings};
-use crate::published::jobs::Job;
+use crate::published::jobs::{steps_of, Job, JobSite};
 use crate::shading::laws::LAWS;
 
 /// Random jobs for each engine.
@@ -23,6 +23,51 @@ fn found(
     }
 }
 
+/// The specification's counts of steps.
+fn step_counts() -> Outcome {
+    let site = JobSite {
+        latitude: 0.0,
+        longitude: 0.0,
+        timezone: 0,
+        start_day: 0,
+        series_step: 1.0,
+        leap_year: 0,
+        direct_beam_conversion: 0,
+    };
+    let counts = [
+        ([0.0, 3.0, 1.0], 3),
+        ([0.0, 3.0, 0.3], 11),
+        ([5.0, 5.0, 1.0], 0),
+        ([5.0, 3.0, 1.0], 1),
+    ];
+    for (times, count) in counts {
+        if steps_of(&site, &times).len() != count {
+            return Err(format!("self-test: {times:?} must have {count} steps"));
+        }
+    }
+    Ok(())
+}
+
+/// The plain engine passes with all laws, and a comparison of nothing is an error.
+fn plain_engine(settings: &Settings, plan: Plan) -> Outcome {
+    let right = wrong::without_flaw();
+    let laws = &LAWS;
+    section(settings, &right, Plan { laws, ..plan })
+        .map_err(|words| format!("self-test, the plain engine: {words}"))?;
+    let nothing = Plan {
+        edges: &[],
+        jobs: 0,
+        years: 0,
+        ..plan
+    };
+    match section(settings, &right, nothing) {
+        Ok(()) => Err(String::from(
+            "self-test: a comparison of nothing must be an error",
+        )),
+        Err(_) => Ok(()),
+    }
+}
+
 pub fn run(seed: u64) -> Outcome {
     let settings = Settings {
         seed,
@@ -37,28 +82,8 @@ pub fn run(seed: u64) -> Outcome {
         compared: true,
         laws: &[],
     };
-    let right = wrong::without_flaw();
-    section(
-        &settings,
-        &right,
-        Plan {
-            laws: &LAWS,
-            ..plan
-        },
-    )
-    .map_err(|words| format!("self-test, the plain engine: {words}"))?;
-    let nothing = Plan {
-        edges: &[],
-        jobs: 0,
-        years: 0,
-        ..plan
-    };
-    if section(&settings, &right, nothing).is_ok() {
-        return Err(String::from(
-            "self-test: a comparison of nothing must be an error",
-        ));
-    }
-
+    step_counts()?;
+    plain_engine(&settings, plan)?;
     let mut count = 0;
     for engine in &wrong::engines() {
         found(&settings, plan, engine)?;
@@ -71,8 +96,6 @@ pub fn run(seed: u64) -> Outcome {
             laws: &[law],
             ..plan
         };
-        section(&settings, &right, alone)
-            .map_err(|words| format!("self-test, the plain engine: {words}"))?;
         for engine in &wrong::lawless_engines(law) {
             found(&settings, alone, engine)?;
             count += 1;

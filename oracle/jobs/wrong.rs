@@ -130,8 +130,7 @@ impl Plain {
 
     // --- The steps ---
 
-    fn steps(&self, job: &Job) -> Vec<Step> {
-        let [start, end, step] = job.times;
+    fn times(&self, [start, end, step]: Times) -> Vec<f64> {
         let mut times = vec![];
         let mut time = start;
         if start != end || self.is(StartAtEndOne) {
@@ -150,32 +149,36 @@ impl Plain {
         if self.is(StepsByQuotient) && start < end {
             times.truncate(((end - start) / step).ceil() as usize);
         }
+        times
+    }
+
+    fn index(&self, site: &JobSite, k: usize, time: f64) -> usize {
         let day_hours = match self.is(IndexFromYearStart) {
             true => 0.0,
-            false => (24 * job.site.start_day) as f64,
+            false => (24 * site.start_day) as f64,
         };
         let series_step = match self.is(SeriesStepIgnored) {
             true => 1.0,
-            false => job.site.series_step,
+            false => site.series_step,
         };
-        let each = times.iter().enumerate().map(|(k, &time)| {
-            let place = (time - day_hours) / series_step;
-            let index = match self.is(IndexRounded) {
-                true => place.round(),
-                false => place.floor(),
-            };
-            Step {
-                time,
-                hour: match self.is(HourRounded) {
-                    true => time.round() as u32,
-                    false => time.floor() as u32,
-                },
-                index: match () {
-                    _ if self.is(IndexOfTheStep) => k,
-                    _ if self.is(NegativeIndexRefused) && index < 0.0 => usize::MAX,
-                    _ => index as usize,
-                },
-            }
+        let place = (time - day_hours) / series_step;
+        match () {
+            _ if self.is(IndexOfTheStep) => k,
+            _ if self.is(NegativeIndexRefused) && place < 0.0 => usize::MAX,
+            _ if self.is(IndexRounded) => place.round() as usize,
+            _ => place.floor() as usize,
+        }
+    }
+
+    fn steps(&self, job: &Job) -> Vec<Step> {
+        let times = self.times(job.times);
+        let each = times.iter().enumerate().map(|(k, &time)| Step {
+            time,
+            hour: match self.is(HourRounded) {
+                true => time.round() as u32,
+                false => time.floor() as u32,
+            },
+            index: self.index(&job.site, k, time),
         });
         each.collect()
     }
@@ -286,11 +289,13 @@ impl Plain {
         both(&all, steps)
     }
 
-    fn checked(&self, job: &Job, results: usize) -> Result<Checked, u64> {
+    /// 1 to 4, and the steps.
+    fn fields_checked(&self, job: &Job) -> Result<Vec<Step>, u64> {
+        let surface_fine = surface_fine(&job.surface);
+        let objects_fine = self.lists(job).is_some();
         if !self.site_fine(&job.site) {
             return Err(1);
         }
-        let objects_fine = self.lists(job).is_some();
         if self.is(ObjectsBeforeRun) && !objects_fine {
             return Err(4);
         }
@@ -298,35 +303,38 @@ impl Plain {
             return Err(2);
         }
         let steps = self.steps(job);
-        if self.is(SurfaceBeforeHours) && !surface_fine(&job.surface) {
+        if self.is(SurfaceBeforeHours) && !surface_fine {
             return Err(3);
         }
         let hours = self.hours(&job.site);
         if steps.iter().any(|step| step.hour >= hours) {
             return Err(2);
         }
-        if !surface_fine(&job.surface) {
-            return Err(3);
+        match (surface_fine, objects_fine) {
+            (false, _) => Err(3),
+            (_, false) => Err(4),
+            _ => Ok(steps),
         }
-        if !objects_fine {
-            return Err(4);
-        }
+    }
+
+    fn results_too_short(&self, results: usize, steps: usize) -> bool {
         let words = match self.is(PartWordInResults) {
             true => results.div_ceil(8),
             false => results / 8,
         };
-        let rows = steps.len() - (self.is(ResultsOneRowShort) && steps.len() > 0) as usize;
-        let too_short = words < ROW * rows && !self.is(ResultsNeverTooShort);
+        let rows = steps - (self.is(ResultsOneRowShort) && steps > 0) as usize;
+        words < ROW * rows && !self.is(ResultsNeverTooShort)
+    }
+
+    fn checked(&self, job: &Job, results: usize) -> Result<Checked, u64> {
+        let steps = self.fields_checked(job)?;
         let series = [0, 1, 2].map(|list: usize| self.series(&job.series[list]));
-        let of_series = self.series_checked(&series, &steps);
-        if self.is(ResultsBeforeReading) && of_series == Some(6) && too_short {
-            return Err(7);
-        }
-        if let Some(number) = of_series {
-            return Err(number);
-        }
-        if too_short {
-            return Err(7);
+        let too_short = self.results_too_short(results, steps.len());
+        match self.series_checked(&series, &steps) {
+            Some(6) if self.is(ResultsBeforeReading) && too_short => return Err(7),
+            Some(number) => return Err(number),
+            None if too_short => return Err(7),
+            None => {}
         }
         let reading = |list: usize, step: &Step| series[list].get(step.index).copied();
         let readings = |step: &Step| {
@@ -405,47 +413,7 @@ impl Plain {
         }
     }
 
-    fn run(&self, judge: &mut Judge, job: &Job, results: &mut [u8]) -> RunAnswer {
-        if self.is(RefusesAll) {
-            return refused(1, 0);
-        }
-        let before = results.to_vec();
-        let steps = match self.checked(job, results.len()) {
-            Ok(steps) => steps,
-            Err(number) => return self.refused(number, 0, 0.0),
-        };
-        judge.lend(self.lists(job).unwrap());
-        if self.is(RowsClearedFirst) {
-            results[..8 * ROW * steps.len()].fill(0);
-        }
-        let mut rows = vec![];
-        for (k, &(step, readings)) in steps.iter().enumerate() {
-            let row = match self.row(judge, job, step, readings) {
-                Ok(row) => row,
-                Err(number) => {
-                    if self.is(RefusedRowStored) {
-                        let row = judge.hour(&job.site, &job.surface, step.hour, readings);
-                        self.store(results, ROW * k, &row[..5]);
-                    }
-                    if self.is(EarlierRowsTakenBack) {
-                        results.copy_from_slice(&before);
-                    }
-                    return self.refused(number, k, self.sum(&rows));
-                }
-            };
-            rows.push(if self.is(FirstStepCopied) && k > 0 {
-                rows[0]
-            } else {
-                row
-            });
-            self.store(results, ROW * k, &rows[k]);
-        }
-        if self.is(StoresNothing) {
-            results.copy_from_slice(&before);
-        }
-        if self.is(BytesPastTheLastTouched) {
-            results[8 * ROW * rows.len()..].fill(0);
-        }
+    fn accepted(&self, rows: &[[f64; ROW]]) -> RunAnswer {
         RunAnswer {
             number: 0,
             step: match self.is(StepOfAcceptanceLast) {
@@ -453,8 +421,52 @@ impl Plain {
                 false => 0,
             },
             count: rows.len() as u64,
-            sum: self.sum(&rows),
+            sum: self.sum(rows),
         }
+    }
+
+    /// Stores the rows up to the first that is refused.
+    fn rows(&self, judge: &mut Judge, job: &Job, steps: &Checked, results: &mut [u8]) -> RunAnswer {
+        let mut rows = vec![];
+        for (k, &(step, readings)) in steps.iter().enumerate() {
+            match self.row(judge, job, step, readings) {
+                Ok(_) if self.is(FirstStepCopied) && k > 0 => rows.push(rows[0]),
+                Ok(row) => rows.push(row),
+                Err(number) => {
+                    if self.is(RefusedRowStored) {
+                        let row = judge.hour(&job.site, &job.surface, step.hour, readings);
+                        self.store(results, ROW * k, &row[..5]);
+                    }
+                    return self.refused(number, k, self.sum(&rows));
+                }
+            }
+            self.store(results, ROW * k, &rows[k]);
+        }
+        self.accepted(&rows)
+    }
+
+    fn run(&self, judge: &mut Judge, job: &Job, results: &mut [u8]) -> RunAnswer {
+        if self.is(RefusesAll) {
+            return refused(1, 0);
+        }
+        let steps = match self.checked(job, results.len()) {
+            Ok(steps) => steps,
+            Err(number) => return self.refused(number, 0, 0.0),
+        };
+        judge.lend(self.lists(job).unwrap());
+        let before = results.to_vec();
+        if self.is(RowsClearedFirst) {
+            results[..8 * ROW * steps.len()].fill(0);
+        }
+        let answer = self.rows(judge, job, &steps, results);
+        let refused = answer.number != 0;
+        if self.is(StoresNothing) || self.is(EarlierRowsTakenBack) && refused {
+            results.copy_from_slice(&before);
+        }
+        if self.is(BytesPastTheLastTouched) && !refused {
+            results[8 * ROW * steps.len()..].fill(0);
+        }
+        answer
     }
 
     // --- Single steps ---

@@ -152,7 +152,7 @@ impl OneHour {
     /// cases a little above it, so that direct is NaN.
     ///
     /// (The published azimuth is not used: it is the sun's direction only about noon.)
-    fn face_the_sun(&mut self, random: &mut Random) {
+    pub(super) fn face_the_sun(&mut self, random: &mut Random) {
         let record = self.record();
         let (sin_latitude, cos_latitude) = self.site.latitude.to_radians().sin_cos();
         let declination = record.solar_declinations[0].to_radians();
@@ -167,7 +167,7 @@ impl OneHour {
     }
 
     /// Moves the site under the sun: the altitude is about 90, and NaN in some cases.
-    fn sun_overhead(&mut self, random: &mut Random) {
+    pub(super) fn sun_overhead(&mut self, random: &mut Random) {
         let longitude = self.longitude_for(0.0);
         if longitude.abs() <= 180.0 {
             self.site.longitude = ulps_from(longitude, random.below(9) as i64 - 4);
@@ -178,7 +178,7 @@ impl OneHour {
 
     /// Moves the site to where the sun's altitude is about one at which a formula takes another
     /// branch.
-    fn sun_at_a_branch(&mut self, random: &mut Random) {
+    pub(super) fn sun_at_a_branch(&mut self, random: &mut Random) {
         let altitude = BRANCHES[random.below(BRANCHES.len())];
         let declination = declination_of(self.hour / 24);
         let hour_angle = hour_angle_at(altitude, self.site.latitude, declination);

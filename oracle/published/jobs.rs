@@ -7,6 +7,7 @@
 use super::conditions::{sun_at, OneHour, Site, FIRST_STEP};
 use super::shading::{sectors_of, window_of, within};
 use super::*;
+use crate::random::Random;
 use crate::support::refusal_number;
 
 /// "Latitude −90..90, longitude −180..180, timezone −13..14, start day 0..365, series step 0.25..24
@@ -252,6 +253,54 @@ fn single_checked(single: &Single, with_lists: bool) -> Result<(u32, Option<List
     Ok((step.current_hour(), lists))
 }
 
+/// An hour in the form of the record of one hour.
+fn one_hour(
+    site: &JobSite,
+    surface: &Surface,
+    hour: u32,
+    [diffuse, direct, reflectivity]: Readings,
+) -> OneHour {
+    OneHour {
+        site: Site {
+            latitude: site.latitude,
+            longitude: site.longitude,
+            timezone: site.timezone as i32,
+            conversion_needed: site.direct_beam_conversion == 1,
+            tilt: surface[0],
+            orientation: surface[1],
+        },
+        hour,
+        diffuse,
+        direct,
+        reflectivity,
+    }
+}
+
+/// Moves the site, in that hour, to where the sun is overhead or its altitude about one at which a
+/// formula takes another branch, or turns the surface to the sun: where angles are NaN now and then.
+pub fn aim(random: &mut Random, site: &mut JobSite, surface: &mut Surface, hour: u32) {
+    let mut aimed = one_hour(site, surface, hour, [0.0; 3]);
+    let (overhead, branch) = (random.below(4) == 0, random.below(4) == 0);
+    if overhead {
+        aimed.sun_overhead(random);
+    } else if branch {
+        aimed.sun_at_a_branch(random);
+    }
+    if !branch {
+        aimed.face_the_sun(random);
+    }
+    let (latitude, longitude) = (aimed.site.latitude, aimed.site.longitude);
+    if all_within(&[latitude, longitude], &SITE_RANGES[..2]) {
+        (site.latitude, site.longitude) = (latitude, longitude);
+    }
+    if all_within(
+        &[aimed.site.tilt, aimed.site.orientation],
+        &SURFACE_RANGES[..2],
+    ) {
+        surface[..2].copy_from_slice(&[aimed.site.tilt, aimed.site.orientation]);
+    }
+}
+
 /// The published record, kept from call to call.
 pub struct Judge {
     conditions: ExternalConditions,
@@ -276,22 +325,9 @@ impl Judge {
         site: &JobSite,
         surface: &Surface,
         hour: u32,
-        [diffuse, direct, reflectivity]: Readings,
+        readings: Readings,
     ) -> [f64; IRRADIANCE_ROW] {
-        let hour = OneHour {
-            site: Site {
-                latitude: site.latitude,
-                longitude: site.longitude,
-                timezone: site.timezone as i32,
-                conversion_needed: site.direct_beam_conversion == 1,
-                tilt: surface[0],
-                orientation: surface[1],
-            },
-            hour,
-            diffuse,
-            direct,
-            reflectivity,
-        };
+        let hour = one_hour(site, surface, hour, readings);
         hour.fill(&mut self.conditions);
         let answer = hour.answer(&self.conditions);
         [
