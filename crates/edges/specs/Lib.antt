@@ -1,0 +1,2 @@
+pub mod Shades
+pub mod Values

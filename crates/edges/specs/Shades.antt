@@ -1,0 +1,59 @@
+-- The calls of the examples on shading and on runs, with their lists in bytes.
+use mathlib.Core.Bool.{Bool, cond}
+use mathlib.Core.List.{List, []}
+use Prim.Native.Nat.{ℕ}
+use lib.IntN.{pos}
+use lib.ListN.{replicate}
+use lib.Ieee.{Float}
+use Rattle.doubles.specs.Arithmetic.{whole, decimal}
+use Rattle.words.specs.Words.{putWord, putDouble}
+use Rattle.sun.specs.declared.site.Site.{Site}
+use Rattle.simulation_time.specs.declared.run.Run.{Run}
+use Rattle.objects.specs.declared.surface.Surface.{Surface}
+use Rattle.objects.specs.declared.answers.FactorAnswer.{FactorAnswer}
+use Rattle.shading.specs.Call.{factorCall}
+use Rattle.jobs.specs.Job.{Job, jobOf}
+
+-- base 0, height 2, width 1; upright, facing south
+unfoldable pub southWall : Surface
+southWall = record { tilt = whole 90; orientation = whole 180; «base_height» = whole 0; height = whole 2; width = whole 1 }
+
+-- at altitude 0
+unfoldable pub factorAt : Float → List ℕ → List ℕ → FactorAnswer
+factorAt azimuth sectors window = factorCall (whole 0) azimuth southWall sectors window
+
+-- one sector, all around, without an object
+unfoldable pub openHorizon : List ℕ
+openHorizon = putDouble (replicate 216 0) 1 (whole 360)
+
+-- and with one object, 10 m away
+unfoldable pub horizonWith : ℕ → Float → List ℕ
+horizonWith kind height = putDouble (putDouble (putWord (putWord openHorizon 2 1) 3 kind) 4 height) 5 (whole 10)
+
+-- 0..180 and start..360
+unfoldable pub twoSectors : Float → List ℕ
+twoSectors start = putDouble (putDouble (putDouble (replicate 432 0) 1 (whole 180)) 27 start) 28 (whole 360)
+
+-- 1 m, 3 m away, transparency 0.5
+unfoldable pub nearObstacle : List ℕ
+nearObstacle = putDouble (putDouble (putDouble (replicate 32 0) 1 (whole 1)) 2 (whole 3)) 3 (decimal 5 1)
+
+unfoldable pub windowWith : Bool → List ℕ
+windowWith near = cond near nearObstacle []
+
+-- depth 0.25 m, distance 0.125 m
+unfoldable pub oneReveal : List ℕ
+oneReveal = putDouble (putDouble (putWord (replicate 32 0) 0 4) 1 (decimal 25 2)) 2 (decimal 125 3)
+
+-- start 0, end 3, step 1, with zeros for the series
+unfoldable pub threeHours : Job
+threeHours =
+    jobOf
+    (record { latitude = whole 51; longitude = whole 0; timezone = pos 0; «start_day» = 0; «time_series_step» = whole 1; «leap_year» = 0; «direct_beam_conversion» = 0 })
+    (record { start = whole 0; end = whole 3; step = whole 1 })
+    southWall
+    (replicate 24 0)
+    (replicate 24 0)
+    (replicate 24 0)
+    openHorizon
+    []

@@ -1,0 +1,210 @@
+// Runs the specification's values at the edges, and prints a line for each: its name, and `ok` or what came instead.
+ghost use mathlib.Core.Path.{_≡_};
+ghost use Rattle.doubles.specs.Arithmetic.{whole};
+ghost use Rattle.irradiance.specs.Sky.{circumsolarBrightness};
+
+mod shades;
+mod values;
+
+use objects::answers::FactorAnswer;
+use values::Value;
+use values::accepted;
+use values::double_value;
+use values::factor_value;
+use values::refused;
+use values::run_value;
+use values::same_value;
+
+fn write_out(text: &[u8]) {
+    io::write_all(libc::STDOUT_FILENO, text);
+}
+
+fn write_value(value: Value) {
+    if value.number == 0 {
+        let mut digits = [0u8; 16];
+        words::store_digits(&mut digits, 0, value.word);
+        write_out(&digits);
+    } else {
+        write_out(b"refused ");
+        io::print_decimal(libc::STDOUT_FILENO, value.number);
+    }
+}
+
+fn report(name: &[u8], ok: bool, came: Value) {
+    write_out(name);
+    write_out(b": ");
+    if ok {
+        write_out(b"ok");
+    } else {
+        write_value(came);
+    }
+    write_out(b"\n");
+}
+
+fn compare(name: &[u8], came: Value, expected: Value) {
+    report(name, same_value(came, expected), came);
+}
+
+fn compare_double(name: &[u8], came: f64, bits: u64) {
+    compare(name, double_value(came), accepted(bits));
+}
+
+fn compare_factor(name: &[u8], came: FactorAnswer, expected: Value) {
+    compare(name, factor_value(came), expected);
+}
+
+fn sun_angles() {
+    // The code counts days from 0.
+    compare_double(
+        b"equation of time n = 359 gives 0",
+        sun::day::init_equation_of_time(358),
+        0,
+    );
+    compare_double(
+        b"solar time 0.5 gives hour angle 180",
+        sun::hour::init_solar_hour_angle(0.5),
+        0x4066_8000_0000_0000,
+    );
+    compare_double(
+        b"solar time 0 gives hour angle -172.5",
+        sun::hour::init_solar_hour_angle(0.0),
+        0xC065_9000_0000_0000,
+    );
+    compare_double(
+        b"solar time 24.5 gives hour angle -180",
+        sun::hour::init_solar_hour_angle(24.5),
+        0xC066_8000_0000_0000,
+    );
+}
+
+fn shifts() {
+    compare_double(
+        b"longitude 0, timezone 0 gives shift 0",
+        sun::hour::init_time_shift(0, 0.0),
+        0,
+    );
+    let west = sun::hour::init_time_shift(0, -0.5);
+    report(
+        b"longitude -0.5, timezone 0 gives a positive shift",
+        0.0 < west,
+        double_value(west),
+    );
+}
+
+// At sky brightness 0 and zenith 0 the coefficient F1 is the first number of the clearness's row, and no two rows have the same.
+fn first_of_row(clearness: f64) -> f64
+    ensures { λ r. ⌜ r ≡ circumsolarBrightness clearness (whole 0) (whole 0) ⌝ }
+{
+    irradiance::sky::init_f1_circumsolar_brightness_coefficient(clearness, 0.0, 0.0)
+}
+
+fn sky() {
+    let clearness = irradiance::sky::init_dimensionless_clearness_parameter(100.0, 100.0, 0.0);
+    compare_double(
+        b"diffuse 100, beam 100, altitude 0: clearness 2",
+        clearness,
+        0x4000_0000_0000_0000,
+    );
+    // 0.873
+    compare_double(
+        b"diffuse 100, beam 100, altitude 0: row 4",
+        first_of_row(clearness),
+        0x3FEB_EF9D_B22D_0E56,
+    );
+    // 0.13
+    compare_double(
+        b"clearness 1.065: row 1",
+        first_of_row(1.065),
+        0x3FC0_A3D7_0A3D_70A4,
+    );
+}
+
+fn orientations() {
+    compare_double(
+        b"orientation 0 becomes 180",
+        sun::orientation::transform_to_180(0.0),
+        0x4066_8000_0000_0000,
+    );
+    compare_double(
+        b"orientation 360 becomes -180",
+        sun::orientation::transform_to_180(360.0),
+        0xC066_8000_0000_0000,
+    );
+}
+
+fn obstacles() {
+    compare_factor(
+        b"distant obstacle 1 m gives 0.5",
+        shades::distant_factor(0, 1.0, false),
+        accepted(0x3FE0_0000_0000_0000),
+    );
+    compare_factor(
+        b"near obstacle 1 m, transparency 0.5 gives 0.75",
+        shades::open_factor(true),
+        accepted(0x3FE8_0000_0000_0000),
+    );
+    compare_factor(
+        b"both give 0.5",
+        shades::distant_factor(0, 1.0, true),
+        accepted(0x3FE0_0000_0000_0000),
+    );
+}
+
+fn overhangs() {
+    compare_factor(
+        b"distant overhang at 1.5 m gives 0.75",
+        shades::distant_factor(1, 1.5, false),
+        accepted(0x3FE8_0000_0000_0000),
+    );
+    compare_factor(
+        b"distant overhang at 1.5 m and the near obstacle give 0.5",
+        shades::distant_factor(1, 1.5, true),
+        accepted(0x3FE0_0000_0000_0000),
+    );
+}
+
+fn reveals() {
+    compare_factor(
+        b"a reveal outside the beam gives 1",
+        shades::reveal_factor(180.0),
+        accepted(0x3FF0_0000_0000_0000),
+    );
+}
+
+fn sectors() {
+    compare_factor(
+        b"sectors 0..180, 190..360: azimuth 10 accepted",
+        shades::two_sectors_factor(190.0, 10.0),
+        accepted(0x3FF0_0000_0000_0000),
+    );
+    compare_factor(
+        b"sectors 0..180, 190..360: azimuth -20 refused 8",
+        shades::two_sectors_factor(190.0, -20.0),
+        refused(8),
+    );
+    compare_factor(
+        b"sectors 0..180, 180..360: azimuth 0 refused 10",
+        shades::two_sectors_factor(180.0, 0.0),
+        refused(10),
+    );
+}
+
+fn steps() {
+    compare(
+        b"start 0, end 3, step 1: three steps",
+        run_value(shades::three_hours()),
+        accepted(3),
+    );
+}
+
+fn main() {
+    sun_angles();
+    shifts();
+    sky();
+    orientations();
+    obstacles();
+    overhangs();
+    reveals();
+    sectors();
+    steps();
+}

@@ -1,0 +1,126 @@
+// The calls of the examples on shading and on runs. The sun has altitude 0; the surface faces south, upright, with base 0, height 2
+// and width 1.
+ghost use mathlib.Core.Path.{_≡_};
+ghost use mathlib.Core.List.{[]};
+ghost use lib.ListN.{replicate};
+ghost use Rattle.doubles.specs.Arithmetic.{whole};
+ghost use Rattle.jobs.specs.Run.{runOf};
+ghost use Rattle.edges.specs.Shades.{southWall, factorAt, openHorizon, horizonWith, twoSectors, windowWith, oneReveal, threeHours};
+use jobs::answers::RunAnswer;
+use objects::answers::FactorAnswer;
+use objects::surface::Surface;
+use simulation_time::run::Run;
+use sun::site::Site;
+
+fn south_wall() -> Surface
+    ensures { λ r. ⌜ r ≡ southWall ⌝ }
+{
+    Surface {
+        tilt: 90.0,
+        orientation: 180.0,
+        base_height: 0.0,
+        height: 2.0,
+        width: 1.0,
+    }
+}
+
+fn factor_at(azimuth: f64, sectors: &[u8], window: &[u8]) -> FactorAnswer
+    ensures { λ r. ⌜ r ≡ factorAt azimuth (now (sectors .entry)) (now (window .entry)) ⌝ }
+{
+    shading::step::factor_call(0.0, azimuth, south_wall(), sectors, window)
+}
+
+// The sun in the south, and a near obstacle of 1 m and transparency 0.5 or nothing at the window.
+fn factor_near(sectors: &[u8], near: bool) -> FactorAnswer
+    ensures { λ r. ⌜ r ≡ factorAt (whole 0) (now (sectors .entry)) (windowWith near) ⌝ }
+{
+    if near {
+        let mut window = [0u8; 32];
+        words::store_double(&mut window, 1, 1.0);
+        words::store_double(&mut window, 2, 3.0);
+        words::store_double(&mut window, 3, 0.5);
+        return factor_at(0.0, sectors, &window);
+    }
+    factor_at(0.0, sectors, b"")
+}
+
+// No distant object.
+pub fn open_factor(near: bool) -> FactorAnswer
+    ensures { λ r. ⌜ r ≡ factorAt (whole 0) openHorizon (windowWith near) ⌝ }
+{
+    let mut sectors = [0u8; 216];
+    words::store_double(&mut sectors, 1, 360.0);
+    factor_near(&sectors, near)
+}
+
+// One distant object: 0 obstacle, 1 overhang.
+pub fn distant_factor(kind: u64, height: f64, near: bool) -> FactorAnswer
+    ensures { λ r. ⌜ r ≡ factorAt (whole 0) (horizonWith kind height) (windowWith near) ⌝ }
+{
+    let mut sectors = [0u8; 216];
+    words::store_double(&mut sectors, 1, 360.0);
+    words::store_word(&mut sectors, 2, 1);
+    words::store_word(&mut sectors, 3, kind);
+    words::store_double(&mut sectors, 4, height);
+    words::store_double(&mut sectors, 5, 10.0);
+    factor_near(&sectors, near)
+}
+
+// A reveal at the window.
+pub fn reveal_factor(azimuth: f64) -> FactorAnswer
+    ensures { λ r. ⌜ r ≡ factorAt azimuth openHorizon oneReveal ⌝ }
+{
+    let mut sectors = [0u8; 216];
+    words::store_double(&mut sectors, 1, 360.0);
+    let mut window = [0u8; 32];
+    words::store_word(&mut window, 0, 4);
+    words::store_double(&mut window, 1, 0.25);
+    words::store_double(&mut window, 2, 0.125);
+    factor_at(azimuth, &sectors, &window)
+}
+
+// Sectors 0..180 and start..360, without objects.
+pub fn two_sectors_factor(start: f64, azimuth: f64) -> FactorAnswer
+    ensures { λ r. ⌜ r ≡ factorAt azimuth (twoSectors start) [] ⌝ }
+{
+    let mut sectors = [0u8; 432];
+    words::store_double(&mut sectors, 1, 180.0);
+    words::store_double(&mut sectors, 27, start);
+    words::store_double(&mut sectors, 28, 360.0);
+    factor_at(azimuth, &sectors, b"")
+}
+
+// A run from 0 to 3 by steps of 1.
+pub fn three_hours() -> RunAnswer
+    ensures { λ r. ⌜ r ≡ runOf threeHours (replicate 144 0) .answer ⌝ }
+{
+    let site = Site {
+        latitude: 51.0,
+        longitude: 0.0,
+        timezone: 0,
+        start_day: 0,
+        time_series_step: 1.0,
+        leap_year: 0,
+        direct_beam_conversion: 0,
+    };
+    let run = Run {
+        start: 0.0,
+        end: 3.0,
+        step: 1.0,
+    };
+    let series = [0u8; 24];
+    let mut sectors = [0u8; 216];
+    words::store_double(&mut sectors, 1, 360.0);
+    let mut results = [0u8; 144];
+    jobs::run::run_job(
+        site,
+        run,
+        south_wall(),
+        &series,
+        &series,
+        &series,
+        &sectors,
+        b"",
+        &mut results,
+    )
+}
