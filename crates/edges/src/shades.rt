@@ -112,7 +112,7 @@ pub fn three_hours() -> RunAnswer
     let mut sectors = [0u8; 216];
     words::store_double(&mut sectors, 1, 360.0);
     let mut results = [0u8; 144];
-    jobs::run::run_job(
+    runs::run::run_job(
         site,
         run,
         south_wall(),
