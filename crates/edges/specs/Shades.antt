@@ -7,8 +7,6 @@ use lib.ListN.{replicate}
 use lib.Ieee.{Float}
 use Rattle.doubles.specs.Arithmetic.{whole, decimal}
 use Rattle.words.specs.Words.{putWord, putDouble}
-use Rattle.sun.specs.declared.site.Site.{Site}
-use Rattle.simulation_time.specs.declared.run.Run.{Run}
 use Rattle.objects.specs.declared.surface.Surface.{Surface}
 use Rattle.objects.specs.declared.answers.FactorAnswer.{FactorAnswer}
 use Rattle.shading.specs.Call.{factorCall}

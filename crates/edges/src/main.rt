@@ -91,7 +91,8 @@ fn shifts() {
     );
 }
 
-// At sky brightness 0 and zenith 0 the coefficient F1 is the first number of the clearness's row, and no two rows have the same.
+// At sky brightness 0 and zenith 0 the coefficient F1 is the first number of the clearness's row (0 for row 0), which tells the rows
+// apart.
 fn first_of_row(clearness: f64) -> f64
     ensures { λ r. ⌜ r ≡ circumsolarBrightness clearness (whole 0) (whole 0) ⌝ }
 {
