@@ -12,9 +12,9 @@ const LONGEST: usize = 2_600;
 const MOST_RESULTS: usize = 1_024;
 const FILL: u8 = 0xA5;
 
-/// So many of each number among the jobs at the edges, and among the random ones.
-const ACCEPTED: usize = 80;
-const REFUSED: usize = 13;
+/// So many of each number among the jobs at the edges, those with several faults and the random ones.
+const ACCEPTED: usize = 70;
+const REFUSED: usize = 12;
 
 /// The record of a job, if it is short, with its answer.
 fn record(judge: &mut Judge, mut job: Job) -> Option<(Record, RunAnswer)> {
@@ -97,39 +97,49 @@ fn shuffled<T>(mut all: Vec<T>, random: &mut Random) -> Vec<T> {
     all
 }
 
-pub fn file(settings: &Settings) -> Result<File, String> {
-    let mut random = settings.random("replayed runs");
+/// Jobs with several faults at once, of which one is told.
+fn several_faults(maker: &mut Maker) -> Vec<Job> {
+    let mut several = vec![];
+    for (variant, job) in edges::plain_jobs(maker).iter().enumerate() {
+        let mut jobs = vec![];
+        edges::sets_of_faults(&mut jobs, job, variant);
+        // the k-th job has the faults of the bits of k + 1
+        let faults = |&(k, _): &(usize, Job)| (k + 1).count_ones() > 1;
+        let jobs = jobs.into_iter().enumerate().filter(faults);
+        several.extend(jobs.map(|(_, job)| job));
+    }
+    several
+}
+
+/// Takes jobs as long as there are too few of their number.
+fn take(file: &mut File, what: &str, jobs: impl Iterator<Item = Job>) -> Met {
     let mut judge = Judge::new();
-    let mut file = File::default();
     let mut met = Met::default();
-    for job in shuffled(edges::edges(), &mut random) {
+    for job in jobs {
         if let Some((record, answer)) = record(&mut judge, job) {
             if met.takes(&answer) {
                 file.push(&record);
             }
         }
-    }
-    println!(
-        "  at the edges {:?}, at later steps {:?}",
-        met.first, met.later
-    );
-    let mut met = Met::default();
-    let mut maker = Maker::new(random);
-    for _ in 0..400_000 {
         if met.whole() && met.later() {
             break;
         }
-        if let Some((record, answer)) = record(&mut judge, maker.any_job()) {
-            if met.takes(&answer) {
-                file.push(&record);
-            }
-        }
     }
-    println!(
-        "  random       {:?}, at later steps {:?}",
-        met.first, met.later
-    );
-    match met.whole() {
+    println!("  {what} {:?}, past step 0 {:?}", met.first, met.later);
+    met
+}
+
+pub fn file(settings: &Settings) -> Result<File, String> {
+    let mut random = settings.random("replayed runs");
+    let mut file = File::default();
+    let edges = shuffled(edges::edges(), &mut random);
+    take(&mut file, "at the edges", edges.into_iter());
+    let mut maker = Maker::new(settings.random("replayed faults"));
+    let several = shuffled(several_faults(&mut maker), &mut random);
+    take(&mut file, "several faults", several.into_iter());
+    let mut maker = Maker::new(random);
+    let any = (0..400_000).map(|_| maker.any_job());
+    match take(&mut file, "random", any).whole() {
         true => Ok(file),
         false => Err(String::from("too few runs of some number")),
     }

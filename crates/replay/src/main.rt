@@ -20,8 +20,11 @@ struct Progress {
     going: bool,
 }
 
-// Whether a record's call answers otherwise. A record of no kind does too.
+// Whether a record's call answers otherwise. A record of no kind does too, and one that is cut short.
 fn differs(record: &[u8]) -> bool {
+    if word_at(record, 1) != record.len() as u64 {
+        return true;
+    }
     let kind = word_at(record, 0);
     if kind == 1 {
         return runs::differs(record);

@@ -16,12 +16,12 @@ pub fn list_end(bytes: &[u8], at: usize, size: u64) -> usize
     bytes.len()
 }
 
-// The record's second word: how many bytes it has. One that cannot be is as long as the block.
+// The record's second word: how many bytes it has.
 fn record_size(record: &[u8]) -> u64 {
     word_at(record, 1)
 }
 
-// Where the record that starts at that place ends. It is never empty.
+// Where the record that starts at that place ends; the end of the block where its size cannot be. It is never empty.
 pub fn record_end(block: &[u8], at: usize) -> usize
     requires { ⌜ at < length (now block) ⌝ }
     ensures { λ r. ⌜ (at < r) × (r ≤ length (now (block .entry))) ⌝ }
