@@ -8,7 +8,7 @@ use crate::shading::call::{sector, Call, Scene, OVERHANG, REVEAL};
 use crate::shading::scenes::edges_of_range;
 
 /// Accepted jobs to change in one place: some steps, one of them at least partly in the shade.
-fn plain_jobs(maker: &mut Maker) -> Vec<Job> {
+pub fn plain_jobs(maker: &mut Maker) -> Vec<Job> {
     let mut judge = Judge::new();
     let mut jobs = vec![];
     while jobs.len() < 2 {
@@ -193,7 +193,7 @@ fn fault(job: &mut Job, number: u32, variant: usize) {
 }
 
 /// Every set of faults: which of them is told is told by the order of the refusals.
-fn sets_of_faults(jobs: &mut Vec<Job>, job: &Job, variant: usize) {
+pub fn sets_of_faults(jobs: &mut Vec<Job>, job: &Job, variant: usize) {
     for set in 1u32..1 << 11 {
         let mut other = job.clone();
         // from the last on, so that a part record stays one

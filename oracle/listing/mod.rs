@@ -1,8 +1,8 @@
 //! The shade listing: a program that is given listings, whole and damaged, against what the
 //! specification and the published Rust make of them, byte for byte.
 
-mod expected;
-mod texts;
+pub mod expected;
+pub mod texts;
 pub mod wrong;
 
 use crate::comparison::{Outcome, Settings};

@@ -2,7 +2,7 @@
 //! Rattle, number and factor, bit for bit; and the factor's laws on the same calls.
 
 pub mod call;
-mod edges;
+pub mod edges;
 pub mod laws;
 pub mod scenes;
 pub mod wrong;

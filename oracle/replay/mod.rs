@@ -1,0 +1,7 @@
+//! Answers of the published Rust, as the program `replay` reads them.
+
+pub mod factors;
+pub mod file;
+pub mod leaves;
+pub mod listings;
+pub mod runs;

@@ -1,0 +1,146 @@
+//! Short runs, accepted and with every refusal.
+
+use super::file::{File, Record};
+use crate::comparison::Settings;
+use crate::jobs::cases::Maker;
+use crate::jobs::edges;
+use crate::published::jobs::*;
+use crate::random::Random;
+
+const KIND: u64 = 1;
+const LONGEST: usize = 2_600;
+const MOST_RESULTS: usize = 1_024;
+const FILL: u8 = 0xA5;
+
+/// So many of each number among the jobs at the edges, those with several faults and the random ones.
+const ACCEPTED: usize = 70;
+const REFUSED: usize = 12;
+
+/// The record of a job, if it is short, with its answer.
+fn record(judge: &mut Judge, mut job: Job) -> Option<(Record, RunAnswer)> {
+    let results = job.results.len();
+    let timezone_is_double =
+        job.site.timezone as f64 as i64 == job.site.timezone && job.site.timezone < i64::MAX;
+    if results > MOST_RESULTS || !timezone_is_double {
+        return None;
+    }
+    job.results = vec![FILL; results];
+    let mut left = job.results.clone();
+    let answer = judge.run(&job, &mut left);
+    let site = &job.site;
+    let [diffuse, direct, reflectivity] = &job.series;
+    let lists = [
+        diffuse,
+        direct,
+        reflectivity,
+        &job.sectors,
+        &job.window,
+        &left,
+    ];
+    let mut record = Record::new(KIND);
+    record
+        .doubles(&[site.latitude, site.longitude, site.timezone as f64])
+        .word(site.start_day)
+        .doubles(&[site.series_step])
+        .word(site.leap_year)
+        .word(site.direct_beam_conversion)
+        .doubles(&job.times)
+        .doubles(&job.surface);
+    for list in lists {
+        record.word(list.len() as u64);
+    }
+    record
+        .word(answer.number)
+        .word(answer.step)
+        .word(answer.count)
+        .answer(answer.sum);
+    for list in lists {
+        record.list(list);
+    }
+    (record.len() <= LONGEST).then_some((record, answer))
+}
+
+/// How many runs there are of each number; for those of 8 and above, also at a later step.
+#[derive(Default)]
+struct Met {
+    first: [usize; 12],
+    later: [usize; 12],
+}
+
+impl Met {
+    /// Whether there are too few of this kind as yet; it counts for one then.
+    fn takes(&mut self, answer: &RunAnswer) -> bool {
+        let number = answer.number as usize;
+        let most = if number == 0 { ACCEPTED } else { REFUSED };
+        let met = match answer.step {
+            0 => &mut self.first[number],
+            _ => &mut self.later[number],
+        };
+        let takes = *met < most;
+        *met += takes as usize;
+        takes
+    }
+
+    fn whole(&self) -> bool {
+        (1..12).all(|number| self.first[number] == REFUSED) && self.first[0] == ACCEPTED
+    }
+
+    fn later(&self) -> bool {
+        (8..11).all(|number| self.later[number] == REFUSED)
+    }
+}
+
+fn shuffled<T>(mut all: Vec<T>, random: &mut Random) -> Vec<T> {
+    for k in (1..all.len()).rev() {
+        all.swap(k, random.below(k + 1));
+    }
+    all
+}
+
+/// Jobs with several faults at once, of which one is told.
+fn several_faults(maker: &mut Maker) -> Vec<Job> {
+    let mut several = vec![];
+    for (variant, job) in edges::plain_jobs(maker).iter().enumerate() {
+        let mut jobs = vec![];
+        edges::sets_of_faults(&mut jobs, job, variant);
+        // the k-th job has the faults of the bits of k + 1
+        let faults = |&(k, _): &(usize, Job)| (k + 1).count_ones() > 1;
+        let jobs = jobs.into_iter().enumerate().filter(faults);
+        several.extend(jobs.map(|(_, job)| job));
+    }
+    several
+}
+
+/// Takes jobs as long as there are too few of their number.
+fn take(file: &mut File, what: &str, jobs: impl Iterator<Item = Job>) -> Met {
+    let mut judge = Judge::new();
+    let mut met = Met::default();
+    for job in jobs {
+        if let Some((record, answer)) = record(&mut judge, job) {
+            if met.takes(&answer) {
+                file.push(&record);
+            }
+        }
+        if met.whole() && met.later() {
+            break;
+        }
+    }
+    println!("  {what} {:?}, past step 0 {:?}", met.first, met.later);
+    met
+}
+
+pub fn file(settings: &Settings) -> Result<File, String> {
+    let mut random = settings.random("replayed runs");
+    let mut file = File::default();
+    let edges = shuffled(edges::edges(), &mut random);
+    take(&mut file, "at the edges", edges.into_iter());
+    let mut maker = Maker::new(settings.random("replayed faults"));
+    let several = shuffled(several_faults(&mut maker), &mut random);
+    take(&mut file, "several faults", several.into_iter());
+    let mut maker = Maker::new(random);
+    let any = (0..400_000).map(|_| maker.any_job());
+    match take(&mut file, "random", any).whole() {
+        true => Ok(file),
+        false => Err(String::from("too few runs of some number")),
+    }
+}
