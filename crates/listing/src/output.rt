@@ -8,6 +8,7 @@ ghost use Rattle.objects.specs.declared.answers.FactorAnswer.the-variants.{Fact
 ghost use Rattle.listing.specs.Line.{outputLine};
 ghost use Rattle.listing.specs.Reading.{bytesOf};
 use crate::parts::append;
+use crate::parts::least;
 use objects::answers::FactorAnswer;
 use objects::answers::Refusal;
 use objects::answers::number_of;
@@ -68,20 +69,11 @@ pub fn output_line(answer: FactorAnswer) -> OutputLine
     }
 }
 
-fn counted(count: usize) -> usize
-    ensures { λ r. ⌜ r ≡ min count 19 ⌝ }
-{
-    if count < 19 {
-        return count;
-    }
-    19
-}
-
 // Puts a line behind the first `used` bytes of a list, as far as there is room. Answers how many are used then.
 pub fn put(list: &mut [u8], used: usize, output: OutputLine) -> usize
     ensures { λ r. ⌜ (r ≡ used + min (length (bytesOf output)) (length (now (list .entry)) - used)) × (now (list .exit) ≡ paste (now (list .entry)) used (bytesOf output) (min (length (bytesOf output)) (length (now (list .entry)) - used))) ⌝ }
 {
     let bytes = output.bytes;
-    let n = counted(output.count);
+    let n = least(output.count, 19);
     append(list, used, &bytes[..n])
 }

@@ -20,7 +20,7 @@ pub fn line_end(piece: &[u8], from: usize) -> usize
     i
 }
 
-fn least(a: usize, b: usize) -> usize
+pub fn least(a: usize, b: usize) -> usize
     ensures { λ r. ⌜ r ≡ min a b ⌝ }
 {
     if a < b {

@@ -1,6 +1,5 @@
 // A listing read piece by piece. All that is kept of the input is a part of one line, so a line may have any length.
 ghost use mathlib.Core.Path.{_≡_};
-ghost use Prim.Native.Nat.{min};
 ghost use Rattle.listing.specs.declared.reader.Stage.the-variants.{Names};
 ghost use Rattle.listing.specs.Text.{sameText};
 ghost use Rattle.listing.specs.Listing.{names};
@@ -10,6 +9,7 @@ use crate::output::OutputLine;
 use crate::output::nothing;
 use crate::output::output_line;
 use crate::parts::append;
+use crate::parts::least;
 use crate::parts::same_text;
 use objects::answers::FactorAnswer;
 use objects::answers::Refusal;
@@ -41,16 +41,6 @@ fn is_names(line: &[u8]) -> bool
         line,
         b"altitude azimuth base height width tilt orientation shade distance transparency",
     )
-}
-
-// How many bytes of a line are kept.
-fn counted(count: usize) -> usize
-    ensures { λ r. ⌜ r ≡ min count 170 ⌝ }
-{
-    if count < 170 {
-        return count;
-    }
-    170
 }
 
 // At the start of a line: of the names line, to begin with.
@@ -117,7 +107,7 @@ pub fn line_over(reader: Reader) -> Turn
 {
     let stage = reader.stage;
     let line = reader.line;
-    let n = counted(reader.count);
+    let n = least(reader.count, 170);
     turn_at(stage, &line[..n])
 }
 
