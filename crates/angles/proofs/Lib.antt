@@ -4,3 +4,4 @@ pub mod Reduction
 pub mod Values
 pub mod Laws
 pub mod Inner
+pub mod ArcsineParts

@@ -3,7 +3,8 @@
 ghost use mathlib.Core.Path.{_≡_};
 ghost use Rattle.angles.specs.Sine.{remainder, sineSum, cosineSum, clamp, sine, cosine, tangent};
 ghost use Rattle.angles.specs.Reduction.{Reduces, Expands};
-ghost use Rattle.angles.specs.Arcsine.{arcsineSeries, arcsineUpward, arcsine, arccosine};
+ghost use Rattle.angles.specs.Arcsine.{arcsineSeries, arcsine, arccosine};
+ghost use Rattle.angles.specs.ArcsineParts.{magnitude, seriesArgument, upwardBy, arcsineBy};
 ghost use Rattle.angles.specs.Power.{logarithmOf, powerOf, powMinus1253};
 
 const PI: f64 = 3.141592653589793;
@@ -217,28 +218,139 @@ fn arcsine_series(a: f64) -> f64
     a * h
 }
 
-// The arcsine of a number that is not below 0.
-fn arcsine_upward(a: f64) -> f64
-    ensures { λ r. ⌜ r ≡ arcsineUpward a ⌝ }
+// Two arguments' series.
+struct Both {
+    first: f64,
+    second: f64,
+}
+
+// Step by step in pairs, so that two divisions go at once and both series cost little more than one.
+fn arcsine_series_both(a: f64, b: f64) -> Both
+    ensures { λ r. ⌜ (r .first ≡ arcsineSeries a) × (r .second ≡ arcsineSeries b) ⌝ }
 {
-    if a <= 0.5 {
-        arcsine_series(a)
+    let t = a * a;
+    let u = b * b;
+    let h = 1.0;
+    let k = 1.0;
+    let h = 1.0 + t * 2209.0 / 2352.0 * h;
+    let k = 1.0 + u * 2209.0 / 2352.0 * k;
+    let h = 1.0 + t * 2025.0 / 2162.0 * h;
+    let k = 1.0 + u * 2025.0 / 2162.0 * k;
+    let h = 1.0 + t * 1849.0 / 1980.0 * h;
+    let k = 1.0 + u * 1849.0 / 1980.0 * k;
+    let h = 1.0 + t * 1681.0 / 1806.0 * h;
+    let k = 1.0 + u * 1681.0 / 1806.0 * k;
+    let h = 1.0 + t * 1521.0 / 1640.0 * h;
+    let k = 1.0 + u * 1521.0 / 1640.0 * k;
+    let h = 1.0 + t * 1369.0 / 1482.0 * h;
+    let k = 1.0 + u * 1369.0 / 1482.0 * k;
+    let h = 1.0 + t * 1225.0 / 1332.0 * h;
+    let k = 1.0 + u * 1225.0 / 1332.0 * k;
+    let h = 1.0 + t * 1089.0 / 1190.0 * h;
+    let k = 1.0 + u * 1089.0 / 1190.0 * k;
+    let h = 1.0 + t * 961.0 / 1056.0 * h;
+    let k = 1.0 + u * 961.0 / 1056.0 * k;
+    let h = 1.0 + t * 841.0 / 930.0 * h;
+    let k = 1.0 + u * 841.0 / 930.0 * k;
+    let h = 1.0 + t * 729.0 / 812.0 * h;
+    let k = 1.0 + u * 729.0 / 812.0 * k;
+    let h = 1.0 + t * 625.0 / 702.0 * h;
+    let k = 1.0 + u * 625.0 / 702.0 * k;
+    let h = 1.0 + t * 529.0 / 600.0 * h;
+    let k = 1.0 + u * 529.0 / 600.0 * k;
+    let h = 1.0 + t * 441.0 / 506.0 * h;
+    let k = 1.0 + u * 441.0 / 506.0 * k;
+    let h = 1.0 + t * 361.0 / 420.0 * h;
+    let k = 1.0 + u * 361.0 / 420.0 * k;
+    let h = 1.0 + t * 289.0 / 342.0 * h;
+    let k = 1.0 + u * 289.0 / 342.0 * k;
+    let h = 1.0 + t * 225.0 / 272.0 * h;
+    let k = 1.0 + u * 225.0 / 272.0 * k;
+    let h = 1.0 + t * 169.0 / 210.0 * h;
+    let k = 1.0 + u * 169.0 / 210.0 * k;
+    let h = 1.0 + t * 121.0 / 156.0 * h;
+    let k = 1.0 + u * 121.0 / 156.0 * k;
+    let h = 1.0 + t * 81.0 / 110.0 * h;
+    let k = 1.0 + u * 81.0 / 110.0 * k;
+    let h = 1.0 + t * 49.0 / 72.0 * h;
+    let k = 1.0 + u * 49.0 / 72.0 * k;
+    let h = 1.0 + t * 25.0 / 42.0 * h;
+    let k = 1.0 + u * 25.0 / 42.0 * k;
+    let h = 1.0 + t * 9.0 / 20.0 * h;
+    let k = 1.0 + u * 9.0 / 20.0 * k;
+    let h = 1.0 + t * 1.0 / 6.0 * h;
+    let k = 1.0 + u * 1.0 / 6.0 * k;
+    Both {
+        first: a * h,
+        second: b * k,
+    }
+}
+
+fn magnitude(a: f64) -> f64
+    ensures { λ r. ⌜ r ≡ magnitude a ⌝ }
+{
+    if a < 0.0 { -a } else { a }
+}
+
+// Whose series gives the arcsine of m.
+fn series_argument(m: f64) -> f64
+    ensures { λ r. ⌜ r ≡ seriesArgument m ⌝ }
+{
+    if m <= 0.5 {
+        m
     } else {
-        PI / 2.0 - 2.0 * arcsine_series(roots::sqrt((1.0 - a) / 2.0))
+        roots::sqrt((1.0 - m) / 2.0)
+    }
+}
+
+// The arcsine of m by that series.
+fn arcsine_upward(m: f64, series: f64) -> f64
+    ensures { λ r. ⌜ r ≡ upwardBy m series ⌝ }
+{
+    if m <= 0.5 {
+        series
+    } else {
+        PI / 2.0 - 2.0 * series
+    }
+}
+
+// The arcsine of a by the series of its magnitude.
+fn arcsine_by(a: f64, series: f64) -> f64
+    ensures { λ r. ⌜ r ≡ arcsineBy a series ⌝ }
+{
+    if (-1.0 <= a) & (a <= 1.0) {
+        if a < 0.0 {
+            -arcsine_upward(-a, series)
+        } else {
+            arcsine_upward(a, series)
+        }
+    } else {
+        0.0 / 0.0
     }
 }
 
 pub fn asin(a: f64) -> f64
     ensures { λ r. ⌜ r ≡ arcsine a ⌝ }
 {
-    if (-1.0 <= a) & (a <= 1.0) {
-        if a < 0.0 {
-            -arcsine_upward(-a)
-        } else {
-            arcsine_upward(a)
-        }
-    } else {
-        0.0 / 0.0
+    let argument = series_argument(magnitude(a));
+    arcsine_by(a, arcsine_series(argument))
+}
+
+pub struct Arcsines {
+    pub first: f64,
+    pub second: f64,
+}
+
+// Two arcsines at once.
+pub fn asin_both(a: f64, b: f64) -> Arcsines
+    ensures { λ r. ⌜ (r .first ≡ arcsine a) × (r .second ≡ arcsine b) ⌝ }
+{
+    let first = series_argument(magnitude(a));
+    let second = series_argument(magnitude(b));
+    let series = arcsine_series_both(first, second);
+    Arcsines {
+        first: arcsine_by(a, series.first),
+        second: arcsine_by(b, series.second),
     }
 }
 

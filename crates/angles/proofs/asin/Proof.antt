@@ -1,26 +1,21 @@
-use lib.Ieee.{ofBits, neg, div}
-use Rattle.angles.specs.Arcsine.{arcsine, isSine}
-use borrow.Author.Needs.{needs}
+use Rattle.angles.proofs.ArcsineParts.{arcsine-by}
 use Rattle.angles.proofs.asin.Statement.{statement}
 use Rattle.angles.proofs.asin.Tie as tie
 
-arcsine-upward-requires : tie.Need-arcsine-upward-requires
-arcsine-upward-requires c κs = search needs
+magnitude-requires : tie.Need-magnitude-requires
+magnitude-requires c κs = tt
 
-arcsine-upward-requires-2 : tie.Need-arcsine-upward-requires-2
-arcsine-upward-requires-2 c κs = search needs
+series-argument-requires : tie.Need-series-argument-requires
+series-argument-requires c κs = tt
+
+arcsine-series-requires : tie.Need-arcsine-series-requires
+arcsine-series-requires c κs = tt
+
+arcsine-by-requires : tie.Need-arcsine-by-requires
+arcsine-by-requires c κs = tt
 
 returns : tie.Need-returns
-unfolding arcsine isSine ofBits neg
-returns c = simp (c .before .before .if1 .taken, c .before .if2 .taken, c .arcsine-upward .ensures)
-
-returns-2 : tie.Need-returns-2
-unfolding arcsine isSine ofBits neg
-returns-2 c = simp (c .before .before .if1 .taken, c .before .if2 .left, c .arcsine-upward2 .ensures)
-
-returns-3 : tie.Need-returns-3
-unfolding arcsine isSine ofBits neg div
-returns-3 c = simp (c .if1 .left)
+returns c = rw (c .arcsine-by .ensures, c .before .arcsine-series .ensures, c .before .before .series-argument .ensures, c .before .before .before .magnitude .ensures) (arcsine-by _)
 
 pub asin-spec : {M : Type 1} → statement M
-asin-spec = tie.close (tie.spec arcsine-upward-requires arcsine-upward-requires-2 returns returns-2 returns-3)
+asin-spec = tie.close (tie.spec magnitude-requires series-argument-requires arcsine-series-requires arcsine-by-requires returns)
