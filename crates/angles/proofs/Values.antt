@@ -10,7 +10,7 @@ use Rattle.angles.specs.Arcsine.{isSine, arcsineSeries, halfPi, arcsineU
 use Rattle.angles.specs.Power.{logarithmOf, powerOf, powerBy, powMinus1253}
 
 -- All that a value is computed from: to unfold this name unfolds them.
-steps : ℕ
+unfoldable pub steps : ℕ
 unfolding sine cosine isAngle turns quarters quadrant remainder sineSeries sineSum cosineSeries cosineSum sineAt cosineAt clamp floorOf
     arcsine isSine arcsineUpward arcsineSeries halfPi arccosine squareRoot powMinus1253 powerBy powerOf logarithmOf add sub mul div lt le neg toUnsigned bits
 steps = 0

@@ -1,3 +1,4 @@
 pub mod Day
 pub mod Hour
+pub mod Height
 pub mod Orientation

@@ -1,6 +1,13 @@
 // What depends on the hour. What a later formula needs again, as a sine, is worked out once and handed on.
 ghost use mathlib.Core.Path.{_≡_};
-ghost use Rattle.sun.specs.Hour.{sinCosOf, timeShift, solarTime, hourAngle, altitudeBy, solarAltitude, solarZenith, azimuthBranch, azimuthBy, solarAzimuth, airMassBy, airMass, hourBy, hourOf};
+ghost use mathlib.Core.Bool.{cond};
+ghost use lib.Ieee.{lt};
+ghost use Rattle.doubles.specs.Arithmetic.{_⊕_, _⊗_, _⊘_, decimal, whole};
+ghost use Rattle.doubles.specs.Functions.{toDegrees};
+ghost use Rattle.angles.specs.Sine.{cosine};
+ghost use Rattle.angles.specs.Arcsine.{arcsine};
+ghost use Rattle.sun.specs.Height.{heightOf};
+ghost use Rattle.sun.specs.Hour.{sinCosOf, timeShift, solarTime, hourAngle, altitudeBy, solarAltitude, solarZenith, azimuthBranch, solarAzimuth, airMassBy, airMass, hourBy, hourOf};
 use crate::day::day_of;
 use crate::orientation::wrap_once;
 use crate::site::Site;
@@ -31,13 +38,25 @@ pub fn init_solar_hour_angle(solar_time: f64) -> f64
     wrap_once(15.0 * (12.5 - solar_time))
 }
 
+fn altitude_sine(latitude: SinCos, declination: SinCos, cos_hour_angle: f64) -> f64
+    ensures { λ r. ⌜ r ≡ declination .sin ⊗ latitude .sin ⊕ declination .cos ⊗ latitude .cos ⊗ «cos_hour_angle» ⌝ }
+{
+    declination.sin * latitude.sin + declination.cos * latitude.cos * cos_hour_angle
+}
+
+// Whether an altitude counts as 0.
+fn is_night(altitude: f64) -> bool
+    ensures { λ r. ⌜ r ≡ lt altitude (decimal 1 4) ⌝ }
+{
+    altitude < 0.0001
+}
+
 fn altitude_by(latitude: SinCos, declination: SinCos, cos_hour_angle: f64) -> f64
     ensures { λ r. ⌜ r ≡ altitudeBy latitude declination «cos_hour_angle» ⌝ }
 {
-    let altitude = doubles::to_degrees(angles::asin(
-        declination.sin * latitude.sin + declination.cos * latitude.cos * cos_hour_angle,
-    ));
-    if altitude < 0.0001 { 0.0 } else { altitude }
+    let sine = altitude_sine(latitude, declination, cos_hour_angle);
+    let altitude = doubles::to_degrees(angles::asin(sine));
+    if is_night(altitude) { 0.0 } else { altitude }
 }
 
 pub fn init_solar_altitude(latitude: f64, solar_declination: f64, solar_hour_angle: f64) -> f64
@@ -71,18 +90,23 @@ fn azimuth_branch(sin_aux1: f64, cos_aux1: f64, aux2: f64) -> f64
     -(180.0 + aux2)
 }
 
-// w is 180 less the hour angle.
-fn azimuth_by(l: SinCos, d: SinCos, w: SinCos, sin_altitude: f64) -> f64
-    ensures { λ r. ⌜ r ≡ azimuthBy l d w «sin_altitude» ⌝ }
+// The azimuth's divisor.
+fn azimuth_denominator(sin_altitude: f64) -> f64
+    ensures { λ r. ⌜ r ≡ cosine (arcsine «sin_altitude») ⌝ }
+{
+    angles::cos(angles::asin(sin_altitude))
+}
+
+// w is 180 less the hour angle. The arcsine is that of d.cos * w.sin.
+fn azimuth_by(l: SinCos, d: SinCos, w: SinCos, arc_sine: f64, denominator: f64) -> f64
+    ensures { λ r. ⌜ r ≡ azimuthBranch (d .cos ⊗ w .sin ⊘ denominator) ((l .cos ⊗ d .sin ⊕ l .sin ⊗ d .cos ⊗ w .cos) ⊘ denominator) (toDegrees («arc_sine» ⊘ denominator)) ⌝ }
 {
     let sin_numerator = d.cos * w.sin;
     let cos_numerator = l.cos * d.sin + l.sin * d.cos * w.cos;
-    let denominator = angles::cos(angles::asin(sin_altitude));
-    let aux2 = doubles::to_degrees(angles::asin(sin_numerator) / denominator);
     azimuth_branch(
         sin_numerator / denominator,
         cos_numerator / denominator,
-        aux2,
+        doubles::to_degrees(arc_sine / denominator),
     )
 }
 
@@ -94,11 +118,14 @@ pub fn init_solar_azimuth_angle(
 ) -> f64
     ensures { λ r. ⌜ r ≡ solarAzimuth latitude «solar_declination» «solar_hour_angle» «solar_altitude» ⌝ }
 {
+    let d = sin_cos_of_degrees(solar_declination);
+    let w = sin_cos_of_degrees(180.0 - solar_hour_angle);
     azimuth_by(
         sin_cos_of_degrees(latitude),
-        sin_cos_of_degrees(solar_declination),
-        sin_cos_of_degrees(180.0 - solar_hour_angle),
-        angles::sin(doubles::to_radians(solar_altitude)),
+        d,
+        w,
+        angles::asin(d.cos * w.sin),
+        azimuth_denominator(angles::sin(doubles::to_radians(solar_altitude))),
     )
 }
 
@@ -118,6 +145,58 @@ pub fn init_air_mass(solar_altitude: f64) -> f64
         solar_altitude,
         angles::sin(doubles::to_radians(solar_altitude)),
     )
+}
+
+// What depends on the sun's altitude alone.
+struct Height {
+    altitude: f64,
+    sin: f64,
+    tan: f64,
+    azimuth_denominator: f64,
+    zenith: f64,
+    cos_zenith: f64,
+    air_mass: f64,
+}
+
+fn height_of(altitude: f64) -> Height
+    ensures { λ r. ⌜ r ≡ heightOf altitude ⌝ }
+{
+    let a = sin_cos_of_degrees(altitude);
+    let zenith = init_solar_zenith_angle(altitude);
+    Height {
+        altitude: altitude,
+        sin: a.sin,
+        tan: a.sin / a.cos,
+        azimuth_denominator: azimuth_denominator(a.sin),
+        zenith: zenith,
+        cos_zenith: angles::cos(doubles::to_radians(zenith)),
+        air_mass: air_mass_by(altitude, a.sin),
+    }
+}
+
+// The same of altitude 0, so that the hours of night, about half of a year's, need not work it out.
+fn height_at_night() -> Height
+    ensures { λ r. ⌜ r ≡ heightOf (whole 0) ⌝ }
+{
+    Height {
+        altitude: 0.0,
+        sin: 0.0,
+        tan: 0.0,
+        azimuth_denominator: 1.0,
+        zenith: 90.0,
+        cos_zenith: 6.12323399538461e-17,
+        air_mass: 36.51032450028871,
+    }
+}
+
+fn height_by(altitude: f64) -> Height
+    ensures { λ r. ⌜ r ≡ heightOf (cond (lt altitude (decimal 1 4)) (whole 0) altitude) ⌝ }
+{
+    if is_night(altitude) {
+        height_at_night()
+    } else {
+        height_of(altitude)
+    }
 }
 
 // The sun in one hour: its angles, and what later formulas reuse of them.
@@ -145,18 +224,25 @@ pub fn hour_by(
     let angle = init_solar_hour_angle(init_solar_time(hour_of_day, equation_of_time, time_shift));
     let w = sin_cos_of_degrees(angle);
     let opposite = sin_cos_of_degrees(180.0 - angle);
-    let altitude = altitude_by(latitude, declination, w.cos);
-    let a = sin_cos_of_degrees(altitude);
-    let zenith = init_solar_zenith_angle(altitude);
+    let sine = altitude_sine(latitude, declination, w.cos);
+    let arcsines = angles::asin_both(sine, declination.cos * opposite.sin);
+    let height = height_by(doubles::to_degrees(arcsines.first));
+    let denominator = height.azimuth_denominator;
     Hour {
         hour_angle: w,
-        altitude: altitude,
-        azimuth: azimuth_by(latitude, declination, opposite, a.sin),
-        sin_altitude: a.sin,
-        tan_altitude: a.sin / a.cos,
-        zenith: zenith,
-        cos_zenith: angles::cos(doubles::to_radians(zenith)),
-        air_mass: air_mass_by(altitude, a.sin),
+        altitude: height.altitude,
+        azimuth: azimuth_by(
+            latitude,
+            declination,
+            opposite,
+            arcsines.second,
+            denominator,
+        ),
+        sin_altitude: height.sin,
+        tan_altitude: height.tan,
+        zenith: height.zenith,
+        cos_zenith: height.cos_zenith,
+        air_mass: height.air_mass,
     }
 }
 

@@ -1,6 +1,6 @@
 use lib.Ieee.{ofBits}
-use Rattle.angles.specs.Sine.{tangent}
-use Rattle.sun.specs.Hour.{hourBy}
+use Rattle.sun.specs.Hour.{altitudeBy, azimuthBy, hourBy}
+use Rattle.sun.specs.Height.{heightOf}
 use Rattle.sun.proofs.hour.hour_by.Statement.{statement}
 use Rattle.sun.proofs.hour.hour_by.Tie as tie
 
@@ -16,42 +16,35 @@ sin-cos-of-degrees-requires c κs = tt
 sin-cos-of-degrees-requires-2 : tie.Need-sin-cos-of-degrees-requires-2
 sin-cos-of-degrees-requires-2 c κs = tt
 
-altitude-by-requires : tie.Need-altitude-by-requires
-altitude-by-requires c κs = tt
+altitude-sine-requires : tie.Need-altitude-sine-requires
+altitude-sine-requires c κs = tt
 
-sin-cos-of-degrees-requires-3 : tie.Need-sin-cos-of-degrees-requires-3
-sin-cos-of-degrees-requires-3 c κs = tt
+asin-both-requires : tie.Need-asin-both-requires
+asin-both-requires c κs = tt
 
-init-solar-zenith-angle-requires : tie.Need-init-solar-zenith-angle-requires
-init-solar-zenith-angle-requires c κs = tt
+to-degrees-requires : tie.Need-to-degrees-requires
+to-degrees-requires c κs = tt
+
+height-by-requires : tie.Need-height-by-requires
+height-by-requires c κs = tt
 
 azimuth-by-requires : tie.Need-azimuth-by-requires
 azimuth-by-requires c κs = tt
 
-to-radians-requires : tie.Need-to-radians-requires
-to-radians-requires c κs = tt
-
-cos-requires : tie.Need-cos-requires
-cos-requires c κs = tt
-
-air-mass-by-requires : tie.Need-air-mass-by-requires
-air-mass-by-requires c κs = tt
-
 returns : tie.Need-returns
-unfolding hourBy tangent ofBits
+unfolding hourBy altitudeBy azimuthBy heightOf ofBits
 returns c =
     rw (
-      c .air-mass-by .ensures,
-      c .before .cos .ensures,
-      c .before .before .to-radians .ensures,
-      c .before .before .before .before .azimuth-by .ensures,
-      c .before .before .before .before .before .init-solar-zenith-angle .ensures,
-      c .before .before .before .before .before .before .sin-cos-of-degrees3 .ensures,
-      c .before .before .before .before .before .before .before .altitude-by .ensures,
-      c .before .before .before .before .before .before .before .before .sin-cos-of-degrees2 .ensures,
-      c .before .before .before .before .before .before .before .before .before .sin-cos-of-degrees .ensures,
-      c .before .before .before .before .before .before .before .before .before .before .init-solar-hour-angle .ensures,
-      c .before .before .before .before .before .before .before .before .before .before .before .init-solar-time .ensures,
+      c .azimuth-by .ensures,
+      c .before .height-by .ensures,
+      c .before .before .to-degrees .ensures,
+      c .before .before .before .asin-both .ensures .0,
+      c .before .before .before .asin-both .ensures .1,
+      c .before .before .before .before .before .before .altitude-sine .ensures,
+      c .before .before .before .before .before .before .before .sin-cos-of-degrees2 .ensures,
+      c .before .before .before .before .before .before .before .before .sin-cos-of-degrees .ensures,
+      c .before .before .before .before .before .before .before .before .before .init-solar-hour-angle .ensures,
+      c .before .before .before .before .before .before .before .before .before .before .init-solar-time .ensures,
     )
 
 pub hour-by-spec : {M : Type 1} → statement M
@@ -62,11 +55,9 @@ hour-by-spec =
     init-solar-hour-angle-requires
     sin-cos-of-degrees-requires
     sin-cos-of-degrees-requires-2
-    altitude-by-requires
-    sin-cos-of-degrees-requires-3
-    init-solar-zenith-angle-requires
+    altitude-sine-requires
+    asin-both-requires
+    to-degrees-requires
+    height-by-requires
     azimuth-by-requires
-    to-radians-requires
-    cos-requires
-    air-mass-by-requires
     returns)
