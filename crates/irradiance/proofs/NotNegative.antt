@@ -8,7 +8,7 @@ use Rattle.doubles.proofs.Order.{lt-le-trans}
 use Rattle.doubles.proofs.Bounds.{zero-number, add-operands, mul-operands, div-operands, cut-below, add-nonneg, mul-nonneg, div-nonneg}
 use Rattle.angles.specs.declared.SinCos.{SinCos}
 use Rattle.sun.specs.declared.hour.Hour.{Hour}
-use Rattle.irradiance.specs.Sky.{circumsolarBrightness, skyOf}
+use Rattle.irradiance.specs.Sky.{cutBrightness, circumsolarBrightness, skyOf}
 use Rattle.irradiance.specs.Surface.{cosineOfDegrees, aOverB, incidenceOf}
 use Rattle.irradiance.specs.Parts.{directIrradiance, circumsolarIrradiance, irradianceOf}
 use Rattle.irradiance.proofs.Constants.{cosine-85}
@@ -18,7 +18,7 @@ unfolding directIrradiance
 direct-part beam c n = cut-below (whole 0) (beam ⊗ c) zero-number n
 
 first-coefficient : (e delta zenith : Float) → Number (circumsolarBrightness e delta zenith) → whole 0 ≼ circumsolarBrightness e delta zenith
-unfolding circumsolarBrightness
+unfolding circumsolarBrightness cutBrightness
 first-coefficient e delta zenith n = cut-below (whole 0) _ zero-number n
 
 above-cosine-85 : whole 0 ≺ cosineOfDegrees (whole 85)

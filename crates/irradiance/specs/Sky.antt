@@ -57,26 +57,28 @@ coefficients =
     ∷ (decimal 678 3 ∷ neg (decimal 327 3) ∷ neg (decimal 25 2) ∷ decimal 156 3 ∷ neg (decimal 1377 3) ∷ decimal 251 3 ∷ [])
     ∷ []
 
--- the k-th coefficient of a row
-unfoldable pub coefficient : ℕ → ℕ → Float
-unfolding coefficients
-coefficient row k = getD (getD coefficients row []) k nan
+-- a + b·delta + c·((PI · zenith) / 180)
+unfoldable pub brightnessOf : Float → Float → Float → Float → Float → Float
+unfolding whole pi
+brightnessOf a b c delta zenith = a ⊕ b ⊗ delta ⊕ c ⊗ (pi ⊗ zenith ⊘ whole 180)
 
--- a + b·delta + c·((PI · zenith) / 180), for the three coefficients from the k-th on
+-- by the three coefficients of a row from the k-th on
+unfoldable pub brightnessIn : List Float → ℕ → Float → Float → Float
+brightnessIn row k = brightnessOf (getD row k nan) (getD row (k + 1) nan) (getD row (k + 2) nan)
+
 unfoldable pub brightness : ℕ → Float → Float → Float → Float
-unfolding coefficient tableRow whole pi
-brightness k e delta zenith =
-    let row = tableRow e in
-    coefficient row k ⊕ coefficient row (k + 1) ⊗ delta ⊕ coefficient row (k + 2) ⊗ (pi ⊗ zenith ⊘ whole 180)
+brightness k e = brightnessIn (getD coefficients (tableRow e) []) k
 
 -- F1 below 0 becomes 0
+unfoldable pub cutBrightness : Float → Float
+unfolding whole
+cutBrightness f1 = cond (lt f1 (whole 0)) (whole 0) f1
+
 unfoldable pub circumsolarBrightness : Float → Float → Float → Float
-unfolding brightness whole
-circumsolarBrightness e delta zenith = let f1 = brightness 0 e delta zenith in cond (lt f1 (whole 0)) (whole 0) f1
+circumsolarBrightness e delta zenith = cutBrightness (brightness 0 e delta zenith)
 
 -- F2 may be negative
 unfoldable pub horizontalBrightness : Float → Float → Float → Float
-unfolding brightness
 horizontalBrightness e delta zenith = brightness 3 e delta zenith
 
 -- The sky of one step: the diffuse value, the beam after conversion, F1 and F2.

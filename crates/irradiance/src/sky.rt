@@ -1,7 +1,8 @@
 // The state of the sky: the Perez model's clearness, brightness and coefficients F1 and F2.
 ghost use mathlib.Core.Path.{_≡_};
-ghost use Prim.Native.Nat.{_<_, _+_};
-ghost use Rattle.irradiance.specs.Sky.{directBeam, altitudeTerm, clearness, skyBrightness, tableRow, brightness, circumsolarBrightness, horizontalBrightness, skyOf};
+ghost use mathlib.Core.List.{[]};
+ghost use lib.ListN.{getD};
+ghost use Rattle.irradiance.specs.Sky.{directBeam, altitudeTerm, clearness, skyBrightness, tableRow, coefficients, brightnessOf, brightnessIn, cutBrightness, circumsolarBrightness, horizontalBrightness, skyOf};
 use sun::hour::Hour;
 
 const PI: f64 = 3.141592653589793;
@@ -93,13 +94,31 @@ fn table_row(clearness_parameter: f64) -> usize
     7
 }
 
-// Three coefficients of one row of Table 8, from the k-th on, put together.
-fn brightness_from(k: usize, clearness_parameter: f64, delta: f64, solar_zenith_angle: f64) -> f64
-    requires { ⌜ k < 4 ⌝ }
-    ensures { λ r. ⌜ r ≡ brightness k «clearness_parameter» delta «solar_zenith_angle» ⌝ }
+// The coefficients that hold at a clearness.
+fn coefficients_at(clearness_parameter: f64) -> [f64; 6]
+    ensures { λ r. ⌜ r ≡ getD coefficients (tableRow «clearness_parameter») [] ⌝ }
 {
-    let row = BRIGHTNESS_COEFFICIENTS[table_row(clearness_parameter)];
-    row[k] + row[k + 1] * delta + row[k + 2] * (PI * solar_zenith_angle / 180.0)
+    BRIGHTNESS_COEFFICIENTS[table_row(clearness_parameter)]
+}
+
+// Three of a row's coefficients put together.
+fn brightness_of(a: f64, b: f64, c: f64, delta: f64, solar_zenith_angle: f64) -> f64
+    ensures { λ r. ⌜ r ≡ brightnessOf a b c delta «solar_zenith_angle» ⌝ }
+{
+    a + b * delta + c * (PI * solar_zenith_angle / 180.0)
+}
+
+fn circumsolar_brightness(row: [f64; 6], delta: f64, solar_zenith_angle: f64) -> f64
+    ensures { λ r. ⌜ r ≡ cutBrightness (brightnessIn row 0 delta «solar_zenith_angle») ⌝ }
+{
+    let f1 = brightness_of(row[0], row[1], row[2], delta, solar_zenith_angle);
+    if f1 < 0.0 { 0.0 } else { f1 }
+}
+
+fn horizontal_brightness(row: [f64; 6], delta: f64, solar_zenith_angle: f64) -> f64
+    ensures { λ r. ⌜ r ≡ brightnessIn row 3 delta «solar_zenith_angle» ⌝ }
+{
+    brightness_of(row[3], row[4], row[5], delta, solar_zenith_angle)
 }
 
 pub fn init_f1_circumsolar_brightness_coefficient(
@@ -109,8 +128,8 @@ pub fn init_f1_circumsolar_brightness_coefficient(
 ) -> f64
     ensures { λ r. ⌜ r ≡ circumsolarBrightness «clearness_parameter» delta «solar_zenith_angle» ⌝ }
 {
-    let f1 = brightness_from(0, clearness_parameter, delta, solar_zenith_angle);
-    if f1 < 0.0 { 0.0 } else { f1 }
+    let row = coefficients_at(clearness_parameter);
+    circumsolar_brightness(row, delta, solar_zenith_angle)
 }
 
 pub fn init_f2_horizontal_brightness_coefficient(
@@ -120,7 +139,8 @@ pub fn init_f2_horizontal_brightness_coefficient(
 ) -> f64
     ensures { λ r. ⌜ r ≡ horizontalBrightness «clearness_parameter» delta «solar_zenith_angle» ⌝ }
 {
-    brightness_from(3, clearness_parameter, delta, solar_zenith_angle)
+    let row = coefficients_at(clearness_parameter);
+    horizontal_brightness(row, delta, solar_zenith_angle)
 }
 
 // The sky of one step.
@@ -147,10 +167,11 @@ pub fn sky_of(
         diffuse,
         extra_terrestrial_radiation,
     );
+    let row = coefficients_at(e);
     Sky {
         diffuse: diffuse,
         beam: beam,
-        f1: init_f1_circumsolar_brightness_coefficient(e, delta, hour.zenith),
-        f2: init_f2_horizontal_brightness_coefficient(e, delta, hour.zenith),
+        f1: circumsolar_brightness(row, delta, hour.zenith),
+        f2: horizontal_brightness(row, delta, hour.zenith),
     }
 }

@@ -1,22 +1,19 @@
-use lib.Ieee.{ofBits}
-use Rattle.irradiance.specs.Sky.{circumsolarBrightness}
-use borrow.Author.Needs.{needs}
+use Rattle.irradiance.specs.Sky.{brightness, circumsolarBrightness}
 use Rattle.irradiance.proofs.sky.init_f1_circumsolar_brightness_coefficient.Statement.{
   statement,
 }
 use Rattle.irradiance.proofs.sky.init_f1_circumsolar_brightness_coefficient.Tie as tie
 
-brightness-from-requires : tie.Need-brightness-from-requires
-brightness-from-requires c κs = search needs
+coefficients-at-requires : tie.Need-coefficients-at-requires
+coefficients-at-requires c κs = tt
+
+circumsolar-brightness-requires : tie.Need-circumsolar-brightness-requires
+circumsolar-brightness-requires c κs = tt
 
 returns : tie.Need-returns
-unfolding circumsolarBrightness ofBits
-returns c = rw (← (c .before .brightness-from .ensures), c .if1 .taken)
-
-returns-2 : tie.Need-returns-2
-unfolding circumsolarBrightness ofBits
-returns-2 c = rw (← (c .before .brightness-from .ensures), c .if1 .left)
+unfolding circumsolarBrightness brightness
+returns c = rw (c .circumsolar-brightness .ensures, c .before .coefficients-at .ensures)
 
 pub init-f1-circumsolar-brightness-coefficient-spec : {M : Type 1} → statement M
 init-f1-circumsolar-brightness-coefficient-spec =
-    tie.close (tie.spec brightness-from-requires returns returns-2)
+    tie.close (tie.spec coefficients-at-requires circumsolar-brightness-requires returns)

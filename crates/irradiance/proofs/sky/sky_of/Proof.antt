@@ -1,4 +1,4 @@
-use Rattle.irradiance.specs.Sky.{skyOf}
+use Rattle.irradiance.specs.Sky.{brightness, circumsolarBrightness, horizontalBrightness, skyOf}
 use Rattle.irradiance.proofs.sky.sky_of.Statement.{statement}
 use Rattle.irradiance.proofs.sky.sky_of.Tie as tie
 
@@ -13,23 +13,25 @@ init-dimensionless-sky-brightness-parameter-requires :
     tie.Need-init-dimensionless-sky-brightness-parameter-requires
 init-dimensionless-sky-brightness-parameter-requires c κs = tt
 
-init-f1-circumsolar-brightness-coefficient-requires :
-    tie.Need-init-f1-circumsolar-brightness-coefficient-requires
-init-f1-circumsolar-brightness-coefficient-requires c κs = tt
+coefficients-at-requires : tie.Need-coefficients-at-requires
+coefficients-at-requires c κs = tt
 
-init-f2-horizontal-brightness-coefficient-requires :
-    tie.Need-init-f2-horizontal-brightness-coefficient-requires
-init-f2-horizontal-brightness-coefficient-requires c κs = tt
+circumsolar-brightness-requires : tie.Need-circumsolar-brightness-requires
+circumsolar-brightness-requires c κs = tt
+
+horizontal-brightness-requires : tie.Need-horizontal-brightness-requires
+horizontal-brightness-requires c κs = tt
 
 returns : tie.Need-returns
-unfolding skyOf
+unfolding skyOf circumsolarBrightness horizontalBrightness brightness
 returns c =
     rw (
-      c .init-f2-horizontal-brightness-coefficient .ensures,
-      c .before .init-f1-circumsolar-brightness-coefficient .ensures,
-      c .before .before .init-dimensionless-sky-brightness-parameter .ensures,
-      c .before .before .before .init-dimensionless-clearness-parameter .ensures,
-      c .before .before .before .before .init-direct-beam-radiation .ensures,
+      c .horizontal-brightness .ensures,
+      c .before .circumsolar-brightness .ensures,
+      c .before .before .coefficients-at .ensures,
+      c .before .before .before .init-dimensionless-sky-brightness-parameter .ensures,
+      c .before .before .before .before .init-dimensionless-clearness-parameter .ensures,
+      c .before .before .before .before .before .init-direct-beam-radiation .ensures,
     )
 
 pub sky-of-spec : {M : Type 1} → statement M
@@ -39,6 +41,7 @@ sky-of-spec =
     init-direct-beam-radiation-requires
     init-dimensionless-clearness-parameter-requires
     init-dimensionless-sky-brightness-parameter-requires
-    init-f1-circumsolar-brightness-coefficient-requires
-    init-f2-horizontal-brightness-coefficient-requires
+    coefficients-at-requires
+    circumsolar-brightness-requires
+    horizontal-brightness-requires
     returns)

@@ -1,0 +1,24 @@
+use lib.Ieee.{ofBits, neg}
+use native.Mathlib.Omega.{arith}
+use Rattle.doubles.specs.Arithmetic.{decimal}
+use Rattle.irradiance.specs.Sky.{coefficients}
+use Rattle.irradiance.proofs.Table.{row-lt}
+use Rattle.irradiance.proofs.sky.coefficients_at.Statement.{statement}
+use Rattle.irradiance.proofs.sky.coefficients_at.Tie as tie
+
+table-row-requires : tie.Need-table-row-requires
+table-row-requires c κs = tt
+
+mul-result : tie.Need-mul-result
+mul-result c = omega (arith, c .table-row .ensures, row-lt (c .before .args .clearness-parameter))
+
+array-copy-out-result : tie.Need-array-copy-out-result
+array-copy-out-result c = omega (arith, c .table-row .ensures, row-lt (c .before .args .clearness-parameter))
+
+returns : tie.Need-returns
+unfolding coefficients ofBits neg
+returns c = rw (c .before .table-row .ensures)
+
+pub coefficients-at-spec : {M : Type 1} → statement M
+coefficients-at-spec =
+    tie.close (tie.spec table-row-requires mul-result array-copy-out-result returns)
