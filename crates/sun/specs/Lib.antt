@@ -1,4 +1,4 @@
 pub mod Day
 pub mod Hour
-pub mod Height
+pub mod HourParts
 pub mod Orientation

@@ -6,7 +6,7 @@ ghost use Rattle.doubles.specs.Arithmetic.{_⊕_, _⊗_, _⊘_, decimal, whole}
 ghost use Rattle.doubles.specs.Functions.{toDegrees};
 ghost use Rattle.angles.specs.Sine.{cosine};
 ghost use Rattle.angles.specs.Arcsine.{arcsine};
-ghost use Rattle.sun.specs.Height.{heightOf};
+ghost use Rattle.sun.specs.HourParts.{heightOf, turnBy, hourFrom};
 ghost use Rattle.sun.specs.Hour.{sinCosOf, timeShift, solarTime, hourAngle, altitudeBy, solarAltitude, solarZenith, azimuthBranch, solarAzimuth, airMassBy, airMass, hourBy, hourOf};
 use crate::day::day_of;
 use crate::orientation::wrap_once;
@@ -211,7 +211,62 @@ pub struct Hour {
     pub air_mass: f64,
 }
 
+// What the hour angle gives before the altitude is known: the arcsines of the altitude's sine and of the azimuth's numerator.
+pub struct Turn {
+    pub hour_angle: SinCos,
+    pub opposite: SinCos,
+    pub altitude_arcsine: f64,
+    pub azimuth_arcsine: f64,
+}
+
 // The sines and cosines of latitude and declination are the caller's to keep: they change with the site and the day alone.
+pub fn turn_by(
+    latitude: SinCos,
+    declination: SinCos,
+    equation_of_time: f64,
+    time_shift: f64,
+    hour_of_day: u32,
+) -> Turn
+    ensures { λ r. ⌜ r ≡ turnBy latitude declination «equation_of_time» «time_shift» «hour_of_day» ⌝ }
+{
+    let angle = init_solar_hour_angle(init_solar_time(hour_of_day, equation_of_time, time_shift));
+    let w = sin_cos_of_degrees(angle);
+    let opposite = sin_cos_of_degrees(180.0 - angle);
+    let sine = altitude_sine(latitude, declination, w.cos);
+    let arcsines = angles::asin_both(sine, declination.cos * opposite.sin);
+    Turn {
+        hour_angle: w,
+        opposite: opposite,
+        altitude_arcsine: arcsines.first,
+        azimuth_arcsine: arcsines.second,
+    }
+}
+
+pub fn hour_from(latitude: SinCos, declination: SinCos, turn: Turn) -> Hour
+    ensures { λ r. ⌜ r ≡ hourFrom latitude declination turn ⌝ }
+{
+    let height = height_by(doubles::to_degrees(turn.altitude_arcsine));
+    let opposite = turn.opposite;
+    let hour_angle = turn.hour_angle;
+    let azimuth = azimuth_by(
+        latitude,
+        declination,
+        opposite,
+        turn.azimuth_arcsine,
+        height.azimuth_denominator,
+    );
+    Hour {
+        hour_angle: hour_angle,
+        altitude: height.altitude,
+        azimuth: azimuth,
+        sin_altitude: height.sin,
+        tan_altitude: height.tan,
+        zenith: height.zenith,
+        cos_zenith: height.cos_zenith,
+        air_mass: height.air_mass,
+    }
+}
+
 pub fn hour_by(
     latitude: SinCos,
     declination: SinCos,
@@ -221,29 +276,14 @@ pub fn hour_by(
 ) -> Hour
     ensures { λ r. ⌜ r ≡ hourBy latitude declination «equation_of_time» «time_shift» «hour_of_day» ⌝ }
 {
-    let angle = init_solar_hour_angle(init_solar_time(hour_of_day, equation_of_time, time_shift));
-    let w = sin_cos_of_degrees(angle);
-    let opposite = sin_cos_of_degrees(180.0 - angle);
-    let sine = altitude_sine(latitude, declination, w.cos);
-    let arcsines = angles::asin_both(sine, declination.cos * opposite.sin);
-    let height = height_by(doubles::to_degrees(arcsines.first));
-    let denominator = height.azimuth_denominator;
-    Hour {
-        hour_angle: w,
-        altitude: height.altitude,
-        azimuth: azimuth_by(
-            latitude,
-            declination,
-            opposite,
-            arcsines.second,
-            denominator,
-        ),
-        sin_altitude: height.sin,
-        tan_altitude: height.tan,
-        zenith: height.zenith,
-        cos_zenith: height.cos_zenith,
-        air_mass: height.air_mass,
-    }
+    let turn = turn_by(
+        latitude,
+        declination,
+        equation_of_time,
+        time_shift,
+        hour_of_day,
+    );
+    hour_from(latitude, declination, turn)
 }
 
 // The sun at a site in an hour of the year.

@@ -5,7 +5,7 @@ use Rattle.doubles.specs.Functions.{toRadians}
 use Rattle.angles.specs.Sine.{tangent}
 use Rattle.angles.proofs.Values.{steps}
 use Rattle.sun.specs.Hour.{solarZenith, airMassBy}
-use Rattle.sun.specs.Height.{heightOf}
+use Rattle.sun.specs.HourParts.{heightOf}
 use Rattle.sun.proofs.hour.height_at_night.Statement.{statement}
 use Rattle.sun.proofs.hour.height_at_night.Tie as tie
 

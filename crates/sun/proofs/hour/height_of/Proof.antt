@@ -1,6 +1,6 @@
 use Rattle.angles.specs.Sine.{tangent}
 use Rattle.sun.specs.Hour.{sinCosOf}
-use Rattle.sun.specs.Height.{heightOf}
+use Rattle.sun.specs.HourParts.{heightOf}
 use Rattle.sun.proofs.hour.height_of.Statement.{statement}
 use Rattle.sun.proofs.hour.height_of.Tie as tie
 

@@ -1,63 +1,15 @@
-use lib.Ieee.{ofBits}
-use Rattle.sun.specs.Hour.{altitudeBy, azimuthBy, hourBy}
-use Rattle.sun.specs.Height.{heightOf}
+use Rattle.sun.proofs.HourParts.{hour-by-parts}
 use Rattle.sun.proofs.hour.hour_by.Statement.{statement}
 use Rattle.sun.proofs.hour.hour_by.Tie as tie
 
-init-solar-time-requires : tie.Need-init-solar-time-requires
-init-solar-time-requires c κs = tt
+turn-by-requires : tie.Need-turn-by-requires
+turn-by-requires c κs = tt
 
-init-solar-hour-angle-requires : tie.Need-init-solar-hour-angle-requires
-init-solar-hour-angle-requires c κs = tt
-
-sin-cos-of-degrees-requires : tie.Need-sin-cos-of-degrees-requires
-sin-cos-of-degrees-requires c κs = tt
-
-sin-cos-of-degrees-requires-2 : tie.Need-sin-cos-of-degrees-requires-2
-sin-cos-of-degrees-requires-2 c κs = tt
-
-altitude-sine-requires : tie.Need-altitude-sine-requires
-altitude-sine-requires c κs = tt
-
-asin-both-requires : tie.Need-asin-both-requires
-asin-both-requires c κs = tt
-
-to-degrees-requires : tie.Need-to-degrees-requires
-to-degrees-requires c κs = tt
-
-height-by-requires : tie.Need-height-by-requires
-height-by-requires c κs = tt
-
-azimuth-by-requires : tie.Need-azimuth-by-requires
-azimuth-by-requires c κs = tt
+hour-from-requires : tie.Need-hour-from-requires
+hour-from-requires c κs = tt
 
 returns : tie.Need-returns
-unfolding hourBy altitudeBy azimuthBy heightOf ofBits
-returns c =
-    rw (
-      c .azimuth-by .ensures,
-      c .before .height-by .ensures,
-      c .before .before .to-degrees .ensures,
-      c .before .before .before .asin-both .ensures .0,
-      c .before .before .before .asin-both .ensures .1,
-      c .before .before .before .before .before .before .altitude-sine .ensures,
-      c .before .before .before .before .before .before .before .sin-cos-of-degrees2 .ensures,
-      c .before .before .before .before .before .before .before .before .sin-cos-of-degrees .ensures,
-      c .before .before .before .before .before .before .before .before .before .init-solar-hour-angle .ensures,
-      c .before .before .before .before .before .before .before .before .before .before .init-solar-time .ensures,
-    )
+returns c = rw (c .hour-from .ensures, c .before .turn-by .ensures) (hour-by-parts _ _ _ _ _)
 
 pub hour-by-spec : {M : Type 1} → statement M
-hour-by-spec =
-    tie.close
-    (tie.spec
-    init-solar-time-requires
-    init-solar-hour-angle-requires
-    sin-cos-of-degrees-requires
-    sin-cos-of-degrees-requires-2
-    altitude-sine-requires
-    asin-both-requires
-    to-degrees-requires
-    height-by-requires
-    azimuth-by-requires
-    returns)
+hour-by-spec = tie.close (tie.spec turn-by-requires hour-from-requires returns)

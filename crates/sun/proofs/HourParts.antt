@@ -1,0 +1,11 @@
+-- The sun of an hour taken apart and put together again.
+use mathlib.Core.Path.{_≡_, refl}
+use Prim.Native.Nat.{ℕ}
+use lib.Ieee.{Float}
+use Rattle.angles.specs.declared.SinCos.{SinCos}
+use Rattle.sun.specs.Hour.{sinCosOf, altitudeBy, azimuthBy, hourBy}
+use Rattle.sun.specs.HourParts.{heightOf, turnBy, hourFrom}
+
+pub hour-by-parts : (l d : SinCos) (equation shift : Float) (hour : ℕ) → hourFrom l d (turnBy l d equation shift hour) ≡ hourBy l d equation shift hour
+unfolding hourFrom turnBy heightOf hourBy altitudeBy azimuthBy sinCosOf
+hour-by-parts l d equation shift hour = refl
