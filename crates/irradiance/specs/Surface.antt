@@ -29,8 +29,10 @@ unfolding whole cosineOfDegrees
 aOverB cosIncidence cosZenith = maxOf2 (whole 0) cosIncidence ⊘ maxOf2 (cosineOfDegrees (whole 85)) cosZenith
 
 -- The sun on the surface in one hour: the cosine of its incidence, and a / b.
+unfoldable pub incidenceBy : Float → Float → Incidence
+unfolding aOverB
+incidenceBy cosIncidence cosZenith = record { cos = cosIncidence; «a_over_b» = aOverB cosIncidence cosZenith }
+
 unfoldable pub incidenceOf : SinCos → SinCos → SinCos → SinCos → Hour → Incidence
-unfolding incidenceAngle cosineOfDegrees aOverB
-incidenceOf l d t o hour =
-    let c = cosineOfDegrees (incidenceAngle l d t o (hour .«hour_angle»)) in
-    record { cos = c; «a_over_b» = aOverB c (hour .«cos_zenith») }
+unfolding incidenceAngle cosineOfDegrees incidenceBy
+incidenceOf l d t o hour = incidenceBy (cosineOfDegrees (incidenceAngle l d t o (hour .«hour_angle»))) (hour .«cos_zenith»)

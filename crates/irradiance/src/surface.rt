@@ -1,6 +1,6 @@
 // The sun on an inclined surface: incidence, and the ratio of the solid angles a and b.
 ghost use mathlib.Core.Path.{_≡_};
-ghost use Rattle.irradiance.specs.Surface.{incidenceAngle, aOverB, incidenceOf};
+ghost use Rattle.irradiance.specs.Surface.{incidenceAngle, cosineOfDegrees, aOverB, incidenceBy, incidenceOf};
 use angles::SinCos;
 use sun::hour::Hour;
 
@@ -29,14 +29,26 @@ pub struct Incidence {
     pub a_over_b: f64,
 }
 
+// The cosine of the angle of incidence.
+pub fn incidence_cosine(l: SinCos, d: SinCos, t: SinCos, o: SinCos, w: SinCos) -> f64
+    ensures { λ r. ⌜ r ≡ cosineOfDegrees (incidenceAngle l d t o w) ⌝ }
+{
+    angles::cos(doubles::to_radians(solar_angle_of_incidence(l, d, t, o, w)))
+}
+
+pub fn incidence_by(cos_incidence: f64, cos_zenith: f64) -> Incidence
+    ensures { λ r. ⌜ r ≡ incidenceBy «cos_incidence» «cos_zenith» ⌝ }
+{
+    Incidence {
+        cos: cos_incidence,
+        a_over_b: a_over_b(cos_incidence, cos_zenith),
+    }
+}
+
 pub fn incidence_of(l: SinCos, d: SinCos, t: SinCos, o: SinCos, hour: Hour) -> Incidence
     ensures { λ r. ⌜ r ≡ incidenceOf l d t o hour ⌝ }
 {
     let w = hour.hour_angle;
-    let angle = solar_angle_of_incidence(l, d, t, o, w);
-    let cos = angles::cos(doubles::to_radians(angle));
-    Incidence {
-        cos: cos,
-        a_over_b: a_over_b(cos, hour.cos_zenith),
-    }
+    let cos_incidence = incidence_cosine(l, d, t, o, w);
+    incidence_by(cos_incidence, hour.cos_zenith)
 }
