@@ -3,7 +3,6 @@
 ghost use mathlib.Core.Path.{_≡_};
 ghost use Prim.Native.Nat.{_/_, _≤_};
 ghost use Rattle.words.specs.Words.{wordCount};
-ghost use Rattle.simulation_time.specs.Timestep.{currentHour};
 ghost use Rattle.objects.specs.Objects.{placed};
 ghost use Rattle.runs.specs.Kept.{fixedOf, keptDay, keptHour, irradianceKept};
 use angles::SinCos;
@@ -60,7 +59,7 @@ pub fn kept_day(index: u32) -> KeptDay
 }
 
 // The same day where it is still that day.
-fn day_for(index: u32, kept: KeptDay) -> KeptDay
+pub fn day_for(index: u32, kept: KeptDay) -> KeptDay
     requires { ⌜ kept ≡ keptDay (kept .index) ⌝ }
     ensures { λ r. ⌜ r ≡ keptDay index ⌝ }
 {
@@ -73,46 +72,36 @@ fn day_for(index: u32, kept: KeptDay) -> KeptDay
 // An hour of the year, from 0.
 pub struct KeptHour {
     pub hour: u32,
-    pub day: KeptDay,
     pub sun: Hour,
     pub incidence: Incidence,
     pub factor: FactorAnswer,
 }
 
-// An hour, by the day that was kept last.
+// The incidence needs nothing of the altitude, so it stands between the hour's two parts: the processor then does both at once.
 pub fn kept_hour(
     site: Site,
     surface: Surface,
     fixed: Fixed,
-    last_day: KeptDay,
+    day: KeptDay,
     hour: u32,
     sectors: &[u8],
     window: WindowShading,
 ) -> KeptHour
     requires { ⌜ fixed ≡ fixedOf site surface ⌝ }
-    requires { ⌜ «last_day» ≡ keptDay («last_day» .index) ⌝ }
+    requires { ⌜ day ≡ keptDay (hour / 24) ⌝ }
     requires { ⌜ wordCount (now sectors) / 27 ≤ 36 ⌝ }
     ensures { λ r. ⌜ r ≡ keptHour site surface (now (sectors .entry)) (placed window) hour ⌝ }
 {
-    let day = day_for(hour / 24, last_day);
-    let latitude = fixed.latitude;
-    let tilt = fixed.tilt;
-    let orientation = fixed.orientation;
-    let declination = day.declination;
-    let sun = sun::hour::hour_by(
-        latitude,
-        declination,
-        day.values.equation_of_time,
-        fixed.time_shift,
-        hour % 24,
-    );
-    let incidence = irradiance::surface::incidence_of(
-        latitude,
-        declination,
-        tilt,
-        orientation,
-        sun,
-    );
+    let l = fixed.latitude;
+    let t = fixed.tilt;
+    let o = fixed.orientation;
+    let d = day.declination;
+    let equation_of_time = day.values.equation_of_time;
+    let turn = sun::hour::turn_by(l, d, equation_of_time, fixed.time_shift, hour % 24);
+    let w = turn.hour_angle;
+    let cos_incidence = irradiance::surface::incidence_cosine(l, d, t, o, w);
+    let sun = sun::hour::hour_from(l, d, turn);
+    let incidence = irradiance::surface::incidence_by(cos_incidence, sun.cos_zenith);
     let factor = shading::step::direct_shading_reduction_factor(
         surface,
         sun.altitude,
@@ -122,44 +111,21 @@ pub fn kept_hour(
     );
     KeptHour {
         hour: hour,
-        day: day,
         sun: sun,
         incidence: incidence,
         factor: factor,
     }
 }
 
-// The hour of a time: the one that is kept, where it is still that hour.
-pub fn hour_at(
-    site: Site,
-    surface: Surface,
-    fixed: Fixed,
-    kept: KeptHour,
-    time: f64,
-    sectors: &[u8],
-    window: WindowShading,
-) -> KeptHour
-    requires { ⌜ fixed ≡ fixedOf site surface ⌝ }
-    requires { ⌜ wordCount (now sectors) / 27 ≤ 36 ⌝ }
-    requires { ⌜ kept ≡ keptHour site surface (now sectors) (placed window) (kept .hour) ⌝ }
-    ensures { λ r. ⌜ r ≡ keptHour site surface (now (sectors .entry)) (placed window) (currentHour time) ⌝ }
-{
-    let hour = simulation_time::timestep::current_hour(time);
-    if hour == kept.hour {
-        return kept;
-    }
-    let day = kept.day;
-    kept_hour(site, surface, fixed, day, hour, sectors, window)
-}
-
 // The irradiance at a step, by what is kept and the series' values.
 pub fn irradiance_kept(
     fixed: Fixed,
     conversion: u64,
+    extra_terrestrial_radiation: f64,
     kept: KeptHour,
     reading: Reading,
 ) -> Irradiance
-    ensures { λ r. ⌜ r ≡ irradianceKept fixed conversion kept reading ⌝ }
+    ensures { λ r. ⌜ r ≡ irradianceKept fixed conversion «extra_terrestrial_radiation» kept reading ⌝ }
 {
     let tilt = fixed.tilt;
     let sun = kept.sun;
@@ -167,7 +133,7 @@ pub fn irradiance_kept(
     let sky = irradiance::sky::sky_of(
         conversion == 1,
         sun,
-        kept.day.values.extra_terrestrial_radiation,
+        extra_terrestrial_radiation,
         reading.diffuse,
         reading.direct,
     );

@@ -10,8 +10,8 @@ ghost use Rattle.jobs.specs.Checks.{seriesChecked, checked};
 ghost use Rattle.jobs.specs.Run.{ran, runFrom, runOf};
 use crate::checks::hours_in_year;
 use crate::checks::site_fine;
+use crate::kept::day_for;
 use crate::kept::fixed_of;
-use crate::kept::hour_at;
 use crate::kept::kept_day;
 use crate::kept::kept_hour;
 use crate::rows::step_at;
@@ -128,21 +128,28 @@ pub fn run_steps(
     let objects = window_of(window);
     let fixed = fixed_of(site, surface);
     let first = current_hour(run.start);
-    let mut kept = kept_hour(
-        site,
-        surface,
-        fixed,
-        kept_day(first / 24),
-        first,
-        sectors,
-        objects,
-    );
+    let mut day = kept_day(first / 24);
+    let mut kept = kept_hour(site, surface, fixed, day, first, sectors, objects);
     let mut time = run.start;
     let mut sum = 0.0;
     let mut i: u64 = 0;
     while i < count {
-        kept = hour_at(site, surface, fixed, kept, time, sectors, objects);
-        let answer = step_at(site, fixed, kept, time, diffuse, direct, reflectivity);
+        let hour = current_hour(time);
+        if hour != kept.hour {
+            day = day_for(hour / 24, day);
+            kept = kept_hour(site, surface, fixed, day, hour, sectors, objects);
+        }
+        let extra = day.values.extra_terrestrial_radiation;
+        let answer = step_at(
+            site,
+            fixed,
+            extra,
+            kept,
+            time,
+            diffuse,
+            direct,
+            reflectivity,
+        );
         match answer {
             StepAnswer::Refused(refusal) => {
                 return RunAnswer::Refused {

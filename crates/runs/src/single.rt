@@ -112,7 +112,8 @@ fn step_with(
     let hour = current_hour(time);
     let day = kept_day(hour / 24);
     let kept = kept_hour(site, surface, fixed, day, hour, sectors, objects);
-    step_row(fixed, site.direct_beam_conversion, kept, reading)
+    let extra = day.values.extra_terrestrial_radiation;
+    step_row(fixed, site.direct_beam_conversion, extra, kept, reading)
 }
 
 fn store_step(answer: StepAnswer, results: &mut [u8]) -> Single
