@@ -16,8 +16,7 @@ use crate::kept::kept_day;
 use crate::kept::kept_hour;
 use crate::rows::step_at;
 use crate::rows::store_row;
-use crate::series::indices_fine;
-use crate::series::readings_fine;
+use crate::series::series_fine;
 use jobs::answers::Checked;
 use jobs::answers::RunAnswer;
 use jobs::answers::StepAnswer;
@@ -50,12 +49,19 @@ fn check_series(
     requires { ⌜ count ≡ stepCount run ⌝ }
     ensures { λ r. ⌜ r ≡ seriesChecked (jobOf site run surface (now (diffuse .entry)) (now (direct .entry)) (now (reflectivity .entry)) (now (sectors .entry)) (now (window .entry))) (now (results .entry)) ⌝ }
 {
-    let day = site.start_day as u32;
-    let width = site.time_series_step;
-    if !indices_fine(run, count, day, width, diffuse, direct, reflectivity) {
+    let fine = series_fine(
+        run,
+        count,
+        site.start_day as u32,
+        site.time_series_step,
+        diffuse,
+        direct,
+        reflectivity,
+    );
+    if !fine.indices {
         return Checked::Refused(Refusal::Series);
     }
-    if !readings_fine(run, count, day, width, diffuse, direct, reflectivity) {
+    if !fine.readings {
         return Checked::Refused(Refusal::Reading);
     }
     if (word_count(results) as u64) < 6 * count {

@@ -38,32 +38,13 @@ pub fn reading_fine(reading: Reading) -> bool
     diffuse & direct & reflectivity
 }
 
-// Whether no step's index is past the end of a series.
-pub fn indices_fine(
-    run: Run,
-    count: u64,
-    start_day: u32,
-    series_step: f64,
-    diffuse: &[u8],
-    direct: &[u8],
-    reflectivity: &[u8],
-) -> bool
-    ensures { λ r. ⌜ r ≡ atAll (λ time. inSeries (now (diffuse .entry)) (now (direct .entry)) (now (reflectivity .entry)) (seriesIndex time «start_day» «series_step»)) (timesFrom count (run .step) (run .start)) ⌝ }
-{
-    let mut fine = true;
-    let mut time = run.start;
-    let mut i: u64 = 0;
-    while i < count {
-        let index = time_series_idx(time, start_day, series_step);
-        fine = in_series(diffuse, direct, reflectivity, index) & fine;
-        time += run.step;
-        i += 1;
-    }
-    fine
+// Of all steps: whether every index is on all three series, and whether every value is in its range.
+pub struct SeriesFine {
+    pub indices: bool,
+    pub readings: bool,
 }
 
-// Whether every value that a step uses is in its range.
-pub fn readings_fine(
+pub fn series_fine(
     run: Run,
     count: u64,
     start_day: u32,
@@ -71,17 +52,23 @@ pub fn readings_fine(
     diffuse: &[u8],
     direct: &[u8],
     reflectivity: &[u8],
-) -> bool
-    ensures { λ r. ⌜ r ≡ atAll (λ time. readingFine (readSeries (now (diffuse .entry)) (now (direct .entry)) (now (reflectivity .entry)) (seriesIndex time «start_day» «series_step»))) (timesFrom count (run .step) (run .start)) ⌝ }
+) -> SeriesFine
+    ensures { λ r. ⌜ (r .indices ≡ atAll (λ time. inSeries (now (diffuse .entry)) (now (direct .entry)) (now (reflectivity .entry)) (seriesIndex time «start_day» «series_step»)) (timesFrom count (run .step) (run .start)))
+        × (r .readings ≡ atAll (λ time. readingFine (readSeries (now (diffuse .entry)) (now (direct .entry)) (now (reflectivity .entry)) (seriesIndex time «start_day» «series_step»))) (timesFrom count (run .step) (run .start))) ⌝ }
 {
-    let mut fine = true;
+    let mut indices = true;
+    let mut readings = true;
     let mut time = run.start;
     let mut i: u64 = 0;
     while i < count {
         let index = time_series_idx(time, start_day, series_step);
-        fine = reading_fine(read_series(diffuse, direct, reflectivity, index)) & fine;
+        indices = in_series(diffuse, direct, reflectivity, index) & indices;
+        readings = reading_fine(read_series(diffuse, direct, reflectivity, index)) & readings;
         time += run.step;
         i += 1;
     }
-    fine
+    SeriesFine {
+        indices: indices,
+        readings: readings,
+    }
 }

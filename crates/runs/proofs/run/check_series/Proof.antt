@@ -35,52 +35,51 @@ readings : (s : tie.Start) (b : Bool)
 unfolding readingAt indexAt times
 readings s b e = sym (e ∙ ap (λ n. atAll (λ time. readingFine (readingAt (job s) time)) (timesFrom n (s .args .run .step) (s .args .run .start))) (s .pre .1))
 
-cast-day : tie.Need-cast-day
-cast-day c = search needs
+cast-series-fine : tie.Need-cast-series-fine
+cast-series-fine c = search needs
 
-indices-fine-requires : tie.Need-indices-fine-requires
-indices-fine-requires c κs = search needs
+series-fine-requires : tie.Need-series-fine-requires
+series-fine-requires c κs = tt
 
 returns : tie.Need-returns
-returns c = let s = c .before .before .before .before .before .before .before .before .before in series-refused (job s) (now (s .args .results)) (indices s _ (c .before .indices-fine .ensures) ∙ not-true _ (c .if1 .taken))
-
-readings-fine-requires : tie.Need-readings-fine-requires
-readings-fine-requires c κs = search needs
+returns c = let s = c .before .before .before .before .before .before .before .before .before .before in series-refused (job s) (now (s .args .results)) (indices s _ (c .before .before .series-fine .ensures .0) ∙ not-true _ (c .if1 .taken))
 
 returns-2 : tie.Need-returns-2
 returns-2 c =
-    let s = c .before .before .before .before .before .before .before .before .before .before .before in
-    let i = indices s _ (c .before .before .before .indices-fine .ensures) ∙ not-false _ (c .before .before .if1 .left) in
-    reading-refused (job s) (now (s .args .results)) i (readings s _ (c .before .readings-fine .ensures) ∙ not-true _ (c .if2 .taken))
+    let s = c .before .before .before .before .before .before .before .before .before .before .before .before in
+    let fine = c .before .before .before .before .series-fine .ensures in
+    let i = indices s _ (fine .0) ∙ not-false _ (c .before .before .if1 .left) in
+    reading-refused (job s) (now (s .args .results)) i (readings s _ (fine .1) ∙ not-true _ (c .if2 .taken))
 
 word-count-requires : tie.Need-word-count-requires
-word-count-requires c κs = search needs
+word-count-requires c κs = tt
 
 mul-if3 : tie.Need-mul-if3
-mul-if3 c = let s = c .before .before .before .before .before .before .before .before .before .before .before .before in let z = count-few (s .args .run) in omega (arith, z, s .pre .1)
+mul-if3 c = let s = c .before .before .before .before .before .before .before .before .before .before .before .before .before in let z = count-few (s .args .run) in omega (arith, z, s .pre .1)
 
 returns-3 : tie.Need-returns-3
 returns-3 c =
-    let s = c .before .before .before .before .before .before .before .before .before .before .before .before .before in
-    let i = indices s _ (c .before .before .before .before .before .indices-fine .ensures) ∙ not-false _ (c .before .before .before .before .if1 .left) in
-    let r = readings s _ (c .before .before .before .readings-fine .ensures) ∙ not-false _ (c .before .before .if2 .left) in
+    let s = c .before .before .before .before .before .before .before .before .before .before .before .before .before .before in
+    let fine = c .before .before .before .before .before .before .series-fine .ensures in
+    let i = indices s _ (fine .0) ∙ not-false _ (c .before .before .before .before .if1 .left) in
+    let r = readings s _ (fine .1) ∙ not-false _ (c .before .before .if2 .left) in
     results-refused (job s) (now (s .args .results)) i r (omega (arith, s .pre .1, c .before .word-count .ensures))
 
 returns-4 : tie.Need-returns-4
 returns-4 c =
-    let s = c .before .before .before .before .before .before .before .before .before .before .before .before .before in
-    let i = indices s _ (c .before .before .before .before .before .indices-fine .ensures) ∙ not-false _ (c .before .before .before .before .if1 .left) in
-    let r = readings s _ (c .before .before .before .readings-fine .ensures) ∙ not-false _ (c .before .before .if2 .left) in
+    let s = c .before .before .before .before .before .before .before .before .before .before .before .before .before .before in
+    let fine = c .before .before .before .before .before .before .series-fine .ensures in
+    let i = indices s _ (fine .0) ∙ not-false _ (c .before .before .before .before .if1 .left) in
+    let r = readings s _ (fine .1) ∙ not-false _ (c .before .before .if2 .left) in
     ap Steps (s .pre .1) ∙ series-passed (job s) (now (s .args .results)) i r (omega (arith, s .pre .1, c .before .word-count .ensures))
 
 pub check-series-spec : {M : Type 1} → statement M
 check-series-spec =
     tie.close
     (tie.spec
-    cast-day
-    indices-fine-requires
+    cast-series-fine
+    series-fine-requires
     returns
-    readings-fine-requires
     returns-2
     word-count-requires
     mul-if3
