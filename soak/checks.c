@@ -1,5 +1,6 @@
 #include "checks.h"
 
+#include <fenv.h>
 #include <stdio.h>
 #include <stdlib.h>
 
@@ -130,7 +131,7 @@ pilgartze_answer tried(soak *in, desk *on, enum call call, const job *of, int at
     lay_results(on, of->results[call], at_the_end, fill);
     watched_call(name_of(call));
     answer = answer_to(call, of, &on->at);
-    wrong = wrong_answer(call, of, &answer);
+    wrong = fegetround() == FE_TONEAREST ? wrong_answer(call, of, &answer) : "doubles are rounded in another way";
     if (wrong == NULL) {
         wrong = wrong_results(in, on, call, of, &answer);
     }
@@ -166,6 +167,28 @@ void try_calls(soak *in, source *from, const job *of)
     for (call = 0; call < CALLS; call++) {
         try_twice(in, (enum call)call, of, (sides >> (LISTS + call) & 1) != 0, fill);
     }
+}
+
+/* The lists that are only read may overlap: one list three times is as good as three lists that are alike. */
+void try_one_series(soak *in, source *from, const job *of)
+{
+    desk *const on = &in->second;
+    job alike = *of;
+    lent apart;
+    int list;
+    for (list = DIFFUSE; list < REFLECTIVITY; list++) {
+        alike.lists[list] = of->lists[REFLECTIVITY];
+        alike.lengths[list] = of->lengths[REFLECTIVITY];
+    }
+    lay_out(&in->first, &alike, (unsigned)random_word(from), 0, 0);
+    lay_out(on, &alike, (unsigned)random_word(from), 0, 1);
+    apart = on->at;
+    for (list = DIFFUSE; list < REFLECTIVITY; list++) {
+        on->at.lists[list] = on->at.lists[REFLECTIVITY];
+    }
+    try_twice(in, RUN, &alike, 0, 0);
+    memcpy(on->at.lists, apart.lists, sizeof apart.lists);
+    in->shared += 1;
 }
 
 /* The single calls give what the run has at that step, whose row that is. */

@@ -15,6 +15,7 @@ typedef struct soak {
     uint64_t nan_rows; /* rows with a NaN */
     uint64_t shaded;   /* rows with a factor below 1 */
     uint64_t steps;    /* steps of a run that were called by themselves */
+    uint64_t shared;   /* runs that were lent one list for all series */
     uint64_t threads;  /* calls that two threads made at once */
 } soak;
 
@@ -29,6 +30,8 @@ void try_calls(soak *in, source *from, const job *of);
 void try_step_of_run(soak *in, source *from, const job *of);
 /* Two threads at once, with the same lists. */
 void try_threads(soak *in, source *from, const job *of);
+/* One list lent for all three series. */
+void try_one_series(soak *in, source *from, const job *of);
 /* Lists of more bytes than 32 bits can tell. */
 void try_wide_lists(soak *in);
 /* How many bytes of stack the calls take, over so many jobs; prints it, and holds it to PILGARTZE_STACK_BYTES. */

@@ -6,6 +6,7 @@
 #include <stdlib.h>
 #include <string.h>
 #include <sys/mman.h>
+#include <sys/time.h>
 #include <unistd.h>
 
 #define PAGE ((size_t)4096)
@@ -67,7 +68,7 @@ size_t offset_in(const pages *where, int at_the_end, size_t length)
 
 static char call_words[64] = "no call";
 static char turn_words[96] = "";
-static unsigned call_patience = 0;
+static long call_patience = 0;
 
 static void say(const char *words)
 {
@@ -78,25 +79,26 @@ static void say(const char *words)
 static void stopped(int number)
 {
     say("soak: ");
-    say(number == SIGALRM ? "a call that does not return: " : "an access outside the lists: ");
+    say(number == SIGPROF ? "a call that does not return: " : "an access outside the lists: ");
     say(call_words);
     say(turn_words);
     say("\n");
-    _exit(number == SIGALRM ? 1 : 3);
+    _exit(number == SIGPROF ? 1 : 3);
 }
 
-void watch(unsigned patience)
+void watch(long patience)
 {
     call_patience = patience;
     signal(SIGSEGV, stopped);
     signal(SIGBUS, stopped);
-    signal(SIGALRM, stopped);
+    signal(SIGPROF, stopped);
 }
 
 void watched_call(const char *name)
 {
+    const struct itimerval left = {{0, 0}, {call_patience, 0}};
     snprintf(call_words, sizeof call_words, "%s", name);
-    alarm(call_patience);
+    setitimer(ITIMER_PROF, &left, NULL);
 }
 
 void watched_turn(uint64_t seed, uint64_t turn)

@@ -19,8 +19,9 @@ pages wide_pages(size_t room, int read_only);
 /* Where in the pages a list of that length begins: against their end, or against their start. */
 size_t offset_in(const pages *where, int at_the_end, size_t length);
 
-/* Says what happens in case of an access outside, or of a call that does not return in so many seconds. */
-void watch(unsigned patience);
+/* Says what happens in case of an access outside, or of a call that does not return in so many seconds of the
+ * processor's time. */
+void watch(long patience);
 /* A new call begins: its time counts from now on, and a report will have these words. */
 void watched_call(const char *name);
 void watched_turn(uint64_t seed, uint64_t turn);

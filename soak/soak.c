@@ -52,6 +52,9 @@ static void one_turn(soak *in, job *made)
     if (one_in(&from, 16)) {
         try_threads(in, &from, made);
     }
+    if (one_in(&from, 16)) {
+        try_one_series(in, &from, made);
+    }
 }
 
 static void all_turns(soak *in, const options *by)
@@ -97,14 +100,14 @@ static int told(const soak *in, const options *by)
 {
     const int unseen = tell_seen(in);
     printf("%llu jobs of seed %llu; %llu runs refused past step 0, %llu steps of a run called by themselves, %llu rows "
-           "with NaN, %llu with shade, %llu calls by two threads at once\n",
+           "with NaN, %llu with shade, %llu runs with one list for all series, %llu calls by two threads at once\n",
            (unsigned long long)(in->turn - by->from), (unsigned long long)in->seed, (unsigned long long)in->late,
            (unsigned long long)in->steps, (unsigned long long)in->nan_rows, (unsigned long long)in->shaded,
-           (unsigned long long)in->threads);
+           (unsigned long long)in->shared, (unsigned long long)in->threads);
     if (by->jobs == 1) {
         return 0;
     }
-    if (unseen > 0 || in->late == 0 || in->steps == 0 || in->shaded == 0 || in->threads == 0 ||
+    if (unseen > 0 || in->late == 0 || in->steps == 0 || in->shaded == 0 || in->threads == 0 || in->shared == 0 ||
         (in->nan_rows == 0 && !in->on_the_heap)) {
         printf("soak: something was never seen, numbers: %d\n", unseen);
         return 1;
@@ -124,7 +127,7 @@ int main(int count, char **words)
     in.on_the_heap = by.heap != 0;
     in.first = new_desk(in.on_the_heap);
     in.second = new_desk(in.on_the_heap);
-    watch((unsigned)by.patience);
+    watch((long)by.patience);
     if (!in.on_the_heap) {
         try_stack(&in, by.stack);
         try_wide_lists(&in);

@@ -3,6 +3,7 @@
 #define _POSIX_C_SOURCE 200809L
 #include "pilgartze.h"
 
+#include <fenv.h>
 #include <stdlib.h>
 #include <time.h>
 
@@ -87,6 +88,9 @@ static void before_run(LIST(direct), LIST(reflectivity), LIST(sectors), LIST(win
     }
     if (flaw("deep_stack")) {
         go_deep();
+    }
+    if (flaw("rounds_upwards")) {
+        fesetround(FE_UPWARD);
     }
     (void)sectors_length;
 }
@@ -202,6 +206,9 @@ pilgartze_answer pilgartze_run(SITE_NUMBERS, double start, double end, double st
     }
     if (flaw("reads_the_results") && answer.number == 0 && answer.count > 0 && old % 2 == 1) {
         results[0] ^= 1;
+    }
+    if (flaw("takes_one_list_for_none") && diffuse == direct && diffuse_length <= sizeof buffer) {
+        answer = (pilgartze_answer){PILGARTZE_REFUSED_SITE, 0, 0, 0.0};
     }
     wrong_stores(&answer, RESULTS);
     return wrong_answer(answer, results);
