@@ -13,7 +13,8 @@
  * - it reads and writes nothing outside the lists that it is lent;
  * - the answer and every byte of the results follow from the input alone. A NaN is stored as 7FF8000000000000; only the
  *   bits of a NaN in the answer's sum are left open.
- * It keeps no state, takes no memory from the heap and calls nothing of the C library but memcpy, not even its mathematics.
+ * It keeps no state, takes no memory from the heap and at most PILGARTZE_STACK_BYTES of the stack, and calls nothing of
+ * the C library but memcpy, not even its mathematics.
  * So any number of threads may call at once, also with the same series, sectors and window, as long as each has results
  * of its own.
  *
@@ -55,6 +56,12 @@
 #ifdef __cplusplus
 extern "C" {
 #endif
+
+/* ---- Stack ---------------------------------------------------------------------------------------------------- */
+
+/* No call takes more bytes of stack than this, its arguments and memcpy included: enough for a thread's stack, beside
+ * what the caller needs. It is not proved but worked out from the library's machine code, and measured (soak/run). */
+#define PILGARTZE_STACK_BYTES 65536
 
 /* ---- Refusals ------------------------------------------------------------------------------------------------- */
 

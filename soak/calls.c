@@ -1,0 +1,92 @@
+#include "calls.h"
+
+static pilgartze_answer run_of(const job *of, const lent *at)
+{
+    const pilgartze_site *const site = &of->site;
+    const pilgartze_surface *const surface = &of->surface;
+    return pilgartze_run(
+        site->latitude, site->longitude, site->timezone, site->start_day, site->series_step, site->leap_year,
+        site->direct_beam_conversion, of->run.start, of->run.end, of->run.step, surface->tilt, surface->orientation,
+        surface->base_height, surface->height, surface->width, at->lists[DIFFUSE], of->lengths[DIFFUSE],
+        at->lists[DIRECT], of->lengths[DIRECT], at->lists[REFLECTIVITY], of->lengths[REFLECTIVITY],
+        at->lists[SECTORS], of->lengths[SECTORS], at->lists[WINDOW], of->lengths[WINDOW], at->results,
+        of->results[RUN]);
+}
+
+static uint64_t step_of(const job *of, const lent *at)
+{
+    const pilgartze_site *const site = &of->site;
+    const pilgartze_surface *const surface = &of->surface;
+    return pilgartze_step(
+        site->latitude, site->longitude, site->timezone, site->start_day, site->series_step, site->leap_year,
+        site->direct_beam_conversion, of->time, surface->tilt, surface->orientation, surface->base_height,
+        surface->height, surface->width, of->reading.diffuse, of->reading.direct, of->reading.reflectivity,
+        at->lists[SECTORS], of->lengths[SECTORS], at->lists[WINDOW], of->lengths[WINDOW], at->results,
+        of->results[STEP]);
+}
+
+static uint64_t irradiance_of(const job *of, const lent *at)
+{
+    const pilgartze_site *const site = &of->site;
+    const pilgartze_surface *const surface = &of->surface;
+    return pilgartze_irradiance(
+        site->latitude, site->longitude, site->timezone, site->start_day, site->series_step, site->leap_year,
+        site->direct_beam_conversion, of->time, surface->tilt, surface->orientation, surface->base_height,
+        surface->height, surface->width, of->reading.diffuse, of->reading.direct, of->reading.reflectivity,
+        at->results, of->results[IRRADIANCE]);
+}
+
+static pilgartze_factor_answer factor_of(const job *of, const lent *at)
+{
+    const pilgartze_surface *const surface = &of->surface;
+    return pilgartze_factor(of->altitude, of->azimuth, surface->tilt, surface->orientation, surface->base_height,
+                            surface->height, surface->width, at->lists[SECTORS], of->lengths[SECTORS],
+                            at->lists[WINDOW], of->lengths[WINDOW]);
+}
+
+pilgartze_answer answer_to(enum call call, const job *of, const lent *lists)
+{
+    pilgartze_answer answer = {0, 0, 0, 0.0};
+    pilgartze_factor_answer factor;
+    switch (call) {
+    case RUN:
+        return run_of(of, lists);
+    case STEP:
+        answer.number = step_of(of, lists);
+        return answer;
+    case IRRADIANCE:
+        answer.number = irradiance_of(of, lists);
+        return answer;
+    default:
+        factor = factor_of(of, lists);
+        answer.number = factor.number;
+        answer.sum = factor.factor;
+        return answer;
+    }
+}
+
+const char *name_of(enum call call)
+{
+    static const char *const names[CALLS] = {"run", "step", "irradiance", "factor"};
+    return names[call];
+}
+
+int can_give(enum call call, uint64_t number)
+{
+    static const char *const marks[CALLS] = {"xxxxxxxxxxxx", "xxxxx.xxxxxx", "xxxx..xx....", "x..xx...xxxx"};
+    return number < PILGARTZE_REFUSED_LINE && marks[call][number] == 'x';
+}
+
+size_t stored_by(enum call call, const pilgartze_answer *answer)
+{
+    if (call == RUN) {
+        const uint64_t rows = answer->number == 0 ? answer->count : answer->step;
+        return answer->number == 0 || answer->number >= PILGARTZE_REFUSED_GAP
+                   ? (size_t)rows * sizeof(pilgartze_row)
+                   : 0;
+    }
+    if (answer->number != 0 || call == FACTOR) {
+        return 0;
+    }
+    return call == STEP ? sizeof(pilgartze_row) : sizeof(pilgartze_breakdown);
+}

@@ -1,0 +1,22 @@
+/* The four calls on one job. */
+#ifndef SOAK_CALLS_H
+#define SOAK_CALLS_H
+
+#include "job.h"
+
+/* Where the lists are for one call. */
+typedef struct lent {
+    const uint8_t *lists[LISTS];
+    uint8_t *results;
+} lent;
+
+/* Of the single calls an answer has the number alone, of the factor the factor as its sum too. */
+pilgartze_answer answer_to(enum call call, const job *of, const lent *lists);
+const char *name_of(enum call call);
+
+/* Whether a call can give that number at all. */
+int can_give(enum call call, uint64_t number);
+/* How many bytes of the results a call stores that gave this answer. */
+size_t stored_by(enum call call, const pilgartze_answer *answer);
+
+#endif

@@ -1,0 +1,242 @@
+#include "checks.h"
+
+#include <fenv.h>
+#include <stdio.h>
+#include <stdlib.h>
+
+void failed(const soak *in, const char *what, enum call call, const job *of, const pilgartze_answer *answer)
+{
+    printf("soak: %s: %s (--seed %llu --from %llu --jobs 1)\n", name_of(call), what, (unsigned long long)in->seed,
+           (unsigned long long)in->turn);
+    printf("  number %llu, step %llu, count %llu, sum %016llX\n", (unsigned long long)answer->number,
+           (unsigned long long)answer->step, (unsigned long long)answer->count,
+           (unsigned long long)bits_of(answer->sum));
+    tell_job(of);
+    exit(1);
+}
+
+int same_answer(const pilgartze_answer *one, const pilgartze_answer *other)
+{
+    return one->number == other->number && one->step == other->step && one->count == other->count &&
+           same_double(one->sum, other->sum);
+}
+
+/* ---- The answer ----------------------------------------------------------------------------------------------- */
+
+/* What is wrong with a refusal, or NULL. */
+static const char *wrong_refusal(enum call call, const job *of, const pilgartze_answer *answer)
+{
+    if (answer->count != 0 || bits_of(answer->sum) != 0) {
+        return "refused, and count or sum is not 0";
+    }
+    if (call != RUN || answer->number < PILGARTZE_REFUSED_GAP) {
+        return answer->step == 0 ? NULL : "refused before the first step, and the step is not 0";
+    }
+    return answer->step < step_count(&of->run) ? NULL : "refused at a step that the run does not have";
+}
+
+static const char *wrong_answer(enum call call, const job *of, const pilgartze_answer *answer)
+{
+    if (!can_give(call, answer->number)) {
+        return "a number that this call does not give";
+    }
+    if (answer->number != 0) {
+        return wrong_refusal(call, of, answer);
+    }
+    if (answer->step != 0) {
+        return "accepted, and the step is not 0";
+    }
+    if (call == RUN && answer->count != step_count(&of->run)) {
+        return "accepted, and the count is not that of the steps";
+    }
+    return call != FACTOR || (answer->sum >= 0.0 && answer->sum <= 1.0) ? NULL : "a factor not from 0 to 1";
+}
+
+/* ---- What is stored ------------------------------------------------------------------------------------------- */
+
+/* A NaN is stored in one way only. */
+static const char *wrong_words(const uint8_t *results, size_t length)
+{
+    size_t at;
+    for (at = 0; at < length; at += 8) {
+        double value;
+        memcpy(&value, results + at, sizeof value);
+        if (value != value && bits_of(value) != UINT64_C(0x7FF8000000000000)) {
+            return "a NaN of other bits";
+        }
+    }
+    return NULL;
+}
+
+static const char *wrong_row(soak *in, const pilgartze_row *row)
+{
+    const int nan = row->total != row->total || row->altitude != row->altitude;
+    in->nan_rows += nan ? 1 : 0;
+    in->shaded += row->factor < 1.0 ? 1 : 0;
+    if (!(row->factor >= 0.0 && row->factor <= 1.0)) {
+        return "a factor not from 0 to 1";
+    }
+    if (row->direct < 0.0) {
+        return "direct below 0";
+    }
+    return same_double(row->total, row->direct + row->diffuse) ? NULL : "total is not direct + diffuse";
+}
+
+/* All rows, and the sum from the first to the last. */
+static const char *wrong_rows(soak *in, const uint8_t *results, size_t rows, const pilgartze_answer *answer)
+{
+    const char *wrong = NULL;
+    double sum = 0.0;
+    size_t i;
+    for (i = 0; i < rows && wrong == NULL; i++) {
+        pilgartze_row row;
+        memcpy(&row, results + i * sizeof row, sizeof row);
+        wrong = wrong_row(in, &row);
+        sum += row.factor * row.direct;
+    }
+    if (wrong == NULL && answer->number == 0 && !same_double(sum, answer->sum)) {
+        return "the sum is not that of the rows";
+    }
+    return wrong;
+}
+
+static const char *wrong_results(soak *in, const desk *on, enum call call, const job *of,
+                                 const pilgartze_answer *answer)
+{
+    const size_t stored = stored_by(call, answer);
+    const size_t length = of->results[call];
+    const char *wrong;
+    if (stored > length) {
+        return "more rows than the results have room for";
+    }
+    if (!results_kept(on, stored, length)) {
+        return "bytes of the results that are not to be touched";
+    }
+    if (!on->locked && !lists_kept(on, of)) {
+        return "a list that is only read is not as it was";
+    }
+    wrong = wrong_words(on->at.results, stored);
+    if (wrong == NULL && call == RUN) {
+        wrong = wrong_rows(in, on->at.results, stored / sizeof(pilgartze_row), answer);
+    }
+    return wrong;
+}
+
+/* ---- Calls ---------------------------------------------------------------------------------------------------- */
+
+pilgartze_answer tried(soak *in, desk *on, enum call call, const job *of, int at_the_end, uint8_t fill)
+{
+    pilgartze_answer answer;
+    const char *wrong;
+    lay_results(on, of->results[call], at_the_end, fill);
+    watched_call(name_of(call));
+    answer = answer_to(call, of, &on->at);
+    wrong = fegetround() == FE_TONEAREST ? wrong_answer(call, of, &answer) : "doubles are rounded in another way";
+    if (wrong == NULL) {
+        wrong = wrong_results(in, on, call, of, &answer);
+    }
+    if (wrong != NULL) {
+        failed(in, wrong, call, of, &answer);
+    }
+    in->seen[call][answer.number] += 1;
+    return answer;
+}
+
+/* Once on each desk, with all lists and the results against other ends and with other bytes in the results. */
+static void try_twice(soak *in, enum call call, const job *of, int at_the_end, uint8_t fill)
+{
+    const pilgartze_answer first = tried(in, &in->first, call, of, at_the_end, fill);
+    const pilgartze_answer second = tried(in, &in->second, call, of, !at_the_end, (uint8_t)~fill);
+    if (!same_answer(&first, &second)) {
+        failed(in, "called again, another answer", call, of, &second);
+    }
+    if (memcmp(in->first.at.results, in->second.at.results, stored_by(call, &first)) != 0) {
+        failed(in, "called again, other results", call, of, &second);
+    }
+    in->late += call == RUN && first.step > 0 ? 1 : 0;
+}
+
+void try_calls(soak *in, source *from, const job *of)
+{
+    const unsigned sides = (unsigned)random_word(from);
+    const uint8_t fill = (uint8_t)random_word(from);
+    const size_t shift = one_in(from, 4) ? random_below(from, 8) : 0;
+    int call;
+    lay_out(&in->first, of, sides, shift, one_in(from, 2));
+    lay_out(&in->second, of, ~sides, shift, !in->first.locked);
+    for (call = 0; call < CALLS; call++) {
+        try_twice(in, (enum call)call, of, (sides >> (LISTS + call) & 1) != 0, fill);
+    }
+}
+
+/* The lists that are only read may overlap: one list three times is as good as three lists that are alike. */
+void try_one_series(soak *in, source *from, const job *of)
+{
+    desk *const on = &in->second;
+    job alike = *of;
+    lent apart;
+    int list;
+    for (list = DIFFUSE; list < REFLECTIVITY; list++) {
+        alike.lists[list] = of->lists[REFLECTIVITY];
+        alike.lengths[list] = of->lengths[REFLECTIVITY];
+    }
+    lay_out(&in->first, &alike, (unsigned)random_word(from), 0, 0);
+    lay_out(on, &alike, (unsigned)random_word(from), 0, 1);
+    apart = on->at;
+    for (list = DIFFUSE; list < REFLECTIVITY; list++) {
+        on->at.lists[list] = on->at.lists[REFLECTIVITY];
+    }
+    try_twice(in, RUN, &alike, 0, 0);
+    memcpy(on->at.lists, apart.lists, sizeof apart.lists);
+    in->shared += 1;
+}
+
+/* The single calls give what the run has at that step, whose row that is. */
+static void compare_row(soak *in, const job *single, const pilgartze_row *row)
+{
+    const desk *const on = &in->second;
+    pilgartze_answer answer = tried(in, &in->second, STEP, single, 1, 0);
+    if (answer.number != 0 || memcmp(on->at.results, row, sizeof *row) != 0) {
+        failed(in, "not the row that the run has", STEP, single, &answer);
+    }
+    answer = tried(in, &in->second, IRRADIANCE, single, 1, 0);
+    if (answer.number != 0 || memcmp(on->at.results, row, offsetof(pilgartze_row, factor)) != 0) {
+        failed(in, "not the row that the run has", IRRADIANCE, single, &answer);
+    }
+    if (!(row->altitude >= 0.0 && row->altitude <= 90.0 && row->azimuth >= -360.0 && row->azimuth <= 360.0)) {
+        return;
+    }
+    answer = tried(in, &in->second, FACTOR, single, 1, 0);
+    if (answer.number != 0 || bits_of(answer.sum) != bits_of(row->factor)) {
+        failed(in, "not the factor that the run has", FACTOR, single, &answer);
+    }
+}
+
+/* A run's results are still on the first desk. A step that it was refused at is refused by itself too. */
+void try_step_of_run(soak *in, source *from, const job *of)
+{
+    const pilgartze_answer run = tried(in, &in->first, RUN, of, 1, 0);
+    const size_t rows = stored_by(RUN, &run) / sizeof(pilgartze_row);
+    job single = *of;
+    size_t step = run.number == 0 && rows > 0 ? random_below(from, rows) : (size_t)run.step;
+    pilgartze_row row;
+    if (run.number != 0 ? run.number < PILGARTZE_REFUSED_GAP : rows == 0) {
+        return;
+    }
+    single.time = step_time(&of->run, step);
+    single.reading = reading_at(of, series_index(&of->site, single.time));
+    single.results[STEP] = sizeof(pilgartze_row);
+    single.results[IRRADIANCE] = sizeof(pilgartze_breakdown);
+    in->steps += 1;
+    if (run.number != 0) {
+        const pilgartze_answer answer = tried(in, &in->second, STEP, &single, 1, 0);
+        if (answer.number != run.number) {
+            failed(in, "not refused as the run is", STEP, &single, &answer);
+        }
+        return;
+    }
+    memcpy(&row, in->first.at.results + step * sizeof row, sizeof row);
+    single.altitude = row.altitude;
+    single.azimuth = row.azimuth;
+    compare_row(in, &single, &row);
+}

@@ -1,0 +1,42 @@
+/* What must hold of a call. */
+#ifndef SOAK_CHECKS_H
+#define SOAK_CHECKS_H
+
+#include "desk.h"
+
+/* Where a run of the program stands. */
+typedef struct soak {
+    uint64_t seed;
+    uint64_t turn;
+    int on_the_heap;
+    desk first, second;
+    uint64_t seen[CALLS][PILGARTZE_REFUSED_LINE];
+    uint64_t late;     /* runs refused past step 0 */
+    uint64_t nan_rows; /* rows with a NaN */
+    uint64_t shaded;   /* rows with a factor below 1 */
+    uint64_t steps;    /* steps of a run that were called by themselves */
+    uint64_t shared;   /* runs that were lent one list for all series */
+    uint64_t threads;  /* calls that two threads made at once */
+} soak;
+
+/* Ends the program, after it has told what does not hold of which call of which job. */
+void failed(const soak *in, const char *what, enum call call, const job *of, const pilgartze_answer *answer);
+
+/* Makes the call from that desk, and looks at the answer and at every byte. */
+pilgartze_answer tried(soak *in, desk *on, enum call call, const job *of, int at_the_end, uint8_t fill);
+/* All four calls, each twice. */
+void try_calls(soak *in, source *from, const job *of);
+/* Some step of a run by itself. */
+void try_step_of_run(soak *in, source *from, const job *of);
+/* Two threads at once, with the same lists. */
+void try_threads(soak *in, source *from, const job *of);
+/* One list lent for all three series. */
+void try_one_series(soak *in, source *from, const job *of);
+/* Lists of more bytes than 32 bits can tell. */
+void try_wide_lists(soak *in);
+/* How many bytes of stack the calls take, over so many jobs; prints it, and holds it to PILGARTZE_STACK_BYTES. */
+void try_stack(soak *in, uint64_t jobs);
+
+int same_answer(const pilgartze_answer *one, const pilgartze_answer *other);
+
+#endif

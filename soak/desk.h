@@ -1,0 +1,29 @@
+/* Where lists are lent from. */
+#ifndef SOAK_DESK_H
+#define SOAK_DESK_H
+
+#include "calls.h"
+#include "memory.h"
+
+typedef struct desk {
+    pages lists[LISTS];
+    pages results;
+    int on_the_heap; /* each list in a block of its own of exactly its length, for a tool that watches the heap */
+    lent at;         /* where they are */
+    uint8_t fill;    /* what the results held before the call */
+    int at_the_end;  /* whether the results stand against the end of their pages */
+    int locked;      /* whether the lists are lent through the view that can be read only */
+} desk;
+
+desk new_desk(int on_the_heap);
+/* Puts a job's lists there. Of the sides a bit for each list is set where it stands against the end of its pages; the
+ * others stand against the start, or so many bytes behind it, up to 7. */
+void lay_out(desk *on, const job *of, unsigned sides, size_t shift, int locked);
+/* Makes results of that length, all fill. */
+void lay_results(desk *on, size_t length, int at_the_end, uint8_t fill);
+/* Whether the lists still are the job's. */
+int lists_kept(const desk *on, const job *of);
+/* Whether the results are as they were from that byte on, and beside them. */
+int results_kept(const desk *on, size_t from, size_t length);
+
+#endif

@@ -1,0 +1,57 @@
+/* What the four calls take, all in one: a job, and the further numbers of the single calls. */
+#ifndef SOAK_JOB_H
+#define SOAK_JOB_H
+
+#include "pilgartze.h"
+#include "random.h"
+
+/* The lists that are only read. */
+enum list { DIFFUSE, DIRECT, REFLECTIVITY, SECTORS, WINDOW, LISTS };
+
+enum call { RUN, STEP, IRRADIANCE, FACTOR, CALLS };
+
+/* No list is longer. A whole year of quarter hours fits, and sectors and window objects in far too great a number. */
+#define MOST_SERIES ((size_t)8 * 35200)
+#define MOST_SECTORS ((size_t)30 * 1000)
+#define MOST_WINDOW ((size_t)4 * 1000)
+#define MOST_RESULTS (sizeof(pilgartze_row) * PILGARTZE_MOST_STEPS + 1000)
+
+typedef struct job {
+    pilgartze_site site;
+    pilgartze_run_times run;
+    pilgartze_surface surface;
+    double time;               /* of the single step */
+    pilgartze_reading reading; /* its values of the series */
+    double altitude;           /* of the factor's sun */
+    double azimuth;
+    uint8_t *lists[LISTS];
+    size_t lengths[LISTS];
+    size_t results[CALLS]; /* the lengths of the results lists */
+} job;
+
+size_t most_of(enum list list);
+/* Takes the room for the lists. */
+job job_with_room(void);
+
+/* The run's steps, by include/pilgartze.h: how many, when, and which value of the series; for runs in range only. */
+size_t step_count(const pilgartze_run_times *run);
+double step_time(const pilgartze_run_times *run, size_t step);
+size_t series_index(const pilgartze_site *site, double time);
+pilgartze_reading reading_at(const job *of, size_t index);
+
+/* A job with all in range and, for the most part, accepted; now and then of a whole year where those are wanted. */
+void sound_job(source *from, job *made, int years);
+/* A sound job with some of it spoilt, or anything at all. */
+void any_job(source *from, job *made, int years);
+/* Another site and surface for the same lists. */
+void other_numbers(source *from, job *made);
+
+/* Spoils one part. */
+void spoil(source *from, job *made);
+/* Numbers and lists of any bits whatever, from that part on: 0 the site, 1 the run, 2 the surface, 3 the rest. */
+void scramble(source *from, job *made, size_t part);
+
+/* Prints all of it, in bits. */
+void tell_job(const job *of);
+
+#endif

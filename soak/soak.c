@@ -1,0 +1,137 @@
+/* Calls the library with anything that a C program can pass, for so many jobs or so many seconds, and ends at the first
+ * thing that does not hold. soak/run compiles and starts it. */
+#define _POSIX_C_SOURCE 200809L
+#include "checks.h"
+
+#include <stdio.h>
+#include <stdlib.h>
+#include <time.h>
+
+typedef struct options {
+    uint64_t seed;
+    uint64_t from; /* the first turn */
+    uint64_t jobs;
+    uint64_t seconds;  /* 0: by jobs */
+    uint64_t patience; /* seconds that a call may take */
+    uint64_t stack;    /* jobs by which the stack is measured */
+    uint64_t heap;     /* 1: lists on the heap, no whole years, no wide lists and no measuring of the stack */
+} options;
+
+static int read_options(options *into, int count, char **words)
+{
+    const char *const names[] = {"--seed", "--from", "--jobs", "--seconds", "--patience", "--stack", "--heap"};
+    uint64_t *const places[] = {&into->seed,     &into->from,  &into->jobs, &into->seconds,
+                                &into->patience, &into->stack, &into->heap};
+    const size_t known = sizeof names / sizeof names[0];
+    size_t i;
+    int word;
+    for (word = 1; word + 1 < count; word += 2) {
+        char *end = NULL;
+        for (i = 0; i < known && strcmp(words[word], names[i]) != 0; i++) {
+        }
+        if (i == known || words[word + 1][0] < '0' || words[word + 1][0] > '9') {
+            return 0;
+        }
+        *places[i] = strtoull(words[word + 1], &end, 10);
+        if (*end != '\0') {
+            return 0;
+        }
+    }
+    return word == count;
+}
+
+static void one_turn(soak *in, job *made)
+{
+    source from = source_of(in->seed, in->turn);
+    watched_turn(in->seed, in->turn);
+    any_job(&from, made, !in->on_the_heap);
+    try_calls(in, &from, made);
+    if (one_in(&from, 2)) {
+        try_step_of_run(in, &from, made);
+    }
+    if (one_in(&from, 16)) {
+        try_threads(in, &from, made);
+    }
+    if (one_in(&from, 16)) {
+        try_one_series(in, &from, made);
+    }
+}
+
+static void all_turns(soak *in, const options *by)
+{
+    job made = job_with_room();
+    const time_t begin = time(NULL);
+    const uint64_t end = by->seconds > 0 ? UINT64_MAX : by->from + by->jobs;
+    for (in->turn = by->from; in->turn < end; in->turn++) {
+        one_turn(in, &made);
+        if (by->seconds > 0 && (uint64_t)(time(NULL) - begin) >= by->seconds) {
+            in->turn += 1;
+            break;
+        }
+    }
+}
+
+/* A number that a call can give and never gave is a failure: what it guards was then not tried. */
+static int tell_seen(const soak *in)
+{
+    int unseen = 0;
+    int call, number;
+    printf("%-10s", "number");
+    for (number = 0; number < PILGARTZE_REFUSED_LINE; number++) {
+        printf("%10d", number);
+    }
+    for (call = 0; call < CALLS; call++) {
+        printf("\n%-10s", name_of((enum call)call));
+        for (number = 0; number < PILGARTZE_REFUSED_LINE; number++) {
+            const int possible = can_give((enum call)call, (uint64_t)number);
+            unseen += possible && in->seen[call][number] == 0 ? 1 : 0;
+            if (possible) {
+                printf("%10llu", (unsigned long long)in->seen[call][number]);
+            } else {
+                printf("%10s", "-");
+            }
+        }
+    }
+    printf("\n");
+    return unseen;
+}
+
+static int told(const soak *in, const options *by)
+{
+    const int unseen = tell_seen(in);
+    printf("%llu jobs of seed %llu; %llu runs refused past step 0, %llu steps of a run called by themselves, %llu rows "
+           "with NaN, %llu with shade, %llu runs with one list for all series, %llu calls by two threads at once\n",
+           (unsigned long long)(in->turn - by->from), (unsigned long long)in->seed, (unsigned long long)in->late,
+           (unsigned long long)in->steps, (unsigned long long)in->nan_rows, (unsigned long long)in->shaded,
+           (unsigned long long)in->shared, (unsigned long long)in->threads);
+    if (by->jobs == 1) {
+        return 0;
+    }
+    if (unseen > 0 || in->late == 0 || in->steps == 0 || in->shaded == 0 || in->threads == 0 || in->shared == 0 ||
+        (in->nan_rows == 0 && !in->on_the_heap)) {
+        printf("soak: something was never seen, numbers: %d\n", unseen);
+        return 1;
+    }
+    return 0;
+}
+
+int main(int count, char **words)
+{
+    static soak in;
+    options by = {1, 0, 100000, 0, 20, 1000, 0};
+    if (!read_options(&by, count, words)) {
+        printf("soak: each option is a word of soak/soak.c and a number\n");
+        return 2;
+    }
+    in.seed = by.seed;
+    in.on_the_heap = by.heap != 0;
+    in.first = new_desk(in.on_the_heap);
+    in.second = new_desk(in.on_the_heap);
+    watch((long)by.patience);
+    if (!in.on_the_heap) {
+        try_stack(&in, by.stack);
+        try_wide_lists(&in);
+    }
+    all_turns(&in, &by);
+    return told(&in, &by);
+}

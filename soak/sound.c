@@ -1,0 +1,252 @@
+/* Jobs in range. */
+#include "job.h"
+
+#include <stdio.h>
+#include <stdlib.h>
+
+static uint8_t *room_for(size_t length)
+{
+    uint8_t *room = calloc(length, 1);
+    if (room == NULL) {
+        perror("soak: no memory for the lists");
+        exit(2);
+    }
+    return room;
+}
+
+size_t most_of(enum list list)
+{
+    static const size_t most[LISTS] = {MOST_SERIES, MOST_SERIES, MOST_SERIES, MOST_SECTORS, MOST_WINDOW};
+    return most[list];
+}
+
+job job_with_room(void)
+{
+    job made;
+    int list;
+    memset(&made, 0, sizeof made);
+    for (list = 0; list < LISTS; list++) {
+        made.lists[list] = room_for(most_of((enum list)list));
+    }
+    return made;
+}
+
+/* ---- Steps ---------------------------------------------------------------------------------------------------- */
+
+size_t step_count(const pilgartze_run_times *run)
+{
+    double time = run->start;
+    size_t count = 1;
+    if (run->start == run->end) {
+        return 0;
+    }
+    while (time < run->end - run->step) {
+        time += run->step;
+        count += 1;
+    }
+    return count;
+}
+
+double step_time(const pilgartze_run_times *run, size_t step)
+{
+    double time = run->start;
+    while (step > 0) {
+        time += run->step;
+        step -= 1;
+    }
+    return time;
+}
+
+size_t series_index(const pilgartze_site *site, double time)
+{
+    const double place = (time - 24.0 * (double)site->start_day) / site->series_step;
+    return place < 0.0 ? 0 : (size_t)place;
+}
+
+static double value_at(const uint8_t *series, size_t index)
+{
+    double value;
+    memcpy(&value, series + 8 * index, sizeof value);
+    return value;
+}
+
+pilgartze_reading reading_at(const job *of, size_t index)
+{
+    pilgartze_reading reading;
+    reading.diffuse = value_at(of->lists[DIFFUSE], index);
+    reading.direct = value_at(of->lists[DIRECT], index);
+    reading.reflectivity = value_at(of->lists[REFLECTIVITY], index);
+    return reading;
+}
+
+/* ---- Site, run and surface ------------------------------------------------------------------------------------ */
+
+static double some_step(source *from)
+{
+    static const double steps[] = {1.0, 1.0, 1.0, 0.25, 0.5, 0.3, 7.1, 24.0};
+    return one_in(from, 6) ? uniform(from, 0.25, 24.0) : steps[random_below(from, sizeof steps / sizeof steps[0])];
+}
+
+static void sound_site(source *from, pilgartze_site *site)
+{
+    site->timezone = (int64_t)random_below(from, 28) - 13;
+    site->longitude = 15.0 * (double)site->timezone + uniform(from, -12.0, 12.0);
+    if (site->longitude < -180.0 || site->longitude > 180.0) {
+        site->longitude = uniform(from, -180.0, 180.0);
+    }
+    site->latitude = one_in(from, 16) ? (one_in(from, 2) ? 90.0 : -90.0) : uniform(from, -70.0, 70.0);
+    site->leap_year = random_below(from, 2);
+    site->direct_beam_conversion = random_below(from, 2);
+    site->start_day = 0;
+    site->series_step = some_step(from);
+}
+
+/* Some hours from about the morning of a day on, which is also when the series begin, or a whole year. */
+static void sound_run(source *from, job *made, int years)
+{
+    const double hours = made->site.leap_year == 1 ? 8784.0 : 8760.0;
+    const size_t count = one_in(from, 8) ? random_below(from, 3) : random_below(from, 40);
+    const size_t day = random_below(from, 324);
+    pilgartze_run_times *run = &made->run;
+    run->step = some_step(from);
+    if (years && one_in(from, 500)) {
+        run->start = 0.0;
+        run->end = hours;
+        return;
+    }
+    run->start = 24.0 * (double)day + (double)random_below(from, 14);
+    run->end = run->start + run->step * (double)count;
+    if (run->end > hours || run->end == 0.0) {
+        run->end = hours;
+        run->start = hours - 6.0 * run->step;
+    }
+    if (one_in(from, 16)) {
+        run->start = uniform(from, run->end, hours - 1.0); /* above the end: one step */
+    }
+    if (!one_in(from, 64)) {
+        made->site.start_day = (uint64_t)(run->start / 24.0);
+    }
+}
+
+static void sound_surface(source *from, pilgartze_surface *surface)
+{
+    surface->tilt = one_in(from, 2) ? 90.0 : uniform(from, 0.0, 180.0);
+    surface->orientation = one_in(from, 8) ? 0.0 : uniform(from, 0.0, 360.0);
+    surface->base_height = uniform(from, 0.0, 20.0);
+    surface->height = uniform(from, 0.001, 5.0);
+    surface->width = uniform(from, 0.001, 5.0);
+}
+
+void other_numbers(source *from, job *made)
+{
+    made->site.latitude = uniform(from, -90.0, 90.0);
+    made->site.longitude = uniform(from, -180.0, 180.0);
+    sound_surface(from, &made->surface);
+    made->time = uniform(from, 0.0, 8759.0);
+    made->altitude = uniform(from, 0.0, 90.0);
+    made->azimuth = uniform(from, -180.0, 180.0);
+}
+
+/* ---- Lists ---------------------------------------------------------------------------------------------------- */
+
+static double sound_reading(source *from, enum list list)
+{
+    if (list == REFLECTIVITY) {
+        return uniform(from, 0.0, 1.0);
+    }
+    return one_in(from, 6) ? 0.0 : uniform(from, 0.0, one_in(from, 16) ? 10000.0 : 900.0);
+}
+
+/* Values in range as far as the steps need them, and a few bytes more now and then. */
+static void sound_series(source *from, job *made, size_t values)
+{
+    int list;
+    size_t i;
+    for (list = DIFFUSE; list <= REFLECTIVITY; list++) {
+        for (i = 0; i < values; i++) {
+            const double value = sound_reading(from, (enum list)list);
+            memcpy(made->lists[list] + 8 * i, &value, sizeof value);
+        }
+        made->lengths[list] = 8 * values + (one_in(from, 4) ? random_below(from, 40) : 0);
+        for (i = 8 * values; i < made->lengths[list]; i++) {
+            made->lists[list][i] = (uint8_t)random_word(from);
+        }
+    }
+}
+
+static pilgartze_object distant_object(source *from)
+{
+    const double height = uniform(from, 0.1, 40.0);
+    const double distance = uniform(from, 0.1, 60.0);
+    return one_in(from, 2) ? pilgartze_distant_obstacle(height, distance)
+                           : pilgartze_distant_overhang(height, distance);
+}
+
+/* All the way round, in equal parts or not. */
+static void sound_sectors(source *from, job *made)
+{
+    const size_t count = one_in(from, 4) ? 1 + random_below(from, PILGARTZE_MOST_SECTORS) : 1 + random_below(from, 4);
+    double start = 0.0;
+    size_t i;
+    for (i = 0; i < count; i++) {
+        const double even = 360.0 * (double)(i + 1) / (double)count;
+        const double end = i + 1 == count ? 360.0 : uniform(from, start, even);
+        pilgartze_sector sector = pilgartze_free_sector(start, end);
+        size_t objects = one_in(from, 2) ? 0 : random_below(from, PILGARTZE_MOST_OBJECTS + 1);
+        while (objects > 0) {
+            pilgartze_add_object(&sector, distant_object(from));
+            objects -= 1;
+        }
+        memcpy(made->lists[SECTORS] + i * sizeof sector, &sector, sizeof sector);
+        start = end;
+    }
+    made->lengths[SECTORS] = count * sizeof(pilgartze_sector);
+}
+
+static void sound_window(source *from, job *made)
+{
+    const size_t count = one_in(from, 4) ? random_below(from, PILGARTZE_MOST_WINDOW_OBJECTS + 1)
+                                         : random_below(from, 4);
+    size_t i;
+    for (i = 0; i < count; i++) {
+        const size_t kind = random_below(from, 4);
+        const double distance = one_in(from, 4) ? 0.0 : uniform(from, 0.0, 5.0);
+        const double size = uniform(from, 0.01, 10.0);
+        const pilgartze_window_object object =
+            kind == 0 ? pilgartze_obstacle(size, distance, uniform(from, 0.0, 1.0))
+                      : pilgartze_window_part((enum pilgartze_window_kind)kind, size, distance);
+        memcpy(made->lists[WINDOW] + i * sizeof object, &object, sizeof object);
+    }
+    made->lengths[WINDOW] = count * sizeof(pilgartze_window_object);
+}
+
+/* ---- The whole ------------------------------------------------------------------------------------------------ */
+
+/* One of the run's steps, for the single calls. */
+static void sound_single(source *from, job *made, size_t steps)
+{
+    made->time = steps == 0 ? uniform(from, 0.0, 8759.0) : step_time(&made->run, random_below(from, steps));
+    made->reading.diffuse = sound_reading(from, DIFFUSE);
+    made->reading.direct = sound_reading(from, DIRECT);
+    made->reading.reflectivity = sound_reading(from, REFLECTIVITY);
+    made->altitude = one_in(from, 8) ? 0.0 : uniform(from, 0.0, 90.0);
+    made->azimuth = one_in(from, 8) ? uniform(from, -360.0, 360.0) : uniform(from, -180.0, 180.0);
+}
+
+void sound_job(source *from, job *made, int years)
+{
+    size_t steps, values;
+    sound_site(from, &made->site);
+    sound_run(from, made, years);
+    sound_surface(from, &made->surface);
+    steps = step_count(&made->run);
+    values = steps == 0 ? 0 : series_index(&made->site, step_time(&made->run, steps - 1)) + 1;
+    sound_series(from, made, values);
+    sound_sectors(from, made);
+    sound_window(from, made);
+    sound_single(from, made, steps);
+    made->results[RUN] = steps * sizeof(pilgartze_row) + (one_in(from, 2) ? random_below(from, 100) : 0);
+    made->results[STEP] = sizeof(pilgartze_row) + (one_in(from, 2) ? random_below(from, 100) : 0);
+    made->results[IRRADIANCE] = sizeof(pilgartze_breakdown) + (one_in(from, 2) ? random_below(from, 100) : 0);
+    made->results[FACTOR] = 0;
+}

@@ -1,0 +1,58 @@
+/* Lists that are longer than 32 bits can tell. They are there, all zeros, and take hardly any memory. */
+#include "checks.h"
+
+#define WIDE ((((size_t)1) << 32) + 216)
+
+static job wide_job(void)
+{
+    job made;
+    memset(&made, 0, sizeof made);
+    made.site.series_step = 1.0;
+    made.run.end = 24.0;
+    made.run.step = 1.0;
+    made.surface.tilt = 180.0;
+    made.surface.height = 1.0;
+    made.surface.width = 1.0;
+    return made;
+}
+
+static void expect(const soak *in, const job *of, const lent *at, enum call call, uint64_t number)
+{
+    pilgartze_answer answer;
+    watched_call(name_of(call));
+    answer = answer_to(call, of, at);
+    if (answer.number != number) {
+        failed(in, "a list of more than 2^32 bytes, and not the number that it should be", call, of, &answer);
+    }
+}
+
+/* The surface faces the ground, so that no step needs a sector. Series and results may be as long as they like; sectors
+ * and window objects are too many then. */
+void try_wide_lists(soak *in)
+{
+    const pages zeros = wide_pages(WIDE, 1);
+    const pages room = wide_pages(WIDE, 0);
+    job of = wide_job();
+    lent at;
+    int list;
+    for (list = 0; list < LISTS; list++) {
+        at.lists[list] = zeros.readable;
+        of.lists[list] = zeros.readable;
+        of.lengths[list] = list <= REFLECTIVITY ? WIDE - 216 + (size_t)list : 0;
+    }
+    at.results = room.writable;
+    for (list = 0; list < FACTOR; list++) {
+        of.results[list] = WIDE - 216;
+    }
+    expect(in, &of, &at, RUN, 0);
+    expect(in, &of, &at, STEP, 0);
+    expect(in, &of, &at, IRRADIANCE, 0);
+    expect(in, &of, &at, FACTOR, 0);
+    for (list = SECTORS; list <= WINDOW; list++) {
+        of.lengths[list] = WIDE - 216;
+        expect(in, &of, &at, RUN, PILGARTZE_REFUSED_OBJECT);
+        expect(in, &of, &at, STEP, PILGARTZE_REFUSED_OBJECT);
+        expect(in, &of, &at, FACTOR, PILGARTZE_REFUSED_OBJECT);
+        of.lengths[list] = 0;
+    }
+}

@@ -1,0 +1,258 @@
+/* Engines that are wrong in one way each, which the soak has to find: the sound library under other names, and around
+ * it what the flaw does that the environment variable SOAK_FLAW names. soak/flaws says by what each must be found. */
+#define _POSIX_C_SOURCE 200809L
+#include "pilgartze.h"
+
+#include <fenv.h>
+#include <stdlib.h>
+#include <time.h>
+
+#define SITE_NUMBERS                                                                                              \
+    double latitude, double longitude, int64_t timezone, uint64_t start_day, double series_step, uint64_t leap_year, \
+        uint64_t direct_beam_conversion
+#define SITE latitude, longitude, timezone, start_day, series_step, leap_year, direct_beam_conversion
+#define SURFACE_NUMBERS double tilt, double orientation, double base_height, double height, double width
+#define SURFACE tilt, orientation, base_height, height, width
+#define LIST(name) const uint8_t *name, size_t name##_length
+#define SERIES_LISTS LIST(diffuse), LIST(direct), LIST(reflectivity)
+#define SERIES diffuse, diffuse_length, direct, direct_length, reflectivity, reflectivity_length
+#define READINGS double diffuse, double direct, double reflectivity
+#define READING diffuse, direct, reflectivity
+#define OBJECT_LISTS LIST(sectors), LIST(window)
+#define OBJECTS sectors, sectors_length, window, window_length
+#define RESULTS_LIST uint8_t *results, size_t results_length
+#define RESULTS results, results_length
+
+pilgartze_answer sound_run(SITE_NUMBERS, double start, double end, double step, SURFACE_NUMBERS, SERIES_LISTS,
+                           OBJECT_LISTS, RESULTS_LIST);
+uint64_t sound_step(SITE_NUMBERS, double time, SURFACE_NUMBERS, READINGS, OBJECT_LISTS, RESULTS_LIST);
+uint64_t sound_irradiance(SITE_NUMBERS, double time, SURFACE_NUMBERS, READINGS, RESULTS_LIST);
+pilgartze_factor_answer sound_factor(double altitude, double azimuth, SURFACE_NUMBERS, OBJECT_LISTS);
+
+#define ROW sizeof(pilgartze_row)
+
+/* Whether that is the flaw of this run. */
+static int flaw(const char *name)
+{
+    static const char *chosen = NULL;
+    if (chosen == NULL) {
+        chosen = getenv("SOAK_FLAW") == NULL ? "none" : getenv("SOAK_FLAW");
+    }
+    return strcmp(chosen, name) == 0;
+}
+
+/* ---- What a flaw does before the run -------------------------------------------------------------------------- */
+
+static void change(const uint8_t *list, size_t length)
+{
+    if (length > 0) {
+        *(volatile uint8_t *)(uintptr_t)list ^= 1;
+    }
+}
+
+static uint8_t read_at(const uint8_t *place)
+{
+    return *(const volatile uint8_t *)place;
+}
+
+static void go_deep(void)
+{
+    volatile uint8_t deep[2 * PILGARTZE_STACK_BYTES];
+    size_t i;
+    for (i = 0; i < sizeof deep; i += 64) {
+        deep[i] = 1;
+    }
+}
+
+/* Lets another thread come between, also where there is one processor only. */
+static void wait_a_little(void)
+{
+    const struct timespec little = {0, 20000};
+    nanosleep(&little, NULL);
+}
+
+static void before_run(LIST(direct), LIST(reflectivity), LIST(sectors), LIST(window))
+{
+    if (flaw("changes_a_series")) {
+        change(direct, direct_length);
+    }
+    if (flaw("changes_the_window_and_mends_it")) {
+        change(window, window_length);
+        change(window, window_length);
+    }
+    if (flaw("reads_past_a_series")) {
+        read_at(reflectivity + reflectivity_length);
+    }
+    if (flaw("reads_before_the_sectors")) {
+        read_at(sectors - 1);
+    }
+    if (flaw("deep_stack")) {
+        go_deep();
+    }
+    if (flaw("rounds_upwards")) {
+        fesetround(FE_UPWARD);
+    }
+    (void)sectors_length;
+}
+
+/* ---- And after it --------------------------------------------------------------------------------------------- */
+
+static void stores_of_acceptance(const pilgartze_answer *answer, RESULTS_LIST)
+{
+    static unsigned calls = 0;
+    const size_t stored = ROW * (size_t)answer->count;
+    calls += 1;
+    if (flaw("stores_behind_the_last_row") && results_length > stored) {
+        results[stored] ^= 1;
+    }
+    if (flaw("changes_a_bit_the_second_time") && stored > 0 && calls % 2 == 0) {
+        results[0] ^= 1;
+    }
+}
+
+static void stores_of_refusal(const pilgartze_answer *answer, RESULTS_LIST)
+{
+    if (flaw("stores_though_refused") && answer->number < PILGARTZE_REFUSED_GAP && results_length > 0) {
+        results[results_length - 1] ^= 1;
+    }
+    if (flaw("stores_the_refused_row") && answer->number >= PILGARTZE_REFUSED_GAP) {
+        results[ROW * (size_t)answer->step] ^= 1;
+    }
+    while (flaw("does_not_return") && answer->number == PILGARTZE_REFUSED_SERIES) {
+    }
+}
+
+static void wrong_stores(const pilgartze_answer *answer, RESULTS_LIST)
+{
+    if (flaw("stores_a_byte_past_the_results")) {
+        results[results_length] ^= 1;
+    }
+    if (flaw("stores_a_byte_before_the_results")) {
+        results[-1] ^= 1;
+    }
+    if (answer->number == 0) {
+        stores_of_acceptance(answer, RESULTS);
+    } else {
+        stores_of_refusal(answer, RESULTS);
+    }
+}
+
+static double sum_from_the_last(const uint8_t *results, size_t rows)
+{
+    double sum = 0.0;
+    while (rows > 0) {
+        pilgartze_row row;
+        rows -= 1;
+        memcpy(&row, results + ROW * rows, sizeof row);
+        sum += row.factor * row.direct;
+    }
+    return sum;
+}
+
+static void wrong_rows(uint8_t *results, size_t rows)
+{
+    const uint64_t nan = UINT64_C(0xFFF8000000000000);
+    const uint64_t above = UINT64_C(0x3FF0000000000001);
+    size_t i;
+    for (i = 0; i < rows; i++) {
+        pilgartze_row row;
+        memcpy(&row, results + ROW * i, sizeof row);
+        if (flaw("stores_another_nan") && row.direct != row.direct) {
+            memcpy(&row.direct, &nan, sizeof nan);
+        }
+        if (flaw("factor_above_one") && row.factor == 1.0) {
+            memcpy(&row.factor, &above, sizeof above);
+        }
+        memcpy(results + ROW * i, &row, sizeof row);
+    }
+}
+
+static pilgartze_answer wrong_answer(pilgartze_answer answer, uint8_t *results)
+{
+    if (answer.number == 0) {
+        wrong_rows(results, (size_t)answer.count);
+        answer.sum = flaw("sum_from_the_last") ? sum_from_the_last(results, (size_t)answer.count) : answer.sum;
+        answer.count -= flaw("one_step_less") && answer.count > 0 ? 1 : 0;
+        return answer;
+    }
+    answer.count = flaw("counts_though_refused") ? answer.step : answer.count;
+    answer.sum = flaw("minus_zero_sum") ? -0.0 : answer.sum;
+    answer.step += flaw("step_of_an_early_refusal") && answer.number < PILGARTZE_REFUSED_GAP ? 1 : 0;
+    answer.number = flaw("gives_number_12") && answer.number == PILGARTZE_REFUSED_REVEAL ? 12 : answer.number;
+    return answer;
+}
+
+/* ---- The calls ------------------------------------------------------------------------------------------------ */
+
+#define SHORT(length) (flaw("lengths_of_32_bits") ? (uint32_t)(length) : (length))
+
+pilgartze_answer pilgartze_run(SITE_NUMBERS, double start, double end, double step, SURFACE_NUMBERS, SERIES_LISTS,
+                               OBJECT_LISTS, RESULTS_LIST)
+{
+    static uint8_t buffer[ROW * PILGARTZE_MOST_STEPS + 2000];
+    const int buffered = flaw("one_buffer_for_all_threads") && results_length <= sizeof buffer;
+    const uint8_t old = results_length > 0 ? results[0] : 0;
+    uint8_t *const into = buffered ? buffer : results;
+    pilgartze_answer answer;
+    before_run(direct, direct_length, reflectivity, reflectivity_length, OBJECTS);
+    if (buffered) {
+        memcpy(buffer, results, results_length);
+    }
+    answer = sound_run(SITE, start, end, step, SURFACE, diffuse, SHORT(diffuse_length), direct, SHORT(direct_length),
+                       reflectivity, SHORT(reflectivity_length), OBJECTS, into, SHORT(results_length));
+    if (buffered) {
+        wait_a_little();
+        memcpy(results, buffer, results_length);
+    }
+    if (flaw("reads_the_results") && answer.number == 0 && answer.count > 0 && old % 2 == 1) {
+        results[0] ^= 1;
+    }
+    if (flaw("takes_one_list_for_none") && diffuse == direct && diffuse_length <= sizeof buffer) {
+        answer = (pilgartze_answer){PILGARTZE_REFUSED_SITE, 0, 0, 0.0};
+    }
+    wrong_stores(&answer, RESULTS);
+    return wrong_answer(answer, results);
+}
+
+uint64_t pilgartze_step(SITE_NUMBERS, double time, SURFACE_NUMBERS, READINGS, OBJECT_LISTS, RESULTS_LIST)
+{
+    const uint64_t number =
+        sound_step(SITE, time, SURFACE, READING, sectors, SHORT(sectors_length), window, window_length, RESULTS);
+    if (flaw("step_has_its_own_row") && number == 0) {
+        results[8] ^= 1;
+    }
+    if (flaw("step_stores_though_refused") && number == PILGARTZE_REFUSED_NO_SECTOR) {
+        results[0] ^= 1;
+    }
+    if (flaw("step_has_its_own_refusal") && number == PILGARTZE_REFUSED_TURNED) {
+        return PILGARTZE_REFUSED_GAP;
+    }
+    return flaw("step_gives_number_5") && number == PILGARTZE_REFUSED_READING ? 5 : number;
+}
+
+uint64_t pilgartze_irradiance(SITE_NUMBERS, double time, SURFACE_NUMBERS, READINGS, RESULTS_LIST)
+{
+    const uint64_t number = sound_irradiance(SITE, time, SURFACE, READING, RESULTS);
+    if (flaw("irradiance_stores_ten_words") && number == 0 && results_length >= 80) {
+        memset(results + 72, 0, 8);
+    }
+    return flaw("irradiance_gives_number_4") && number == PILGARTZE_REFUSED_SURFACE ? 4 : number;
+}
+
+pilgartze_factor_answer pilgartze_factor(double altitude, double azimuth, SURFACE_NUMBERS, OBJECT_LISTS)
+{
+    static pilgartze_factor_answer answer;
+    pilgartze_factor_answer mine = sound_factor(altitude, azimuth, SURFACE, OBJECTS);
+    if (flaw("factor_kept_for_all_threads")) {
+        answer = mine;
+        wait_a_little();
+        return answer;
+    }
+    if (flaw("factor_though_refused") && mine.number != 0) {
+        mine.factor = 1.0;
+    }
+    if (flaw("factor_never_turned") && mine.number == PILGARTZE_REFUSED_TURNED) {
+        mine.number = PILGARTZE_REFUSED_GAP;
+    }
+    return mine;
+}
