@@ -51,7 +51,7 @@ need_probes() {
 }
 
 need_pilgartze() {
-    need_functions "$1" oracle/jobs/library.rs pilgartze
+    need_functions "$1" oracle/pilgartze.rs pilgartze
 }
 
 # compile SOURCE PROGRAM ARCHIVE: x86-64 without later extensions, as Rattle compiles, so that no

@@ -12,6 +12,8 @@ mod comparison;
 mod guarded;
 mod listing;
 mod numbers;
+#[allow(dead_code)] // the library itself is not linked here
+mod pilgartze;
 mod probes;
 mod random;
 mod self_test;

@@ -17,6 +17,8 @@ mod comparison;
 mod guarded;
 mod jobs;
 #[allow(dead_code)]
+mod pilgartze;
+#[allow(dead_code)]
 mod probes;
 #[allow(dead_code)]
 mod random;
@@ -32,8 +34,9 @@ mod support;
 mod published;
 
 use comparison::{whole_number, Outcome, Settings};
-use jobs::library::{FACTOR, LIBRARY};
+use jobs::lent::LIBRARY;
 use jobs::Plan;
+use pilgartze::FACTOR;
 use shading::laws::LAWS;
 use std::process::ExitCode;
 

@@ -3,6 +3,8 @@
 //!
 //! A lent list of bytes is a pointer and a length.
 
+use crate::pilgartze::{FactorAnswer, FactorCall};
+
 pub type OneDouble = unsafe extern "C" fn(f64) -> f64;
 pub type TwoDoubles = unsafe extern "C" fn(f64, f64) -> f64;
 pub type ThreeDoubles = unsafe extern "C" fn(f64, f64, f64) -> f64;
@@ -56,14 +58,6 @@ impl ProbeHour {
     }
 }
 
-/// The factor of one step, with the number 0; or the number of a refusal, with the factor 0.
-#[repr(C)]
-#[derive(Clone, Copy, Debug)]
-pub struct ProbeFactor {
-    pub number: u64,
-    pub factor: f64,
-}
-
 /// What depends on the day alone.
 #[repr(C)]
 #[derive(Clone, Copy)]
@@ -101,22 +95,6 @@ pub type YearCall = unsafe extern "C" fn(
     *mut u8,
     usize,
 ) -> u64;
-
-/// Altitude, azimuth, tilt, orientation, base height, height, width; then as lists of bytes the
-/// sectors and the objects at the window.
-pub type FactorCall = unsafe extern "C" fn(
-    f64,
-    f64,
-    f64,
-    f64,
-    f64,
-    f64,
-    f64,
-    *const u8,
-    usize,
-    *const u8,
-    usize,
-) -> ProbeFactor;
 
 extern "C" {
     fn probe_min_of_2(a: f64, b: f64) -> f64;
@@ -203,7 +181,7 @@ extern "C" {
         sectors_len: usize,
         window: *const u8,
         window_len: usize,
-    ) -> ProbeFactor;
+    ) -> FactorAnswer;
     fn probe_day_of(current_day: u32) -> ProbeDay;
     fn probe_hour_by(
         sin_latitude: f64,

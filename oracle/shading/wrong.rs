@@ -4,7 +4,8 @@
 
 use super::call::*;
 use super::laws::Law;
-use crate::probes::{ProbeFactor, Probes};
+use crate::pilgartze::FactorAnswer;
+use crate::probes::Probes;
 use crate::published::shading::*;
 use crate::published::wrong::Wrong;
 use crate::random::ulps_from;
@@ -448,8 +449,8 @@ impl Plain {
         }
     }
 
-    fn answer(&self, call: &Call) -> ProbeFactor {
-        let refused = |number: u64| ProbeFactor {
+    fn answer(&self, call: &Call) -> FactorAnswer {
+        let refused = |number: u64| FactorAnswer {
             number,
             factor: if self.is(FactorKeptWhereRefused) {
                 1.0
@@ -457,7 +458,7 @@ impl Plain {
                 0.0
             },
         };
-        let accepted = |factor: f64| ProbeFactor { number: 0, factor };
+        let accepted = |factor: f64| FactorAnswer { number: 0, factor };
         let numbers = &call.numbers;
         let scene = Scene::of(call);
         let numbers_fine = self.numbers_fine(numbers);
@@ -497,7 +498,7 @@ fn answer_of(
     numbers: Numbers,
     (sectors, sectors_len): (*const u8, usize),
     (window, window_len): (*const u8, usize),
-) -> ProbeFactor {
+) -> FactorAnswer {
     let list = |start, len| unsafe { std::slice::from_raw_parts(start, len) }.to_vec();
     let call = Call {
         numbers,
@@ -526,7 +527,7 @@ macro_rules! flawed {
                 sectors_len: usize,
                 window: *const u8,
                 window_len: usize,
-            ) -> ProbeFactor {
+            ) -> FactorAnswer {
                 let numbers = [altitude, azimuth, tilt, orientation, base_height, height, width];
                 answer_of($flaw, numbers, (sectors, sectors_len), (window, window_len))
             }
