@@ -39,8 +39,7 @@ mod published;
 
 use call::{sector, Call, Scene, WindowObject, LEFT_FIN, OBSTACLE, OVERHANG, RIGHT_FIN};
 use comparison::same;
-use pilgartze::FactorAnswer;
-use probes::LIBRARY;
+use pilgartze::{factor_by, FactorAnswer, Shading, Surface, FACTOR};
 use published::shading::Judge;
 
 const CALLS: usize = 1000;
@@ -84,21 +83,18 @@ fn scene(sectors: usize, objects: usize, near: usize, altitude: f64) -> Call {
 
 fn rattle(call: &Call) -> FactorAnswer {
     let &[altitude, azimuth, tilt, orientation, base_height, height, width] = &call.numbers;
-    unsafe {
-        (black_box(LIBRARY.factor))(
-            altitude,
-            azimuth,
-            tilt,
-            orientation,
-            base_height,
-            height,
-            width,
-            call.sectors.as_ptr(),
-            call.sectors.len(),
-            call.window.as_ptr(),
-            call.window.len(),
-        )
-    }
+    let surface = Surface {
+        tilt,
+        orientation,
+        base_height,
+        height,
+        width,
+    };
+    let shading = Shading {
+        sectors: &call.sectors,
+        window: &call.window,
+    };
+    unsafe { factor_by(black_box(FACTOR), altitude, azimuth, &surface, shading) }
 }
 
 fn measure_calls(sectors: usize, objects: usize, near: usize) -> Result<(), String> {

@@ -3,8 +3,6 @@
 //!
 //! A lent list of bytes is a pointer and a length.
 
-use crate::pilgartze::{FactorAnswer, FactorCall};
-
 pub type OneDouble = unsafe extern "C" fn(f64) -> f64;
 pub type TwoDoubles = unsafe extern "C" fn(f64, f64) -> f64;
 pub type ThreeDoubles = unsafe extern "C" fn(f64, f64, f64) -> f64;
@@ -169,19 +167,6 @@ extern "C" {
         direct: f64,
         reflectivity: f64,
     ) -> ProbeHour;
-    fn probe_factor(
-        altitude: f64,
-        azimuth: f64,
-        tilt: f64,
-        orientation: f64,
-        base_height: f64,
-        height: f64,
-        width: f64,
-        sectors: *const u8,
-        sectors_len: usize,
-        window: *const u8,
-        window_len: usize,
-    ) -> FactorAnswer;
     fn probe_day_of(current_day: u32) -> ProbeDay;
     fn probe_hour_by(
         sin_latitude: f64,
@@ -316,7 +301,6 @@ pub struct Probes {
     pub init_f2_horizontal_brightness_coefficient: ThreeDoubles,
     pub hour: HourCall,
     pub year: YearCall,
-    pub factor: FactorCall,
 }
 
 /// The library that this program is linked with.
@@ -362,5 +346,4 @@ pub const LIBRARY: Probes = Probes {
     init_f2_horizontal_brightness_coefficient: probe_init_f2_horizontal_brightness_coefficient,
     hour: probe_hour,
     year: year_by_pieces,
-    factor: probe_factor,
 };

@@ -9,7 +9,7 @@ use crate::probes::{Digits, Probes, SinCos};
 use crate::published::wrong::{wrong_sides, Wrong};
 use crate::published::{interface, irradiance, sun, wrong};
 use crate::random::{power_of_two, ulps_from};
-use crate::{numbers, shading, stand_ins, words};
+use crate::{numbers, stand_ins, words};
 
 // --- The right functions, behind the C interface ---
 
@@ -108,7 +108,6 @@ const RIGHT: Probes = Probes {
     init_f2_horizontal_brightness_coefficient: interface::init_f2_horizontal_brightness_coefficient,
     hour: interface::hour,
     year: interface::year,
-    factor: interface::factor,
 };
 
 // --- The wrong ones: each differs in a single way, most of them in few cases ---
@@ -304,22 +303,11 @@ fn sections() -> Vec<(Section, Vec<Wrong>)> {
         numbers::section(settings, probes)?;
         words::section(settings, probes)
     };
-    let mut sections: Vec<(Section, Vec<Wrong>)> = vec![
+    vec![
         (Box::new(lowest), numbers_and_words()),
         (Box::new(sun::section), wrong::sun(RIGHT)),
         (Box::new(irradiance::section), wrong::irradiance(RIGHT)),
-        (
-            Box::new(shading::compared_alone),
-            shading::wrong::factor(RIGHT),
-        ),
-    ];
-    for law in shading::laws::LAWS {
-        sections.push((
-            Box::new(move |settings, probes| shading::law_alone(settings, probes, law)),
-            shading::wrong::lawless(RIGHT, law),
-        ));
-    }
-    sections
+    ]
 }
 
 pub fn run(seed: u64) -> Outcome {
@@ -372,9 +360,6 @@ pub fn run(seed: u64) -> Outcome {
             found += 1;
         }
     }
-
-    shading::compared_alone(&settings, &shading::wrong::without_flaw(RIGHT))
-        .map_err(|words| format!("self-test, the plain factor: {words}"))?;
 
     // Shade listings: the same program, made to write one rightly, then wrongly.
     let this_program = std::env::current_exe().map_err(|error| error.to_string())?;

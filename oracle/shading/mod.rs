@@ -5,12 +5,12 @@ pub mod call;
 pub mod edges;
 pub mod laws;
 pub mod scenes;
+pub mod self_test;
 pub mod wrong;
 
 use crate::comparison::{same, shown, Outcome, Settings, Tally};
 use crate::guarded::{Guarded, Side};
 use crate::pilgartze::{factor_by, FactorAnswer, FactorCall, Shading, Surface};
-use crate::probes::Probes;
 use crate::published::shading::{Judge, Judged, Numbers, MOST_SECTORS, SECTOR_WORDS};
 use crate::random::Random;
 use call::{Call, Scene, COUNT, TRIPLES};
@@ -241,22 +241,17 @@ fn run(settings: &Settings, function: FactorCall, compared: bool, laws: &[Law]) 
     pairs.report(settings, laws)
 }
 
-pub fn section(settings: &Settings, rattle: &Probes) -> Outcome {
-    function(settings, rattle.factor)
-}
-
-/// The same of a function by itself.
-pub fn function(settings: &Settings, function: FactorCall) -> Outcome {
+pub fn section(settings: &Settings, function: FactorCall) -> Outcome {
     settings.heading("the direct shading factor of one step: published Rust against Rattle");
     run(settings, function, true, &LAWS)
 }
 
 /// The comparison without the laws, for the self-test.
-pub fn compared_alone(settings: &Settings, rattle: &Probes) -> Outcome {
-    run(settings, rattle.factor, true, &[])
+pub fn compared_alone(settings: &Settings, function: FactorCall) -> Outcome {
+    run(settings, function, true, &[])
 }
 
 /// One law without the comparison, for the self-test.
-pub fn law_alone(settings: &Settings, rattle: &Probes, law: Law) -> Outcome {
-    run(settings, rattle.factor, false, &[law])
+pub fn law_alone(settings: &Settings, function: FactorCall, law: Law) -> Outcome {
+    run(settings, function, false, &[law])
 }
