@@ -1,4 +1,4 @@
-//! A call from Rust: a day in June at a window to the south with an overhang, and a step that is refused.
+//! A call from Rust: a day in June at a window to the south with an overhang, and a factor that is refused.
 
 #[path = "../oracle/pilgartze.rs"]
 #[allow(dead_code)]
@@ -8,27 +8,29 @@ use pilgartze::*;
 
 const HOURS: usize = 24;
 
+const SITE: Site = Site {
+    latitude: 51.5,
+    longitude: 0.0,
+    timezone: 0,
+    start_day: 171,
+    series_step: 1.0,
+    leap_year: 0,
+    direct_beam_conversion: 0,
+};
+
+const WINDOW: Surface = Surface {
+    tilt: 90.0,
+    orientation: 180.0,
+    base_height: 1.0,
+    height: 1.5,
+    width: 1.2,
+};
+
 fn main() {
-    let site = Site {
-        latitude: 51.5,
-        longitude: 0.0,
-        timezone: 0,
-        start_day: 171,
-        series_step: 1.0,
-        leap_year: 0,
-        direct_beam_conversion: 0,
-    };
     let times = RunTimes {
         start: 171.0 * 24.0,
         end: 172.0 * 24.0,
         step: 1.0,
-    };
-    let window = Surface {
-        tilt: 90.0,
-        orientation: 180.0,
-        base_height: 1.0,
-        height: 1.5,
-        width: 1.2,
     };
     let weather = Weather {
         diffuse: &bytes_of(&[120.0; HOURS]),
@@ -40,14 +42,14 @@ fn main() {
         window: &window_object(1, 0.5, 0.1, 0.0),
     };
     let mut results = vec![0; 8 * ROW * HOURS];
-    match run(&site, &times, &window, weather, shading, &mut results) {
+    match run(&SITE, &times, &WINDOW, weather, shading, &mut results) {
         Ok(Accepted { count, sum }) => println!("{count} steps, {sum:.1} Wh/m2 of direct sun"),
         Err(Refused { refusal, step }) => println!("{refusal} at step {step}"),
     }
     let rows = doubles_of(&results);
     println!("at noon the factor is {:.3}", rows[ROW * 12 + 5]);
 
-    let below_the_horizon = factor(-1.0, 0.0, &window, shading);
+    let below_the_horizon = factor(-1.0, 0.0, &WINDOW, shading);
     println!(
         "a sun below the horizon: {}",
         below_the_horizon.unwrap_err()
