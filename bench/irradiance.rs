@@ -14,6 +14,9 @@ mod arguments;
 #[allow(dead_code)]
 mod comparison;
 mod measure;
+#[path = "../oracle/pilgartze.rs"]
+#[allow(dead_code)]
+mod pilgartze;
 #[path = "../oracle/probes.rs"]
 #[allow(dead_code)]
 mod probes;

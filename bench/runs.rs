@@ -14,6 +14,9 @@ mod comparison;
 mod library;
 #[allow(dead_code)]
 mod measure;
+#[path = "../oracle/pilgartze.rs"]
+#[allow(dead_code)]
+mod pilgartze;
 #[path = "../oracle/random.rs"]
 #[allow(dead_code)]
 mod random;

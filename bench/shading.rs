@@ -17,6 +17,9 @@ mod call;
 #[allow(dead_code)]
 mod comparison;
 mod measure;
+#[path = "../oracle/pilgartze.rs"]
+#[allow(dead_code)]
+mod pilgartze;
 #[path = "../oracle/probes.rs"]
 #[allow(dead_code)]
 mod probes;
@@ -36,7 +39,7 @@ mod published;
 
 use call::{sector, Call, Scene, WindowObject, LEFT_FIN, OBSTACLE, OVERHANG, RIGHT_FIN};
 use comparison::same;
-use probes::{ProbeFactor, LIBRARY};
+use pilgartze::{factor_by, FactorAnswer, Shading, Surface, FACTOR};
 use published::shading::Judge;
 
 const CALLS: usize = 1000;
@@ -78,23 +81,20 @@ fn scene(sectors: usize, objects: usize, near: usize, altitude: f64) -> Call {
     .call()
 }
 
-fn rattle(call: &Call) -> ProbeFactor {
+fn rattle(call: &Call) -> FactorAnswer {
     let &[altitude, azimuth, tilt, orientation, base_height, height, width] = &call.numbers;
-    unsafe {
-        (black_box(LIBRARY.factor))(
-            altitude,
-            azimuth,
-            tilt,
-            orientation,
-            base_height,
-            height,
-            width,
-            call.sectors.as_ptr(),
-            call.sectors.len(),
-            call.window.as_ptr(),
-            call.window.len(),
-        )
-    }
+    let surface = Surface {
+        tilt,
+        orientation,
+        base_height,
+        height,
+        width,
+    };
+    let shading = Shading {
+        sectors: &call.sectors,
+        window: &call.window,
+    };
+    unsafe { factor_by(black_box(FACTOR), altitude, azimuth, &surface, shading) }
 }
 
 fn measure_calls(sectors: usize, objects: usize, near: usize) -> Result<(), String> {

@@ -8,6 +8,9 @@
 use std::hint::black_box;
 
 mod measure;
+#[path = "../oracle/pilgartze.rs"]
+#[allow(dead_code)]
+mod pilgartze;
 #[path = "../oracle/probes.rs"]
 #[allow(dead_code)] // words and digits are not measured here
 mod probes;

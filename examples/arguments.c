@@ -1,4 +1,4 @@
-/* A test of include/pilgartze.h without the library: the four functions stand here as recorders, and each field of each
+/* A test of include/pilgartze.h without the library: the four calls stand here as recorders, and each field of each
  * struct must come to them in its place. Good C99 and good C++11. */
 #include "pilgartze.h"
 

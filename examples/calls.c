@@ -1,5 +1,6 @@
-/* A test of the library through include/pilgartze.h: that the four calls agree with each other, bit for bit; some
- * factors that are known; and each refusal, with what is then stored. Good C99 and good C++11. */
+/* A test of the library through include/pilgartze.h: that it is of the header's version; that the four calls agree with
+ * each other, bit for bit; some factors that are known; and each refusal, with what is then stored. Good C99 and good
+ * C++11. */
 #include "pilgartze.h"
 
 #include <stdio.h>
@@ -74,6 +75,13 @@ static pilgartze_answer run_job(const job *of)
     const pilgartze_shading shading = shading_of(of);
     memset(rows, UNTOUCHED, sizeof rows);
     return pilgartze_run_job(&of->site, &of->run, &of->surface, &weather, &shading, rows, of->row_count);
+}
+
+/* ---- The version ---------------------------------------------------------------------------------------------- */
+
+static void check_version(void)
+{
+    check(pilgartze_version() == PILGARTZE_VERSION, "the library's version and the header's", (int)pilgartze_version());
 }
 
 /* ---- The calls agree ------------------------------------------------------------------------------------------ */
@@ -225,6 +233,7 @@ static void check_single_refusals(void)
 
 int main(void)
 {
+    check_version();
     check_agreement();
     check_factors();
     check_early_refusals();

@@ -3,9 +3,10 @@
  * A site, its weather and a surface go in. For each step of a run the sun's position, the irradiance on the surface and
  * a direct shading factor come out, and the sum of factor times direct irradiance over all steps.
  *
- * Four functions are in the library: pilgartze_run, pilgartze_step, pilgartze_irradiance and pilgartze_factor. They
- * take plain numbers and lists of bytes. Below them stand inline functions that take structs and arrays in their place:
+ * Four calls are in the library: pilgartze_run, pilgartze_step, pilgartze_irradiance and pilgartze_factor. They take
+ * plain numbers and lists of bytes. Below them stand inline functions that take structs and arrays in their place:
  * pilgartze_run_job, pilgartze_step_at, pilgartze_irradiance_at and pilgartze_factor_at. Most programs need only these.
+ * A fifth function, pilgartze_version, says which version of the library is linked.
  *
  * What the library promises. It is proved, for every input, that
  * - a call ends, and never stops the program;
@@ -56,6 +57,19 @@
 #ifdef __cplusplus
 extern "C" {
 #endif
+
+/* ---- Version -------------------------------------------------------------------------------------------------- */
+
+/* The version of this header. The first part changes where a call or a record does, the second where something is
+ * added, the third otherwise. */
+#define PILGARTZE_VERSION_MAJOR 1
+#define PILGARTZE_VERSION_MINOR 0
+#define PILGARTZE_VERSION_PATCH 0
+#define PILGARTZE_VERSION \
+    (PILGARTZE_VERSION_MAJOR * 1000000 + PILGARTZE_VERSION_MINOR * 1000 + PILGARTZE_VERSION_PATCH)
+
+/* The version of the library that is linked, counted in the same way: it should be PILGARTZE_VERSION. */
+uint64_t pilgartze_version(void);
 
 /* ---- Stack ---------------------------------------------------------------------------------------------------- */
 

@@ -1,4 +1,4 @@
-# What oracle/run and bench/run share. They source this file from the repository's root.
+# What .ci/run, oracle/run and bench/run share. They source this file from the repository's root.
 
 # fail MESSAGE [STATUS]
 fail() {
@@ -11,6 +11,30 @@ from_there() {
     (cd -- "$1" && realpath -m -- "$2")
 }
 
+# side_by_side COMMAND.. [-- COMMAND..]..: runs the commands at the same time. What each writes is
+# printed whole, in the order in which they stand; the status is that of the first one that failed.
+side_by_side() {
+    local folder word place command=() started=() status=0 one
+    folder=$(mktemp -d)
+    for word in "$@" --; do
+        if [ "$word" != -- ]; then
+            command+=("$word")
+            continue
+        fi
+        "${command[@]}" >"$folder/${#started[@]}" 2>&1 &
+        started+=($!)
+        command=()
+    done
+    for place in "${!started[@]}"; do
+        one=0
+        wait "${started[place]}" || one=$?
+        cat "$folder/$place"
+        [ "$status" -ne 0 ] || status=$one
+    done
+    rm -r "$folder"
+    return "$status"
+}
+
 # The published Rust and the standard library's whole root want a rustc that is not too old.
 need_rustc() {
     command -v rustc >/dev/null ||
@@ -20,6 +44,13 @@ need_rustc() {
     local minor
     minor=$(rustc --version | sed -n 's/^rustc 1\.\([0-9]*\)\..*/\1/p')
     [ "${minor:-0}" -ge 84 ] || fail "rustc 1.84 or later is needed; this is $(rustc --version)"
+}
+
+# prove NAME..: these crates and all below them, several at a time; a static library is proved one
+# crate after the other. No two of rt's runs may go side by side: they share the folder target.
+prove() {
+    command -v rt >/dev/null || fail "rt, Rattle's tool, is not installed"
+    rt check "$@" >&2 || fail "not all is proved" 1
 }
 
 # static_library NAME: proves the crate and writes target/staticlib/libNAME.a.
@@ -51,7 +82,7 @@ need_probes() {
 }
 
 need_pilgartze() {
-    need_functions "$1" oracle/jobs/library.rs pilgartze
+    need_functions "$1" oracle/pilgartze.rs pilgartze
 }
 
 # compile SOURCE PROGRAM ARCHIVE: x86-64 without later extensions, as Rattle compiles, so that no

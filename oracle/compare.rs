@@ -12,9 +12,12 @@ mod comparison;
 mod guarded;
 mod listing;
 mod numbers;
+#[allow(dead_code)] // the library itself is not linked here
+mod pilgartze;
 mod probes;
 mod random;
 mod self_test;
+#[allow(dead_code)] // the factor is compared by the other program
 mod shading;
 mod stand_ins;
 #[macro_use]
@@ -29,13 +32,12 @@ use std::path::PathBuf;
 use std::process::ExitCode;
 
 /// The sections, in the order in which they are run. A new one is added here.
-const SECTIONS: [fn(&Settings) -> Outcome; 6] = [
+const SECTIONS: [fn(&Settings) -> Outcome; 5] = [
     |settings| published::sanity::section(settings),
     |settings| numbers::section(settings, &probes::LIBRARY),
     |settings| words::section(settings, &probes::LIBRARY),
     |settings| published::sun::section(settings, &probes::LIBRARY),
     |settings| published::irradiance::section(settings, &probes::LIBRARY),
-    |settings| shading::section(settings, &probes::LIBRARY),
 ];
 
 struct Arguments {

@@ -1,9 +1,11 @@
-//! The judge of whole jobs: the library `pilgartze` against the published Rust, byte by byte.
+//! The judge of the library `pilgartze`: whole jobs, single steps and the factor against the published
+//! Rust, byte by byte.
 //!
 //!     compare_jobs [--seed N] [--count N] [--jobs N]   compares; stops at the first difference
 //!     compare_jobs --self-test [--seed N]              shows that the comparison can fail
 //!
-//! A count of 1,000,000 means 3,000 random jobs, beside those at the edges and some whole years.
+//! A count of 1,000,000 means 3,000 random jobs, beside those at the edges and some whole years, and
+//! 5,000,000 calls of the factor.
 //!
 //! Exit status: 0 no difference; 1 a difference, or a comparison of nothing; 2 bad usage; 3 an
 //! access outside a buffer. `oracle/run` builds this program and runs it both ways.
@@ -16,6 +18,8 @@ mod comparison;
 #[allow(dead_code)]
 mod guarded;
 mod jobs;
+#[allow(dead_code)]
+mod pilgartze;
 #[allow(dead_code)]
 mod probes;
 #[allow(dead_code)]
@@ -32,13 +36,11 @@ mod support;
 mod published;
 
 use comparison::{whole_number, Outcome, Settings};
-use jobs::library::{FACTOR, LIBRARY};
+use jobs::lent::LIBRARY;
 use jobs::Plan;
+use pilgartze::FACTOR;
 use shading::laws::LAWS;
 use std::process::ExitCode;
-
-/// The factor has its own comparison, in full on the library `probes`; here it is a short one.
-const FACTOR_PART: usize = 20;
 
 const YEARS: usize = 20;
 
@@ -85,6 +87,7 @@ fn arguments() -> Result<Arguments, String> {
 fn run(arguments: &Arguments) -> Outcome {
     let settings = &arguments.settings;
     if arguments.self_test {
+        shading::self_test::run(settings.seed)?;
         return jobs::self_test::run(settings.seed);
     }
     let jobs = arguments
@@ -100,11 +103,7 @@ fn run(arguments: &Arguments) -> Outcome {
         laws: &LAWS,
     };
     jobs::section(settings, &LIBRARY, plan)?;
-    let factor = Settings {
-        count: (settings.count / FACTOR_PART).max(1),
-        ..*settings
-    };
-    shading::function(&factor, FACTOR)?;
+    shading::section(settings, FACTOR)?;
     println!("no difference");
     Ok(())
 }

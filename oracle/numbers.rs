@@ -118,10 +118,7 @@ fn pairs(random: &mut Random, count: usize) -> impl Iterator<Item = [f64; 2]> + 
     each.into_iter().chain(drawn)
 }
 
-pub fn section(settings: &Settings, probes: &Probes) -> Outcome {
-    settings.heading("functions on doubles: published Rust and stand-ins against Rattle");
-    let edges = edges();
-
+fn of_two(settings: &Settings, probes: &Probes) -> Outcome {
     let two = |name: &str, rust: fn(f64, f64) -> f64, rattle: TwoDoubles| {
         let mut random = settings.random(name);
         let tally = compare(
@@ -135,69 +132,67 @@ pub fn section(settings: &Settings, probes: &Probes) -> Outcome {
     two("min_of_2", published::min_of_2, probes.min_of_2)?;
     two("max_of_2", published::max_of_2, probes.max_of_2)?;
     two("float_min", stand_ins::float_min, probes.float_min)?;
-    two("float_max", stand_ins::float_max, probes.float_max)?;
+    two("float_max", stand_ins::float_max, probes.float_max)
+}
 
-    let one = |name: &str, useful: &[Useful], rust: fn(f64) -> f64, rattle: OneDouble| {
+const TURNS: [Useful; 3] = [Between(-64.0, 64.0), Between(-7.0, 7.0), Between(-1.0, 1.0)];
+
+/// The functions of one double, each with the range in which it is of use.
+fn each_of_one(probes: &Probes) -> Vec<(&'static str, Vec<Useful>, fn(f64) -> f64, OneDouble)> {
+    let floors = vec![Halves, Between(-1e4, 1e4)];
+    let cubes = vec![Between(0.0, 1.6), Between(-10.0, 10.0)];
+    let degrees = vec![Between(0.0, 360.0), Between(-360.0, 360.0)];
+    let turns = TURNS.to_vec();
+    let ratios = vec![Between(-1.0, 1.0), Between(0.49, 0.51), Between(0.999, 1.0)];
+    let roots = vec![Between(0.0, 1.0), Between(0.0, 0.25), Squares, RootHalves];
+    let powers = vec![
+        Between(3.0, 14.0),
+        Between(5.59, 5.61),
+        Between(11.19, 11.21),
+    ];
+    let by_whole_numbers = stand_ins::sqrt_by_whole_numbers;
+    let pow = (stand_ins::pow_minus_1_253, probes.pow_minus_1_253);
+    vec![
+        ("floor", floors, stand_ins::floor, probes.floor),
+        ("cube", cubes, stand_ins::cube, probes.cube),
+        (
+            "to_radians",
+            degrees,
+            stand_ins::to_radians,
+            probes.to_radians,
+        ),
+        (
+            "to_degrees",
+            turns.clone(),
+            stand_ins::to_degrees,
+            probes.to_degrees,
+        ),
+        ("sqrt", roots.clone(), stand_ins::sqrt, probes.sqrt),
+        ("sqrt (whole numbers)", roots, by_whole_numbers, probes.sqrt),
+        ("sin", turns.clone(), stand_ins::sin, probes.sin),
+        ("cos", turns.clone(), stand_ins::cos, probes.cos),
+        ("tan", turns, stand_ins::tan, probes.tan),
+        ("asin", ratios.clone(), stand_ins::asin, probes.asin),
+        ("acos", ratios, stand_ins::acos, probes.acos),
+        ("pow_minus_1_253", powers, pow.0, pow.1),
+    ]
+}
+
+fn of_one(settings: &Settings, probes: &Probes, edges: &[f64]) -> Outcome {
+    for (name, useful, rust, rattle) in each_of_one(probes) {
         let mut random = settings.random(name);
-        let inputs = doubles(&mut random, &edges, useful, settings.count).map(|x| [x]);
+        let inputs = doubles(&mut random, edges, &useful, settings.count).map(|x| [x]);
         let tally = compare(name, inputs, |[x]| [rust(x)], |[x]| [unsafe { rattle(x) }])?;
-        settings.report(name, tally)
-    };
-    let turns = [Between(-64.0, 64.0), Between(-7.0, 7.0), Between(-1.0, 1.0)];
-    let degrees = [Between(0.0, 360.0), Between(-360.0, 360.0)];
-    let ratios = [Between(-1.0, 1.0), Between(0.49, 0.51), Between(0.999, 1.0)];
-    let roots = [Between(0.0, 1.0), Between(0.0, 0.25), Squares, RootHalves];
-    one(
-        "floor",
-        &[Halves, Between(-1e4, 1e4)],
-        stand_ins::floor,
-        probes.floor,
-    )?;
-    one(
-        "cube",
-        &[Between(0.0, 1.6), Between(-10.0, 10.0)],
-        stand_ins::cube,
-        probes.cube,
-    )?;
-    one(
-        "to_radians",
-        &degrees,
-        stand_ins::to_radians,
-        probes.to_radians,
-    )?;
-    one(
-        "to_degrees",
-        &turns,
-        stand_ins::to_degrees,
-        probes.to_degrees,
-    )?;
-    one("sqrt", &roots, stand_ins::sqrt, probes.sqrt)?;
-    one(
-        "sqrt (whole numbers)",
-        &roots,
-        stand_ins::sqrt_by_whole_numbers,
-        probes.sqrt,
-    )?;
-    one("sin", &turns, stand_ins::sin, probes.sin)?;
-    one("cos", &turns, stand_ins::cos, probes.cos)?;
-    one("tan", &turns, stand_ins::tan, probes.tan)?;
-    one("asin", &ratios, stand_ins::asin, probes.asin)?;
-    one("acos", &ratios, stand_ins::acos, probes.acos)?;
-    one(
-        "pow_minus_1_253",
-        &[
-            Between(3.0, 14.0),
-            Between(5.59, 5.61),
-            Between(11.19, 11.21),
-        ],
-        stand_ins::pow_minus_1_253,
-        probes.pow_minus_1_253,
-    )?;
+        settings.report(name, tally)?;
+    }
+    Ok(())
+}
 
+fn sine_and_cosine(settings: &Settings, probes: &Probes, edges: &[f64]) -> Outcome {
     let mut random = settings.random("sin_cos");
     let tally = compare(
         "sin_cos",
-        doubles(&mut random, &edges, &turns, settings.count).map(|x| [x]),
+        doubles(&mut random, edges, &TURNS, settings.count).map(|x| [x]),
         |[x]| {
             let (sin, cos) = stand_ins::sin_cos(x);
             [sin, cos]
@@ -208,4 +203,12 @@ pub fn section(settings: &Settings, probes: &Probes) -> Outcome {
         },
     )?;
     settings.report("sin_cos", tally)
+}
+
+pub fn section(settings: &Settings, probes: &Probes) -> Outcome {
+    settings.heading("functions on doubles: published Rust and stand-ins against Rattle");
+    let edges = edges();
+    of_two(settings, probes)?;
+    of_one(settings, probes, &edges)?;
+    sine_and_cosine(settings, probes, &edges)
 }

@@ -56,14 +56,6 @@ impl ProbeHour {
     }
 }
 
-/// The factor of one step, with the number 0; or the number of a refusal, with the factor 0.
-#[repr(C)]
-#[derive(Clone, Copy, Debug)]
-pub struct ProbeFactor {
-    pub number: u64,
-    pub factor: f64,
-}
-
 /// What depends on the day alone.
 #[repr(C)]
 #[derive(Clone, Copy)]
@@ -101,22 +93,6 @@ pub type YearCall = unsafe extern "C" fn(
     *mut u8,
     usize,
 ) -> u64;
-
-/// Altitude, azimuth, tilt, orientation, base height, height, width; then as lists of bytes the
-/// sectors and the objects at the window.
-pub type FactorCall = unsafe extern "C" fn(
-    f64,
-    f64,
-    f64,
-    f64,
-    f64,
-    f64,
-    f64,
-    *const u8,
-    usize,
-    *const u8,
-    usize,
-) -> ProbeFactor;
 
 extern "C" {
     fn probe_min_of_2(a: f64, b: f64) -> f64;
@@ -191,19 +167,6 @@ extern "C" {
         direct: f64,
         reflectivity: f64,
     ) -> ProbeHour;
-    fn probe_factor(
-        altitude: f64,
-        azimuth: f64,
-        tilt: f64,
-        orientation: f64,
-        base_height: f64,
-        height: f64,
-        width: f64,
-        sectors: *const u8,
-        sectors_len: usize,
-        window: *const u8,
-        window_len: usize,
-    ) -> ProbeFactor;
     fn probe_day_of(current_day: u32) -> ProbeDay;
     fn probe_hour_by(
         sin_latitude: f64,
@@ -338,7 +301,6 @@ pub struct Probes {
     pub init_f2_horizontal_brightness_coefficient: ThreeDoubles,
     pub hour: HourCall,
     pub year: YearCall,
-    pub factor: FactorCall,
 }
 
 /// The library that this program is linked with.
@@ -384,5 +346,4 @@ pub const LIBRARY: Probes = Probes {
     init_f2_horizontal_brightness_coefficient: probe_init_f2_horizontal_brightness_coefficient,
     hour: probe_hour,
     year: year_by_pieces,
-    factor: probe_factor,
 };

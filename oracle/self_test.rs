@@ -9,7 +9,8 @@ use crate::probes::{Digits, Probes, SinCos};
 use crate::published::wrong::{wrong_sides, Wrong};
 use crate::published::{interface, irradiance, sun, wrong};
 use crate::random::{power_of_two, ulps_from};
-use crate::{numbers, shading, stand_ins, words};
+use crate::{numbers, stand_ins, words};
+use std::path::Path;
 
 // --- The right functions, behind the C interface ---
 
@@ -108,7 +109,6 @@ const RIGHT: Probes = Probes {
     init_f2_horizontal_brightness_coefficient: interface::init_f2_horizontal_brightness_coefficient,
     hour: interface::hour,
     year: interface::year,
-    factor: interface::factor,
 };
 
 // --- The wrong ones: each differs in a single way, most of them in few cases ---
@@ -304,35 +304,22 @@ fn sections() -> Vec<(Section, Vec<Wrong>)> {
         numbers::section(settings, probes)?;
         words::section(settings, probes)
     };
-    let mut sections: Vec<(Section, Vec<Wrong>)> = vec![
+    vec![
         (Box::new(lowest), numbers_and_words()),
         (Box::new(sun::section), wrong::sun(RIGHT)),
         (Box::new(irradiance::section), wrong::irradiance(RIGHT)),
-        (
-            Box::new(shading::compared_alone),
-            shading::wrong::factor(RIGHT),
-        ),
-    ];
-    for law in shading::laws::LAWS {
-        sections.push((
-            Box::new(move |settings, probes| shading::law_alone(settings, probes, law)),
-            shading::wrong::lawless(RIGHT, law),
-        ));
-    }
-    sections
+    ]
 }
 
-pub fn run(seed: u64) -> Outcome {
-    let settings = Settings {
-        seed,
-        count: 60_000,
-        print: false,
-    };
-    let must = |holds: bool, words: &str| match holds {
+fn must(holds: bool, words: &str) -> Outcome {
+    match holds {
         true => Ok(()),
         false => Err(format!("self-test: {words}")),
-    };
+    }
+}
 
+/// What counts as the same, and that a comparison of nothing says nothing.
+fn rules(settings: &Settings) -> Outcome {
     let quiet = f64::from_bits(0x7FF8_0000_0000_0000);
     let other = f64::from_bits(0xFFF0_0000_0000_0001);
     must(same(quiet, other), "two NaN patterns must be the same")?;
@@ -355,50 +342,55 @@ pub fn run(seed: u64) -> Outcome {
     must(
         settings.report("NaN", only_nan).is_err(),
         "a comparison of NaN alone must be an error",
-    )?;
+    )
+}
 
+/// That something wrong was found, and where it should be: the words begin with these.
+fn must_be_found(what: &str, place: &str, outcome: Outcome) -> Outcome {
+    match outcome {
+        Ok(()) => Err(format!("self-test: {what} was not found")),
+        Err(words) => must(
+            words.starts_with(place),
+            &format!("{what} was found in the wrong place: {words}"),
+        ),
+    }
+}
+
+/// How many wrong functions were found.
+fn functions(settings: &Settings) -> Result<usize, String> {
     let mut found = 0;
     for (section, wrong) in sections() {
-        section(&settings, &RIGHT)
+        section(settings, &RIGHT)
             .map_err(|words| format!("self-test, right functions: {words}"))?;
         for (name, what, probes) in &wrong {
-            match section(&settings, probes) {
-                Ok(()) => return Err(format!("self-test: {what} was not found")),
-                Err(words) => must(
-                    words.starts_with(&format!("{name} ")),
-                    &format!("{what} was found in the wrong place: {words}"),
-                )?,
-            }
+            must_be_found(what, &format!("{name} "), section(settings, probes))?;
             found += 1;
         }
     }
+    Ok(found)
+}
 
-    shading::compared_alone(&settings, &shading::wrong::without_flaw(RIGHT))
-        .map_err(|words| format!("self-test, the plain factor: {words}"))?;
-
-    // Shade listings: the same program, made to write one rightly, then wrongly.
-    let this_program = std::env::current_exe().map_err(|error| error.to_string())?;
+/// Shade listings: this program, made to write one rightly, then wrongly. How many were found.
+fn listings(settings: &Settings, this_program: &Path) -> Result<usize, String> {
     let listing_in = |way: &str| {
         let arguments = &["--shade-listing", way];
-        let path = &this_program;
-        listing::run(&settings, &Program { path, arguments })
+        let path = this_program;
+        listing::run(settings, &Program { path, arguments })
     };
     listing_in(listing::wrong::RIGHT)
         .map_err(|words| format!("self-test, the right listing: {words}"))?;
+    let mut found = 0;
     for way in listing::wrong::wrong_ways() {
-        match listing_in(way) {
-            Ok(()) => return Err(format!("self-test: {way} was not found")),
-            Err(words) => must(
-                words.starts_with("listing differs"),
-                &format!("{way} was found in the wrong place: {words}"),
-            )?,
-        }
+        must_be_found(way, "listing differs", listing_in(way))?;
         found += 1;
     }
+    Ok(found)
+}
 
-    // The guard pages: the same program, made to read one byte outside a buffer, must be stopped.
+/// This program, made to read one byte outside a buffer, must be stopped.
+fn guard_pages(this_program: &Path) -> Outcome {
     for side in ["before", "after"] {
-        let output = std::process::Command::new(&this_program)
+        let output = std::process::Command::new(this_program)
             .args(["--read-outside", side])
             .output()
             .map_err(|error| error.to_string())?;
@@ -407,7 +399,19 @@ pub fn run(seed: u64) -> Outcome {
             &format!("a read {side} the buffer was not stopped"),
         )?;
     }
+    Ok(())
+}
 
+pub fn run(seed: u64) -> Outcome {
+    let settings = Settings {
+        seed,
+        count: 60_000,
+        print: false,
+    };
+    let this_program = std::env::current_exe().map_err(|error| error.to_string())?;
+    rules(&settings)?;
+    let found = functions(&settings)? + listings(&settings, &this_program)?;
+    guard_pages(&this_program)?;
     println!("self-test: {found} wrong functions and listings found, both guard pages hold");
     Ok(())
 }

@@ -310,37 +310,43 @@ fn compare(
     settings.report(name, tally)
 }
 
-pub fn section(settings: &Settings, probes: &Probes) -> Outcome {
-    settings.heading("words and digits in lists of bytes: plain Rust against Rattle");
-    let count = settings.count;
-    let words: fn(usize) -> usize = |len| len / 8;
-    let digits: fn(usize) -> usize = |len| len;
+/// How many words, or digits, a list of that length may have places for.
+const WORDS: fn(usize) -> usize = |len| len / 8;
+const DIGITS: fn(usize) -> usize = |len| len;
 
+/// Words and doubles read.
+fn words_read(settings: &Settings, probes: &Probes) -> Outcome {
+    let count = settings.count;
     compare(
         settings,
         "word_count",
-        cases(&mut settings.random("word_count"), count, words, any_bytes),
+        cases(&mut settings.random("word_count"), count, WORDS, any_bytes),
         |bytes, _| Answer::Count(word_count(bytes)),
         |start, len, _| Answer::Count(unsafe { (probes.word_count)(start, len) }),
     )?;
     compare(
         settings,
         "word_at",
-        cases(&mut settings.random("word_at"), count, words, any_bytes),
+        cases(&mut settings.random("word_at"), count, WORDS, any_bytes),
         |bytes, case| Answer::Word(word_at(bytes, case.place)),
         |start, len, case| Answer::Word(unsafe { (probes.word_at)(start, len, case.place) }),
     )?;
     compare(
         settings,
         "double_at",
-        cases(&mut settings.random("double_at"), count, words, any_bytes),
+        cases(&mut settings.random("double_at"), count, WORDS, any_bytes),
         |bytes, case| Answer::Double(double_at(bytes, case.place)),
         |start, len, case| Answer::Double(unsafe { (probes.double_at)(start, len, case.place) }),
-    )?;
+    )
+}
+
+/// Words and doubles stored.
+fn words_stored(settings: &Settings, probes: &Probes) -> Outcome {
+    let count = settings.count;
     compare(
         settings,
         "store_word",
-        cases(&mut settings.random("store_word"), count, words, any_bytes),
+        cases(&mut settings.random("store_word"), count, WORDS, any_bytes),
         |bytes, case| {
             store_word(bytes, case.place, case.word);
             Answer::Nothing
@@ -356,7 +362,7 @@ pub fn section(settings: &Settings, probes: &Probes) -> Outcome {
         cases(
             &mut settings.random("store_double"),
             count,
-            words,
+            WORDS,
             any_bytes,
         ),
         |bytes, case| {
@@ -368,14 +374,19 @@ pub fn section(settings: &Settings, probes: &Probes) -> Outcome {
             unsafe { (probes.store_double)(start, len, case.place, x) };
             Answer::Nothing
         },
-    )?;
+    )
+}
+
+/// Hexadecimal digits read and stored.
+fn digits(settings: &Settings, probes: &Probes) -> Outcome {
+    let count = settings.count;
     compare(
         settings,
         "digits_at",
         each_damage(&mut settings.random("damaged digits")).chain(cases(
             &mut settings.random("digits_at"),
             count,
-            digits,
+            DIGITS,
             any_text,
         )),
         |bytes, case| Answer::Digits(digits_at(bytes, case.place)),
@@ -387,7 +398,7 @@ pub fn section(settings: &Settings, probes: &Probes) -> Outcome {
         cases(
             &mut settings.random("store_digits"),
             count,
-            digits,
+            DIGITS,
             any_text,
         ),
         |bytes, case| {
@@ -399,4 +410,11 @@ pub fn section(settings: &Settings, probes: &Probes) -> Outcome {
             Answer::Nothing
         },
     )
+}
+
+pub fn section(settings: &Settings, probes: &Probes) -> Outcome {
+    settings.heading("words and digits in lists of bytes: plain Rust against Rattle");
+    words_read(settings, probes)?;
+    words_stored(settings, probes)?;
+    digits(settings, probes)
 }

@@ -16,6 +16,8 @@ mod jobs;
 #[allow(dead_code)]
 mod listing;
 #[allow(dead_code)]
+mod pilgartze;
+#[allow(dead_code)]
 mod probes;
 #[allow(dead_code)]
 mod random;

@@ -1,8 +1,23 @@
 //! Calls with every list between guard pages.
 
-use super::library::Library;
 use crate::guarded::{Guarded, Side};
-use crate::published::jobs::{Job, RunAnswer, Single};
+use crate::pilgartze::*;
+use crate::published::jobs::{Job, Readings, RunAnswer, Single};
+
+/// One side of the comparison.
+#[derive(Clone, Copy)]
+pub struct Library {
+    pub run: RunCall,
+    pub step: StepCall,
+    pub irradiance: IrradianceCall,
+}
+
+/// The library that this program is linked with.
+pub const LIBRARY: Library = Library {
+    run: RUN,
+    step: STEP,
+    irradiance: IRRADIANCE,
+};
 
 /// So many bytes beside a list, on the side without a guard page, are looked at too.
 const BESIDE: usize = 64;
@@ -89,141 +104,94 @@ impl Lent {
         &mut self,
         call: &'static str,
         lists: [&[u8]; 6],
-        function: impl FnOnce(&Library, [*mut u8; 6]) -> T,
+        function: impl FnOnce(&Library, [&[u8]; 5], &mut [u8]) -> T,
     ) -> Result<Left<T>, String> {
         self.turn += 1;
         // 41 is odd, so that all 64 patterns of sides come in 64 turns
         let sides = self.turn * 41;
-        let starts = std::array::from_fn(|k| {
+        let starts: [*mut u8; 6] = std::array::from_fn(|k| {
             self.pages[k].put(call, sides >> k & 1 == 1, lists[k], lists[RESULTS].len())
         });
-        let answer = function(&self.library, starts);
+        let read = |k: usize| unsafe { std::slice::from_raw_parts(starts[k], lists[k].len()) };
+        let len = lists[RESULTS].len();
+        let results = unsafe { std::slice::from_raw_parts_mut(starts[RESULTS], len) };
+        let answer = function(&self.library, std::array::from_fn(read), results);
+        // whatever the call was promised not to do, its pages are read anew
+        let pages = std::hint::black_box(&mut self.pages);
         for k in 0..RESULTS {
-            if self.pages[k].list() != lists[k] {
+            if pages[k].list() != lists[k] {
                 return Err(format!(
                     "{call} changes a list that it only reads, number {k}"
                 ));
             }
         }
-        if !self.pages.iter_mut().all(Pages::beside_is_left) {
+        if !pages.iter_mut().all(Pages::beside_is_left) {
             return Err(format!("{call} writes beside a list"));
         }
-        let results = self.pages[RESULTS].list().to_vec();
+        let results = pages[RESULTS].list().to_vec();
         Ok(Left { answer, results })
     }
 
     pub fn run(&mut self, job: &Job) -> Result<Left<RunAnswer>, String> {
-        let Job {
-            site,
-            times: [start, end, step],
-            surface: [tilt, orientation, base_height, height, width],
-            ..
-        } = *job;
+        let [start, end, step] = job.times;
+        let times = RunTimes { start, end, step };
+        let surface = surface_of(job.surface);
         let [diffuse, direct, reflectivity] = &job.series;
         let (sectors, window, results) = (&job.sectors, &job.window, &job.results);
         let lists: [&[u8]; 6] = [diffuse, direct, reflectivity, sectors, window, results];
-        self.with("run", lists, |library, starts| unsafe {
-            (library.run)(
-                site.latitude,
-                site.longitude,
-                site.timezone,
-                site.start_day,
-                site.series_step,
-                site.leap_year,
-                site.direct_beam_conversion,
-                start,
-                end,
-                step,
-                tilt,
-                orientation,
-                base_height,
-                height,
-                width,
-                starts[0],
-                diffuse.len(),
-                starts[1],
-                direct.len(),
-                starts[2],
-                reflectivity.len(),
-                starts[3],
-                sectors.len(),
-                starts[4],
-                window.len(),
-                starts[5],
-                results.len(),
-            )
+        self.with("run", lists, |library, lent, results| {
+            let [diffuse, direct, reflectivity, sectors, window] = lent;
+            let weather = Weather {
+                diffuse,
+                direct,
+                reflectivity,
+            };
+            let shading = Shading { sectors, window };
+            let call = library.run;
+            unsafe { run_by(call, &job.site, &times, &surface, weather, shading, results) }
         })
     }
 
     pub fn step(&mut self, single: &Single) -> Result<Left<u64>, String> {
-        let Single {
-            site,
-            time,
-            surface: [tilt, orientation, base_height, height, width],
-            readings: [diffuse, direct, reflectivity],
-            ..
-        } = *single;
+        let Single { site, time, .. } = single;
+        let surface = surface_of(single.surface);
+        let reading = reading_of(single.readings);
         let (sectors, window, results) = (&single.sectors, &single.window, &single.results);
         let lists: [&[u8]; 6] = [&[], &[], &[], sectors, window, results];
-        self.with("step", lists, |library, starts| unsafe {
-            (library.step)(
-                site.latitude,
-                site.longitude,
-                site.timezone,
-                site.start_day,
-                site.series_step,
-                site.leap_year,
-                site.direct_beam_conversion,
-                time,
-                tilt,
-                orientation,
-                base_height,
-                height,
-                width,
-                diffuse,
-                direct,
-                reflectivity,
-                starts[3],
-                sectors.len(),
-                starts[4],
-                window.len(),
-                starts[5],
-                results.len(),
-            )
+        self.with("step", lists, |library, lent, results| {
+            let [.., sectors, window] = lent;
+            let shading = Shading { sectors, window };
+            let call = library.step;
+            unsafe { step_by(call, site, *time, &surface, &reading, shading, results) }
         })
     }
 
     pub fn irradiance(&mut self, single: &Single) -> Result<Left<u64>, String> {
-        let Single {
-            site,
-            time,
-            surface: [tilt, orientation, base_height, height, width],
-            readings: [diffuse, direct, reflectivity],
-            ..
-        } = *single;
-        let results = &single.results;
-        let lists: [&[u8]; 6] = [&[], &[], &[], &[], &[], results];
-        self.with("irradiance", lists, |library, starts| unsafe {
-            (library.irradiance)(
-                site.latitude,
-                site.longitude,
-                site.timezone,
-                site.start_day,
-                site.series_step,
-                site.leap_year,
-                site.direct_beam_conversion,
-                time,
-                tilt,
-                orientation,
-                base_height,
-                height,
-                width,
-                diffuse,
-                direct,
-                reflectivity,
-                starts[5],
-                results.len(),
-            )
+        let Single { site, time, .. } = single;
+        let surface = surface_of(single.surface);
+        let reading = reading_of(single.readings);
+        let lists: [&[u8]; 6] = [&[], &[], &[], &[], &[], &single.results];
+        self.with("irradiance", lists, |library, _, results| {
+            let call = library.irradiance;
+            unsafe { irradiance_by(call, site, *time, &surface, &reading, results) }
         })
+    }
+}
+
+fn surface_of([tilt, orientation, base_height, height, width]: [f64; 5]) -> Surface {
+    Surface {
+        tilt,
+        orientation,
+        base_height,
+        height,
+        width,
+    }
+}
+
+fn reading_of([diffuse, direct, reflectivity]: Readings) -> Reading {
+    Reading {
+        diffuse,
+        direct,
+        reflectivity,
     }
 }

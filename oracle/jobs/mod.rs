@@ -5,7 +5,6 @@ pub mod cases;
 pub mod edges;
 pub mod laws;
 pub mod lent;
-pub mod library;
 pub mod self_test;
 pub mod wrong;
 
@@ -16,8 +15,7 @@ use crate::shading::laws::Law;
 use crate::shading::smaller;
 use cases::{Maker, MOST_BYTES};
 use laws::{try_laws, Pairs};
-use lent::{Left, Lent};
-use library::Library;
+use lent::{Left, Lent, Library};
 
 /// What is to be tried.
 #[derive(Clone, Copy)]

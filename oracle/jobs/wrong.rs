@@ -3,7 +3,7 @@
 //! They are one plain form of the run and of the single steps, by which a flaw is built in where it
 //! is asked for; a step's row is the judge's own.
 
-use super::library::Library;
+use super::lent::Library;
 use crate::published::jobs::*;
 use crate::published::shading::{MOST_SECTORS, MOST_WINDOW_OBJECTS, SECTOR_WORDS, WINDOW_WORDS};
 use crate::random::ulps_from;

@@ -3,7 +3,8 @@
 
 use super::conditions::{year_results, OneHour, Series, Site};
 use super::shading::Judge;
-use crate::probes::{ProbeFactor, ProbeHour, YEAR};
+use crate::pilgartze::FactorAnswer;
+use crate::probes::{ProbeHour, YEAR};
 
 macro_rules! behind_c {
     ($($name:ident($($argument:ident: $type:ty),*))*) => {
@@ -170,7 +171,7 @@ pub unsafe extern "C" fn factor(
     sectors_len: usize,
     window: *const u8,
     window_len: usize,
-) -> ProbeFactor {
+) -> FactorAnswer {
     let numbers = [
         altitude,
         azimuth,

@@ -7,21 +7,9 @@
 use super::conditions::{sun_at, OneHour, Site, FIRST_STEP};
 use super::shading::{sectors_of, window_of, within};
 use super::*;
+pub use crate::pilgartze::{doubles_of, Answer as RunAnswer, Site as JobSite, IRRADIANCE_ROW, ROW};
 use crate::random::Random;
 use crate::support::refusal_number;
-
-/// "Latitude −90..90, longitude −180..180, timezone −13..14, start day 0..365, series step 0.25..24
-/// hours, leap year or not, conversion of direct beam or not (each 0 or 1)."
-#[derive(Clone, Copy, PartialEq)]
-pub struct JobSite {
-    pub latitude: f64,
-    pub longitude: f64,
-    pub timezone: i64,
-    pub start_day: u64,
-    pub series_step: f64,
-    pub leap_year: u64,
-    pub direct_beam_conversion: u64,
-}
 
 /// Start, end, step.
 pub type Times = [f64; 3];
@@ -56,16 +44,6 @@ pub struct Single {
     pub results: Vec<u8>,
 }
 
-/// A run's answer, as C has it.
-#[repr(C)]
-#[derive(Clone, Copy, Debug)]
-pub struct RunAnswer {
-    pub number: u64,
-    pub step: u64,
-    pub count: u64,
-    pub sum: f64,
-}
-
 /// "On every refusal the step count and the sum are 0."
 pub fn refused(number: u64, step: usize) -> RunAnswer {
     RunAnswer {
@@ -76,11 +54,8 @@ pub fn refused(number: u64, step: usize) -> RunAnswer {
     }
 }
 
-/// The doubles of a run's row: altitude, azimuth, direct, diffuse, total, factor.
-pub const ROW: usize = 6;
-/// Those of `pilgartze_irradiance`: the first five and the breakdown.
-pub const IRRADIANCE_ROW: usize = 9;
-
+/// "Latitude −90..90, longitude −180..180, timezone −13..14, start day 0..365, series step 0.25..24
+/// hours, leap year or not, conversion of direct beam or not (each 0 or 1)."
 pub const SITE_RANGES: [(f64, f64); 3] = [(-90.0, 90.0), (-180.0, 180.0), (0.25, 24.0)];
 pub const TIME_RANGES: [(f64, f64); 3] = [(0.0, 8784.0), (0.0, 8784.0), (0.25, 24.0)];
 pub const SURFACE_RANGES: [(f64, f64); 5] = [
@@ -156,12 +131,6 @@ pub fn steps_if_any(site: &JobSite, times: &Times) -> Vec<Step> {
         true => steps_of(site, times),
         false => vec![],
     }
-}
-
-/// The doubles of a list of bytes; "a part word at the end counts for nothing".
-pub fn doubles_of(bytes: &[u8]) -> Vec<f64> {
-    let word = |bytes: &[u8]| f64::from_le_bytes(bytes.try_into().unwrap());
-    bytes.chunks_exact(8).map(word).collect()
 }
 
 /// Stores doubles one after the other, from the word at that place on. There is one NaN, and this is

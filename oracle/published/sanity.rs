@@ -125,6 +125,12 @@ fn sun(checks: &mut Checks) -> Outcome {
         0.45 * 7.0,
     )?;
 
+    sun_of_an_hour(checks)?;
+    (0..366).try_for_each(|day| sun_at_noon(checks, day))?;
+    checks.done("sun")
+}
+
+fn sun_of_an_hour(checks: &mut Checks) -> Outcome {
     checks.equal("time shift at 0, 0", init_time_shift(0, 0.0), 0.0)?;
     checks.holds(
         "longitude -0.5 gives a positive shift",
@@ -151,26 +157,27 @@ fn sun(checks: &mut Checks) -> Outcome {
         "a NaN altitude stays",
         init_solar_altitude(f64::NAN, 0.0, 0.0).is_nan(),
     )?;
-    checks.equal("zenith of 90", init_solar_zenith_angle(90.0), 0.0)?;
-    for day in 0..366 {
-        let declination = init_solar_declination(init_earth_orbit_deviation(day));
-        checks.holds("the declination lies in -24..24", declination.abs() < 24.0)?;
-        let noon = init_solar_altitude(50.0, declination, 0.0);
-        checks.holds(
-            "noon's altitude is 40 and the declination",
-            (noon - 40.0 - declination).abs() < 1e-9,
-        )?;
-        let azimuth = init_solar_azimuth_angle(50.0, declination, 0.0, noon);
-        checks.holds("noon's azimuth is 0", azimuth.abs() < 1e-9)?;
-        let east = init_solar_azimuth_angle(
-            50.0,
-            declination,
-            30.0,
-            init_solar_altitude(50.0, declination, 30.0),
-        );
-        checks.holds("a positive hour angle is in the east", east > 0.0)?;
-    }
-    checks.done("sun")
+    checks.equal("zenith of 90", init_solar_zenith_angle(90.0), 0.0)
+}
+
+/// At latitude 50, and two hours from noon.
+fn sun_at_noon(checks: &mut Checks, day: u32) -> Outcome {
+    let declination = init_solar_declination(init_earth_orbit_deviation(day));
+    checks.holds("the declination lies in -24..24", declination.abs() < 24.0)?;
+    let noon = init_solar_altitude(50.0, declination, 0.0);
+    checks.holds(
+        "noon's altitude is 40 and the declination",
+        (noon - 40.0 - declination).abs() < 1e-9,
+    )?;
+    let azimuth = init_solar_azimuth_angle(50.0, declination, 0.0, noon);
+    checks.holds("noon's azimuth is 0", azimuth.abs() < 1e-9)?;
+    let east = init_solar_azimuth_angle(
+        50.0,
+        declination,
+        30.0,
+        init_solar_altitude(50.0, declination, 30.0),
+    );
+    checks.holds("a positive hour angle is in the east", east > 0.0)
 }
 
 fn sky(checks: &mut Checks) -> Outcome {
@@ -363,23 +370,8 @@ fn whole_years(checks: &mut Checks) -> Outcome {
     for leap in [false, true] {
         let run = hours_of_a_year(leap);
         let hours = run.end_time() as usize;
-        let mut random = Random::new(1, "year");
-        let mut series =
-            |high: f64| -> Vec<f64> { (0..hours).map(|_| random.uniform(0.0, high)).collect() };
-        let series = Series {
-            diffuse: series(400.0),
-            direct: series(900.0),
-            reflectivity: series(1.0),
-        };
-        let site = Site {
-            latitude: 51.5,
-            longitude: -0.5,
-            timezone: 0,
-            conversion_needed: true,
-            tilt: 40.0,
-            orientation: 135.0,
-        };
-        let year = whole_year(&site, series.clone(), leap);
+        let series = random_series(hours);
+        let year = whole_year(&YEAR_SITE, series.clone(), leap);
         checks.holds(
             "an altitude for each hour",
             year.solar_altitudes.len() == hours,
@@ -387,40 +379,8 @@ fn whole_years(checks: &mut Checks) -> Outcome {
         let (mut steps, mut sunny) = (0, 0);
         for step in run.iter() {
             steps += 1;
-            let hour = step.current_hour() as usize;
-            let altitude = year.solar_altitudes[hour];
-            sunny += (altitude > 0.0) as usize;
-            let CalculatedDirectDiffuseTotalIrradiance(direct, diffuse, total, breakdown) =
-                year.calculated_direct_diffuse_total_irradiance(40.0, angle(135.0), true, step);
-            let parts = breakdown.unwrap();
-            checks.equal("total", total, direct + diffuse)?;
-            checks.equal(
-                "direct",
-                direct,
-                year.calculated_direct_irradiance(40.0, angle(135.0), step),
-            )?;
-            checks.equal(
-                "diffuse",
-                diffuse,
-                (parts.sky + parts.circumsolar + parts.horiz) - parts.circumsolar
-                    + parts.ground_refl,
-            )?;
-            checks.holds("direct is no less than 0", direct >= 0.0)?;
-
-            let single = OneHour {
-                site,
-                hour: hour as u32,
-                diffuse: series.diffuse[hour],
-                direct: series.direct[hour],
-                reflectivity: series.reflectivity[hour],
-            };
-            let single = single.answer(&single.record());
-            checks.equal("a single hour's altitude", single.altitude, altitude)?;
-            let azimuth = year.solar_azimuth_angles[hour];
-            checks.equal("a single hour's azimuth", single.azimuth, azimuth)?;
-            checks.equal("a single hour's direct", single.direct, direct)?;
-            checks.equal("a single hour's diffuse", single.diffuse, diffuse)?;
-            checks.equal("a single hour's total", single.total, total)?;
+            sunny += (year.solar_altitudes[step.current_hour() as usize] > 0.0) as usize;
+            one_of_a_year(checks, &year, &series, step)?;
         }
         checks.holds("a step for each hour", steps == hours)?;
         checks.holds(
@@ -429,4 +389,62 @@ fn whole_years(checks: &mut Checks) -> Outcome {
         )?;
     }
     checks.done("whole years")
+}
+
+const YEAR_SITE: Site = Site {
+    latitude: 51.5,
+    longitude: -0.5,
+    timezone: 0,
+    conversion_needed: true,
+    tilt: 40.0,
+    orientation: 135.0,
+};
+
+fn random_series(hours: usize) -> Series {
+    let mut random = Random::new(1, "year");
+    let mut series =
+        |high: f64| -> Vec<f64> { (0..hours).map(|_| random.uniform(0.0, high)).collect() };
+    Series {
+        diffuse: series(400.0),
+        direct: series(900.0),
+        reflectivity: series(1.0),
+    }
+}
+
+/// One hour of a year's record: its parts, and the same by a record of that hour alone.
+fn one_of_a_year(
+    checks: &mut Checks,
+    year: &ExternalConditions,
+    series: &Series,
+    step: Timestep,
+) -> Outcome {
+    let hour = step.current_hour() as usize;
+    let CalculatedDirectDiffuseTotalIrradiance(direct, diffuse, total, breakdown) =
+        year.calculated_direct_diffuse_total_irradiance(40.0, angle(135.0), true, step);
+    let parts = breakdown.unwrap();
+    let by_itself = year.calculated_direct_irradiance(40.0, angle(135.0), step);
+    let sky = parts.sky + parts.circumsolar + parts.horiz;
+    checks.equal("total", total, direct + diffuse)?;
+    checks.equal("direct", direct, by_itself)?;
+    checks.equal(
+        "diffuse",
+        diffuse,
+        sky - parts.circumsolar + parts.ground_refl,
+    )?;
+    checks.holds("direct is no less than 0", direct >= 0.0)?;
+
+    let single = OneHour {
+        site: YEAR_SITE,
+        hour: hour as u32,
+        diffuse: series.diffuse[hour],
+        direct: series.direct[hour],
+        reflectivity: series.reflectivity[hour],
+    };
+    let single = single.answer(&single.record());
+    let (altitude, azimuth) = (year.solar_altitudes[hour], year.solar_azimuth_angles[hour]);
+    checks.equal("a single hour's altitude", single.altitude, altitude)?;
+    checks.equal("a single hour's azimuth", single.azimuth, azimuth)?;
+    checks.equal("a single hour's direct", single.direct, direct)?;
+    checks.equal("a single hour's diffuse", single.diffuse, diffuse)?;
+    checks.equal("a single hour's total", single.total, total)
 }

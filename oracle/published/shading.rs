@@ -3,7 +3,7 @@
 
 use super::conditions::{angle, sun_at, FIRST_STEP};
 use super::*;
-use crate::probes::ProbeFactor;
+use crate::pilgartze::FactorAnswer;
 use crate::support::refusal_number;
 
 /// Sun and surface: altitude, azimuth, tilt, orientation, base height, height, width.
@@ -134,13 +134,13 @@ pub(super) fn window_of(bytes: &[u8]) -> Option<Vec<WindowShadingObject>> {
 /// What the judge says of a call.
 #[derive(Clone, Copy)]
 pub struct Judged {
-    pub answer: ProbeFactor,
+    pub answer: FactorAnswer,
     /// The checks are passed, and the surface is inside the solar beam.
     pub inside: bool,
 }
 
-fn refused(number: u64) -> ProbeFactor {
-    ProbeFactor {
+fn refused(number: u64) -> FactorAnswer {
+    FactorAnswer {
         number,
         factor: 0.0,
     }
@@ -195,7 +195,7 @@ impl Judge {
         );
         Judged {
             answer: match factor {
-                Ok(factor) => ProbeFactor { number: 0, factor },
+                Ok(factor) => FactorAnswer { number: 0, factor },
                 Err(error) => refused(refusal_number(&error)),
             },
             inside: !conditions.outside_solar_beam(tilt, orientation, FIRST_STEP),

@@ -22,6 +22,7 @@ macro_rules! wrong_sides {
         )),*]
     };
 }
+#[allow(unused_imports)] // programs without a self-test have no use for it
 pub(crate) use wrong_sides;
 
 // --- The sun's angles ---

@@ -4,7 +4,7 @@
 use super::call::*;
 use super::scenes::Aim;
 use crate::comparison::{same, shown, Outcome, Settings};
-use crate::probes::ProbeFactor;
+use crate::pilgartze::FactorAnswer;
 use crate::published::shading::*;
 use crate::random::Random;
 use crate::stand_ins;
@@ -189,13 +189,13 @@ pub fn try_laws(
     random: &mut Random,
     call: &Call,
     factor: f64,
-    mut answer: impl FnMut(&Call) -> Result<ProbeFactor, String>,
+    mut answer: impl FnMut(&Call) -> Result<FactorAnswer, String>,
 ) -> Outcome {
     if !extents_are_numbers(&call.numbers) {
         pairs.skipped += 1;
         return Ok(());
     }
-    let accepted = ProbeFactor { number: 0, factor };
+    let accepted = FactorAnswer { number: 0, factor };
     let scene = Scene::of(call);
     for &law in laws {
         let mut other = scene.clone();

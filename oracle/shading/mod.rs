@@ -5,11 +5,12 @@ pub mod call;
 pub mod edges;
 pub mod laws;
 pub mod scenes;
+pub mod self_test;
 pub mod wrong;
 
 use crate::comparison::{same, shown, Outcome, Settings, Tally};
 use crate::guarded::{Guarded, Side};
-use crate::probes::{FactorCall, ProbeFactor, Probes};
+use crate::pilgartze::{factor_by, FactorAnswer, FactorCall, Shading, Surface};
 use crate::published::shading::{Judge, Judged, Numbers, MOST_SECTORS, SECTOR_WORDS};
 use crate::random::Random;
 use call::{Call, Scene, COUNT, TRIPLES};
@@ -38,7 +39,7 @@ impl Lent {
     }
 
     /// Each list against the front or the back of its pages, and looked at afterwards.
-    fn call(&mut self, call: &Call) -> Result<ProbeFactor, String> {
+    fn call(&mut self, call: &Call) -> Result<FactorAnswer, String> {
         self.turn += 1;
         let side = |bit: usize| match self.turn >> bit & 1 {
             0 => Side::Front,
@@ -53,15 +54,17 @@ impl Lent {
             pages.bytes()[offset..offset + list.len()].copy_from_slice(list);
             pages.lend("factor", side, list.len(), other.len())
         });
-        let answer = call_with(
-            self.function,
-            &call.numbers,
-            (sectors, call.sectors.len()),
-            (window, call.window.len()),
-        );
+        let lent = |start: *mut u8, list: &[u8]| unsafe {
+            std::slice::from_raw_parts(start.cast_const(), list.len())
+        };
+        let shading = Shading {
+            sectors: lent(sectors, &call.sectors),
+            window: lent(window, &call.window),
+        };
+        let answer = call_with(self.function, &call.numbers, shading);
         for (start, list) in [(sectors, &call.sectors), (window, &call.window)] {
-            let left = unsafe { std::slice::from_raw_parts(start, list.len()) };
-            if left != &list[..] {
+            // whatever the call was promised not to do, the list is read anew
+            if lent(std::hint::black_box(start), list) != &list[..] {
                 return Err(format!("factor changes a list\n{}", call.shown()));
             }
         }
@@ -69,28 +72,16 @@ impl Lent {
     }
 }
 
-fn call_with(
-    function: FactorCall,
-    numbers: &Numbers,
-    (sectors, sectors_len): (*const u8, usize),
-    (window, window_len): (*const u8, usize),
-) -> ProbeFactor {
+fn call_with(function: FactorCall, numbers: &Numbers, shading: Shading) -> FactorAnswer {
     let &[altitude, azimuth, tilt, orientation, base_height, height, width] = numbers;
-    unsafe {
-        function(
-            altitude,
-            azimuth,
-            tilt,
-            orientation,
-            base_height,
-            height,
-            width,
-            sectors,
-            sectors_len,
-            window,
-            window_len,
-        )
-    }
+    let surface = Surface {
+        tilt,
+        orientation,
+        base_height,
+        height,
+        width,
+    };
+    unsafe { factor_by(function, altitude, azimuth, &surface, shading) }
 }
 
 /// How many calls came out in each way.
@@ -106,7 +97,7 @@ struct Met {
 
 impl Met {
     fn note(&mut self, judged: &Judged) {
-        let ProbeFactor { number, factor } = judged.answer;
+        let FactorAnswer { number, factor } = judged.answer;
         self.numbers[number as usize] += 1;
         if number == 0 {
             match factor {
@@ -169,7 +160,7 @@ fn difference(call: &Call, judge: &mut Judge, lent: &mut Lent) -> String {
     {
         smallest = smaller;
     }
-    let answer = |answer: ProbeFactor| format!("{}, {}", answer.number, shown(answer.factor));
+    let answer = |answer: FactorAnswer| format!("{}, {}", answer.number, shown(answer.factor));
     match differ(&smallest) {
         Some((right, got)) => format!(
             "{}\n  Rust   {}\n  Rattle {}",
@@ -250,22 +241,17 @@ fn run(settings: &Settings, function: FactorCall, compared: bool, laws: &[Law]) 
     pairs.report(settings, laws)
 }
 
-pub fn section(settings: &Settings, rattle: &Probes) -> Outcome {
-    function(settings, rattle.factor)
-}
-
-/// The same of a function by itself.
-pub fn function(settings: &Settings, function: FactorCall) -> Outcome {
+pub fn section(settings: &Settings, function: FactorCall) -> Outcome {
     settings.heading("the direct shading factor of one step: published Rust against Rattle");
     run(settings, function, true, &LAWS)
 }
 
 /// The comparison without the laws, for the self-test.
-pub fn compared_alone(settings: &Settings, rattle: &Probes) -> Outcome {
-    run(settings, rattle.factor, true, &[])
+pub fn compared_alone(settings: &Settings, function: FactorCall) -> Outcome {
+    run(settings, function, true, &[])
 }
 
 /// One law without the comparison, for the self-test.
-pub fn law_alone(settings: &Settings, rattle: &Probes, law: Law) -> Outcome {
-    run(settings, rattle.factor, false, &[law])
+pub fn law_alone(settings: &Settings, function: FactorCall, law: Law) -> Outcome {
+    run(settings, function, false, &[law])
 }

@@ -4,9 +4,8 @@
 
 use super::call::*;
 use super::laws::Law;
-use crate::probes::{ProbeFactor, Probes};
+use crate::pilgartze::{FactorAnswer, FactorCall};
 use crate::published::shading::*;
-use crate::published::wrong::Wrong;
 use crate::random::ulps_from;
 use crate::stand_ins::{cos, float_max, float_min, max_of_2, min_of_2, tan, to_radians};
 
@@ -448,8 +447,8 @@ impl Plain {
         }
     }
 
-    fn answer(&self, call: &Call) -> ProbeFactor {
-        let refused = |number: u64| ProbeFactor {
+    fn answer(&self, call: &Call) -> FactorAnswer {
+        let refused = |number: u64| FactorAnswer {
             number,
             factor: if self.is(FactorKeptWhereRefused) {
                 1.0
@@ -457,7 +456,7 @@ impl Plain {
                 0.0
             },
         };
-        let accepted = |factor: f64| ProbeFactor { number: 0, factor };
+        let accepted = |factor: f64| FactorAnswer { number: 0, factor };
         let numbers = &call.numbers;
         let scene = Scene::of(call);
         let numbers_fine = self.numbers_fine(numbers);
@@ -497,7 +496,7 @@ fn answer_of(
     numbers: Numbers,
     (sectors, sectors_len): (*const u8, usize),
     (window, window_len): (*const u8, usize),
-) -> ProbeFactor {
+) -> FactorAnswer {
     let list = |start, len| unsafe { std::slice::from_raw_parts(start, len) }.to_vec();
     let call = Call {
         numbers,
@@ -510,9 +509,12 @@ fn answer_of(
     Plain { flaw }.answer(&call)
 }
 
-/// A side of the comparison whose factor has the flaw.
+/// The words with which it must be found, its name for messages, and the function.
+pub type Wrong = (&'static str, &'static str, FactorCall);
+
+/// Functions with the flaws, one each.
 macro_rules! flawed {
-    ($right:ident, $name:expr; $($flaw:ident),* $(,)?) => {
+    ($name:expr; $($flaw:ident),* $(,)?) => {
         vec![$({
             unsafe extern "C" fn wrong(
                 altitude: f64,
@@ -526,24 +528,24 @@ macro_rules! flawed {
                 sectors_len: usize,
                 window: *const u8,
                 window_len: usize,
-            ) -> ProbeFactor {
+            ) -> FactorAnswer {
                 let numbers = [altitude, azimuth, tilt, orientation, base_height, height, width];
                 answer_of($flaw, numbers, (sectors, sectors_len), (window, window_len))
             }
-            ($name, stringify!($flaw), Probes { factor: wrong, ..$right })
+            ($name, stringify!($flaw), wrong as FactorCall)
         }),*]
     };
 }
 
 /// The plain form without a flaw, which has to pass.
-pub fn without_flaw(right: Probes) -> Probes {
-    let sides: Vec<Wrong> = flawed!(right, "factor"; Nothing);
+pub fn without_flaw() -> FactorCall {
+    let sides: Vec<Wrong> = flawed!("factor"; Nothing);
     sides[0].2
 }
 
 /// What the comparison has to find.
-pub fn factor(right: Probes) -> Vec<Wrong> {
-    flawed! { right, "factor";
+pub fn factor() -> Vec<Wrong> {
+    flawed! { "factor";
         AzimuthWithin180,
         MinusZeroOutOfRange,
         NanTaken,
@@ -605,13 +607,13 @@ pub fn factor(right: Probes) -> Vec<Wrong> {
 }
 
 /// What each law has to find, tried alone.
-pub fn lawless(right: Probes, law: Law) -> Vec<Wrong> {
+pub fn lawless(law: Law) -> Vec<Wrong> {
     let name = law.name();
     match law {
-        Law::Range => flawed!(right, name; DarkBelowZero, NearObstacleReplaces),
-        Law::Reordered => flawed!(right, name; NearObstaclesEarly, LastObjectCounts),
-        Law::Repeated => flawed!(right, name; ExtentsAdded, SixteenthLeftOut),
-        Law::Enlarged => flawed!(right, name; LastObjectCounts, NearObstacleReplaces),
-        Law::Emptied => flawed!(right, name; OneByAQuotient, SkyNeverWhole),
+        Law::Range => flawed!(name; DarkBelowZero, NearObstacleReplaces),
+        Law::Reordered => flawed!(name; NearObstaclesEarly, LastObjectCounts),
+        Law::Repeated => flawed!(name; ExtentsAdded, SixteenthLeftOut),
+        Law::Enlarged => flawed!(name; LastObjectCounts, NearObstacleReplaces),
+        Law::Emptied => flawed!(name; OneByAQuotient, SkyNeverWhole),
     }
 }

@@ -6,6 +6,7 @@ ghost use Rattle.jobs.specs.Job.{jobOf};
 ghost use Rattle.jobs.specs.Run.{runOf};
 ghost use Rattle.runs.specs.Single.{singleNumber, stepCall, irradianceCall};
 ghost use Rattle.pilgartze.specs.Answers.{answerFor, factorFor, siteOf, timesOf, surfaceOf, readingOf};
+ghost use Rattle.pilgartze.specs.Version.{version};
 use jobs::answers::Reading;
 use jobs::answers::RunAnswer;
 use objects::answers::FactorAnswer;
@@ -62,6 +63,14 @@ fn factor_for(answer: FactorAnswer) -> ShadingFactor
             factor: 0.0,
         },
     }
+}
+
+// The version of the library that is linked: 1.0.0, as the header's PILGARTZE_VERSION.
+#[no_mangle]
+pub extern "C" fn pilgartze_version() -> u64
+    ensures { λ r. ⌜ r ≡ version ⌝ }
+{
+    1000000
 }
 
 // A run: a row of six doubles for each step, and the sum of factor times direct.

@@ -10,7 +10,6 @@ ghost use Rattle.words.specs.Hexadecimal.{digitsAt, putDigits};
 ghost use Rattle.probes.specs.Answers.{digitsAnswer};
 use words::Digits;
 
-pub mod shade;
 pub mod sky;
 
 #[no_mangle]

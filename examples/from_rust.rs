@@ -1,0 +1,57 @@
+//! A call from Rust: a day in June at a window to the south with an overhang, and a factor that is refused.
+
+#[path = "../oracle/pilgartze.rs"]
+#[allow(dead_code)]
+mod pilgartze;
+
+use pilgartze::*;
+
+const HOURS: usize = 24;
+
+const SITE: Site = Site {
+    latitude: 51.5,
+    longitude: 0.0,
+    timezone: 0,
+    start_day: 171,
+    series_step: 1.0,
+    leap_year: 0,
+    direct_beam_conversion: 0,
+};
+
+const WINDOW: Surface = Surface {
+    tilt: 90.0,
+    orientation: 180.0,
+    base_height: 1.0,
+    height: 1.5,
+    width: 1.2,
+};
+
+fn main() {
+    let times = RunTimes {
+        start: 171.0 * 24.0,
+        end: 172.0 * 24.0,
+        step: 1.0,
+    };
+    let weather = Weather {
+        diffuse: &bytes_of(&[120.0; HOURS]),
+        direct: &bytes_of(&[500.0; HOURS]),
+        reflectivity: &bytes_of(&[0.2; HOURS]),
+    };
+    let shading = Shading {
+        sectors: &sector(0.0, 360.0, &[]),
+        window: &window_object(1, 0.5, 0.1, 0.0),
+    };
+    let mut results = vec![0; 8 * ROW * HOURS];
+    match run(&SITE, &times, &WINDOW, weather, shading, &mut results) {
+        Ok(Accepted { count, sum }) => println!("{count} steps, {sum:.1} Wh/m2 of direct sun"),
+        Err(Refused { refusal, step }) => println!("{refusal} at step {step}"),
+    }
+    let rows = doubles_of(&results);
+    println!("at noon the factor is {:.3}", rows[ROW * 12 + 5]);
+
+    let below_the_horizon = factor(-1.0, 0.0, &WINDOW, shading);
+    println!(
+        "a sun below the horizon: {}",
+        below_the_horizon.unwrap_err()
+    );
+}

@@ -1,0 +1,466 @@
+//! The library `pilgartze` called from Rust: structs of numbers, lists as slices, `Result`s.
+//!
+//! This file needs nothing but the archive. A program has it as a module and is built with
+//!
+//!     rustc --edition 2021 -O -L target/staticlib -l static=pilgartze PROGRAM.rs
+//!
+//! `examples/from_rust.rs` is such a program. `include/pilgartze.h` says what each field is and what
+//! range it has, `docs/FORMATS.md` draws the lists. Nothing has to be checked before a call: what is
+//! out of range is refused, and only the results are written to.
+
+use std::fmt;
+
+// --- What goes in ---
+
+/// Where the surface stands, and how the series are to be read.
+#[derive(Clone, Copy, Debug, PartialEq)]
+pub struct Site {
+    pub latitude: f64,
+    pub longitude: f64,
+    pub timezone: i64,
+    pub start_day: u64,
+    pub series_step: f64,
+    /// 0 or 1, and so is the next.
+    pub leap_year: u64,
+    pub direct_beam_conversion: u64,
+}
+
+/// The steps of a run, in hours from the start of the year.
+#[derive(Clone, Copy, Debug, PartialEq)]
+pub struct RunTimes {
+    pub start: f64,
+    pub end: f64,
+    pub step: f64,
+}
+
+#[derive(Clone, Copy, Debug, PartialEq)]
+pub struct Surface {
+    pub tilt: f64,
+    pub orientation: f64,
+    pub base_height: f64,
+    pub height: f64,
+    pub width: f64,
+}
+
+/// The weather series, each a list of doubles (`bytes_of`).
+#[derive(Clone, Copy, Debug)]
+pub struct Weather<'a> {
+    pub diffuse: &'a [u8],
+    pub direct: &'a [u8],
+    pub reflectivity: &'a [u8],
+}
+
+/// One value of each series, for a single step.
+#[derive(Clone, Copy, Debug, PartialEq)]
+pub struct Reading {
+    pub diffuse: f64,
+    pub direct: f64,
+    pub reflectivity: f64,
+}
+
+/// All that may shade the surface: records of 216 bytes (`sector`) and of 32 (`window_object`).
+#[derive(Clone, Copy, Debug)]
+pub struct Shading<'a> {
+    pub sectors: &'a [u8],
+    pub window: &'a [u8],
+}
+
+// --- Lists ---
+
+/// Doubles, eight bytes each, least byte first.
+pub fn bytes_of(doubles: &[f64]) -> Vec<u8> {
+    doubles.iter().flat_map(|x| x.to_le_bytes()).collect()
+}
+
+/// The doubles of such a list; a part of one at the end counts for nothing.
+pub fn doubles_of(bytes: &[u8]) -> Vec<f64> {
+    let double = |word: &[u8]| f64::from_le_bytes(word.try_into().expect("eight bytes"));
+    bytes.chunks_exact(8).map(double).collect()
+}
+
+fn record<const BYTES: usize>(words: &[u64]) -> [u8; BYTES] {
+    let mut record = [0; BYTES];
+    for (place, word) in record.chunks_exact_mut(8).zip(words) {
+        place.copy_from_slice(&word.to_le_bytes());
+    }
+    record
+}
+
+/// What stands in a sector: its kind (0 an obstacle, 1 an overhang), its height, its distance.
+pub type DistantObject = (u64, f64, f64);
+
+/// A sector with up to eight objects. With more its count is refused, as any other wrong count.
+pub fn sector(start: f64, end: f64, objects: &[DistantObject]) -> [u8; 216] {
+    let mut words = vec![start.to_bits(), end.to_bits(), objects.len() as u64];
+    for &(kind, height, distance) in objects {
+        words.extend([kind, height.to_bits(), distance.to_bits()]);
+    }
+    record(&words)
+}
+
+/// An object at the window, by its kind (0 an obstacle, 1 an overhang, 2 a right and 3 a left fin, 4
+/// a reveal), its height or depth, its distance, and an obstacle's transparency (else 0.0).
+pub fn window_object(kind: u64, size: f64, distance: f64, transparency: f64) -> [u8; 32] {
+    let [size, distance, transparency] = [size, distance, transparency].map(f64::to_bits);
+    record(&[kind, size, distance, transparency])
+}
+
+// --- What comes out ---
+
+/// The doubles of a run's row: altitude, azimuth, direct, diffuse, total, factor.
+pub const ROW: usize = 6;
+/// Those that `irradiance` stores: the first five, then sky, circumsolar, horizontal, ground.
+pub const IRRADIANCE_ROW: usize = 9;
+
+/// Why a call is turned down, by the specification's numbers.
+#[derive(Clone, Copy, Debug, PartialEq, Eq)]
+#[repr(u64)]
+pub enum Refusal {
+    Site = 1,
+    Run = 2,
+    Surface = 3,
+    Object = 4,
+    Series = 5,
+    Reading = 6,
+    Results = 7,
+    Gap = 8,
+    Turned = 9,
+    NoSector = 10,
+    Reveal = 11,
+}
+
+impl Refusal {
+    const ALL: [Refusal; 11] = [
+        Refusal::Site,
+        Refusal::Run,
+        Refusal::Surface,
+        Refusal::Object,
+        Refusal::Series,
+        Refusal::Reading,
+        Refusal::Results,
+        Refusal::Gap,
+        Refusal::Turned,
+        Refusal::NoSector,
+        Refusal::Reveal,
+    ];
+
+    /// None for 0, an accepted call. The library gives no number above 11.
+    pub fn of(number: u64) -> Option<Refusal> {
+        let place = number.checked_sub(1)?;
+        Some(Refusal::ALL[place as usize])
+    }
+}
+
+impl fmt::Display for Refusal {
+    fn fmt(&self, to: &mut fmt::Formatter) -> fmt::Result {
+        write!(to, "refused by {}: {self:?}", *self as u64)
+    }
+}
+
+impl std::error::Error for Refusal {}
+
+/// A run that is accepted: its rows are in the results.
+#[derive(Clone, Copy, Debug, PartialEq)]
+pub struct Accepted {
+    pub count: usize,
+    /// Of factor times direct, over all steps.
+    pub sum: f64,
+}
+
+/// A run that is refused at a step, from 0; the rows of the steps before it are in the results.
+#[derive(Clone, Copy, Debug, PartialEq, Eq)]
+pub struct Refused {
+    pub refusal: Refusal,
+    pub step: usize,
+}
+
+/// A run's answer as the library gives it; number 0 is accepted.
+#[repr(C)]
+#[derive(Clone, Copy, Debug)]
+pub struct Answer {
+    pub number: u64,
+    pub step: u64,
+    pub count: u64,
+    pub sum: f64,
+}
+
+impl Answer {
+    pub fn result(self) -> Result<Accepted, Refused> {
+        let step = self.step as usize;
+        match Refusal::of(self.number) {
+            Some(refusal) => Err(Refused { refusal, step }),
+            None => Ok(Accepted {
+                count: self.count as usize,
+                sum: self.sum,
+            }),
+        }
+    }
+}
+
+/// A factor's answer as the library gives it; number 0 is accepted.
+#[repr(C)]
+#[derive(Clone, Copy, Debug)]
+pub struct FactorAnswer {
+    pub number: u64,
+    pub factor: f64,
+}
+
+impl FactorAnswer {
+    pub fn result(self) -> Result<f64, Refusal> {
+        Refusal::of(self.number).map_or(Ok(self.factor), Err)
+    }
+}
+
+// --- The calls ---
+
+/// All steps of a run, a row for each in the results.
+pub fn run(
+    site: &Site,
+    times: &RunTimes,
+    surface: &Surface,
+    weather: Weather,
+    shading: Shading,
+    results: &mut [u8],
+) -> Result<Accepted, Refused> {
+    unsafe {
+        run_by(
+            pilgartze_run,
+            site,
+            times,
+            surface,
+            weather,
+            shading,
+            results,
+        )
+    }
+    .result()
+}
+
+/// One step: the row that a run has at that time.
+pub fn step(
+    site: &Site,
+    time: f64,
+    surface: &Surface,
+    reading: &Reading,
+    shading: Shading,
+    results: &mut [u8],
+) -> Result<(), Refusal> {
+    let number = unsafe {
+        step_by(
+            pilgartze_step,
+            site,
+            time,
+            surface,
+            reading,
+            shading,
+            results,
+        )
+    };
+    Refusal::of(number).map_or(Ok(()), Err)
+}
+
+/// The sun and the irradiance of one step with its breakdown, without shade.
+pub fn irradiance(
+    site: &Site,
+    time: f64,
+    surface: &Surface,
+    reading: &Reading,
+    results: &mut [u8],
+) -> Result<(), Refusal> {
+    let call = pilgartze_irradiance;
+    let number = unsafe { irradiance_by(call, site, time, surface, reading, results) };
+    Refusal::of(number).map_or(Ok(()), Err)
+}
+
+/// The direct shading factor for a given sun.
+pub fn factor(
+    altitude: f64,
+    azimuth: f64,
+    surface: &Surface,
+    shading: Shading,
+) -> Result<f64, Refusal> {
+    unsafe { factor_by(pilgartze_factor, altitude, azimuth, surface, shading) }.result()
+}
+
+/// The library's version: 1.2.3 is 1002003.
+pub fn version() -> u64 {
+    unsafe { pilgartze_version() }
+}
+
+// --- The functions of the archive ---
+
+/// Functions of the archive, and for each the type of a function that could stand in its place.
+macro_rules! functions {
+    ($(fn $name:ident($($argument:ident: $type:ty),* $(,)?) -> $answer:ty as $call:ident;)*) => {
+        extern "C" {
+            $(fn $name($($argument: $type),*) -> $answer;)*
+        }
+        $(pub type $call = unsafe extern "C" fn($($argument: $type),*) -> $answer;)*
+    };
+}
+
+functions! {
+    fn pilgartze_version() -> u64 as VersionCall;
+    fn pilgartze_run(
+        latitude: f64, longitude: f64, timezone: i64, start_day: u64, series_step: f64,
+        leap_year: u64, direct_beam_conversion: u64, start: f64, end: f64, step: f64, tilt: f64,
+        orientation: f64, base_height: f64, height: f64, width: f64, diffuse: *const u8,
+        diffuse_length: usize, direct: *const u8, direct_length: usize, reflectivity: *const u8,
+        reflectivity_length: usize, sectors: *const u8, sectors_length: usize, window: *const u8,
+        window_length: usize, results: *mut u8, results_length: usize,
+    ) -> Answer as RunCall;
+    fn pilgartze_step(
+        latitude: f64, longitude: f64, timezone: i64, start_day: u64, series_step: f64,
+        leap_year: u64, direct_beam_conversion: u64, time: f64, tilt: f64, orientation: f64,
+        base_height: f64, height: f64, width: f64, diffuse: f64, direct: f64, reflectivity: f64,
+        sectors: *const u8, sectors_length: usize, window: *const u8, window_length: usize,
+        results: *mut u8, results_length: usize,
+    ) -> u64 as StepCall;
+    fn pilgartze_irradiance(
+        latitude: f64, longitude: f64, timezone: i64, start_day: u64, series_step: f64,
+        leap_year: u64, direct_beam_conversion: u64, time: f64, tilt: f64, orientation: f64,
+        base_height: f64, height: f64, width: f64, diffuse: f64, direct: f64, reflectivity: f64,
+        results: *mut u8, results_length: usize,
+    ) -> u64 as IrradianceCall;
+    fn pilgartze_factor(
+        altitude: f64, azimuth: f64, tilt: f64, orientation: f64, base_height: f64, height: f64,
+        width: f64, sectors: *const u8, sectors_length: usize, window: *const u8,
+        window_length: usize,
+    ) -> FactorAnswer as FactorCall;
+}
+
+/// The archive's functions, for what calls them by the four that follow.
+pub const RUN: RunCall = pilgartze_run;
+pub const STEP: StepCall = pilgartze_step;
+pub const IRRADIANCE: IrradianceCall = pilgartze_irradiance;
+pub const FACTOR: FactorCall = pilgartze_factor;
+
+// The same calls by a function in the place of the archive's own; the comparison has such functions.
+// Each must read and write nothing but the lists that it is lent, and write to the results alone.
+
+pub unsafe fn run_by(
+    call: RunCall,
+    site: &Site,
+    times: &RunTimes,
+    surface: &Surface,
+    weather: Weather,
+    shading: Shading,
+    results: &mut [u8],
+) -> Answer {
+    call(
+        site.latitude,
+        site.longitude,
+        site.timezone,
+        site.start_day,
+        site.series_step,
+        site.leap_year,
+        site.direct_beam_conversion,
+        times.start,
+        times.end,
+        times.step,
+        surface.tilt,
+        surface.orientation,
+        surface.base_height,
+        surface.height,
+        surface.width,
+        weather.diffuse.as_ptr(),
+        weather.diffuse.len(),
+        weather.direct.as_ptr(),
+        weather.direct.len(),
+        weather.reflectivity.as_ptr(),
+        weather.reflectivity.len(),
+        shading.sectors.as_ptr(),
+        shading.sectors.len(),
+        shading.window.as_ptr(),
+        shading.window.len(),
+        results.as_mut_ptr(),
+        results.len(),
+    )
+}
+
+pub unsafe fn step_by(
+    call: StepCall,
+    site: &Site,
+    time: f64,
+    surface: &Surface,
+    reading: &Reading,
+    shading: Shading,
+    results: &mut [u8],
+) -> u64 {
+    call(
+        site.latitude,
+        site.longitude,
+        site.timezone,
+        site.start_day,
+        site.series_step,
+        site.leap_year,
+        site.direct_beam_conversion,
+        time,
+        surface.tilt,
+        surface.orientation,
+        surface.base_height,
+        surface.height,
+        surface.width,
+        reading.diffuse,
+        reading.direct,
+        reading.reflectivity,
+        shading.sectors.as_ptr(),
+        shading.sectors.len(),
+        shading.window.as_ptr(),
+        shading.window.len(),
+        results.as_mut_ptr(),
+        results.len(),
+    )
+}
+
+pub unsafe fn irradiance_by(
+    call: IrradianceCall,
+    site: &Site,
+    time: f64,
+    surface: &Surface,
+    reading: &Reading,
+    results: &mut [u8],
+) -> u64 {
+    call(
+        site.latitude,
+        site.longitude,
+        site.timezone,
+        site.start_day,
+        site.series_step,
+        site.leap_year,
+        site.direct_beam_conversion,
+        time,
+        surface.tilt,
+        surface.orientation,
+        surface.base_height,
+        surface.height,
+        surface.width,
+        reading.diffuse,
+        reading.direct,
+        reading.reflectivity,
+        results.as_mut_ptr(),
+        results.len(),
+    )
+}
+
+pub unsafe fn factor_by(
+    call: FactorCall,
+    altitude: f64,
+    azimuth: f64,
+    surface: &Surface,
+    shading: Shading,
+) -> FactorAnswer {
+    call(
+        altitude,
+        azimuth,
+        surface.tilt,
+        surface.orientation,
+        surface.base_height,
+        surface.height,
+        surface.width,
+        shading.sectors.as_ptr(),
+        shading.sectors.len(),
+        shading.window.as_ptr(),
+        shading.window.len(),
+    )
+}
