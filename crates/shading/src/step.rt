@@ -32,7 +32,7 @@ pub fn direct_shading_reduction_factor(
     if beam::outside_solar_beam(surface.tilt, surface.orientation, altitude, azimuth) {
         return FactorAnswer::Factor(1.0);
     }
-    match segments::get_segment(azimuth, sectors) {
+    match segments::get_segment_in_bytes(azimuth, sectors) {
         Place::At(i) => {
             let sun = factor::sun_on(surface, altitude, azimuth);
             let segment = records::segment_at(sectors, i);
