@@ -2,13 +2,13 @@
 use mathlib.Core.Path.{_≡_, refl, sym, ap, _∙_}
 use mathlib.Core.Bool.{Bool, true, false, not, _&&_, cond}
 use mathlib.Core.List.{List, [], _∷_}
-use Prim.Native.Nat.{ℕ, zero, suc, _+_, _-_, _≤_, _<_, zero-le}
-use native.Mathlib.Nat.{le-antisymm, le-of-suc-le-suc}
+use Prim.Native.Nat.{ℕ, zero, suc, _+_, _-_, _≤_, _<_, zero-le, suc-le-suc}
+use native.Mathlib.Nat.{le-antisymm, le-of-suc-le-suc, not-suc-le-zero}
 use native.Mathlib.Numerals.{add-one}
 use native.Mathlib.Omega.{arith}
 use borrow.Author.Tests.{ne-eqb}
 use lib.Dec.{eqb}
-use lib.ListN.{length, getD, drop}
+use lib.ListN.{length, getD, take, drop}
 use lib.Seq.{drop-cons, drop-length}
 use lib.Ieee.{Float, lt, ne}
 use Rattle.objects.specs.declared.sectors.ShadingSegment.{ShadingSegment}
@@ -40,7 +40,7 @@ pub record Looked (azimuth : Float) (l : List ShadingSegment) (i : ℕ) (w : Wal
   pub comes : Comes azimuth l w
   pub moved : i < w .next
 
-sector-there : (l : List ShadingSegment) (i : ℕ) (d : ShadingSegment) → i < length l → sectorAt l i ≡ found (getD l i d)
+pub sector-there : (l : List ShadingSegment) (i : ℕ) (d : ShadingSegment) → i < length l → sectorAt l i ≡ found (getD l i d)
 unfolding sectorAt
 sector-there [] i d h = absurd (omega (arith, h))
 sector-there (s ∷ rest) zero d h = refl
@@ -93,3 +93,17 @@ comes-next azimuth l w d c h =
 pub comes-last : (azimuth : Float) (l : List ShadingSegment) (w : Walk) → Comes azimuth l w → length l ≤ w .next
     → (segmentIn l (w .place) ≡ segmentOf azimuth l) × Within l (w .place)
 comes-last azimuth l w c h = (c .ended (le-antisymm (c .inside) h), c .within)
+
+-- the sector at a place of the first n
+pub sector-taken : (n i : ℕ) (l : List ShadingSegment) (d : ShadingSegment) → i < length (take n l) → sectorAt (take n l) i ≡ found (getD l i d)
+unfolding sectorAt
+sector-taken zero i l d h = absurd (not-suc-le-zero h)
+sector-taken (suc n) i [] d h = absurd (not-suc-le-zero h)
+sector-taken (suc n) zero (s ∷ rest) d h = refl
+sector-taken (suc n) (suc i) (s ∷ rest) d h = sector-taken n i rest d (le-of-suc-le-suc h)
+
+pub taken-within : (n i : ℕ) (l : List ShadingSegment) → i < length (take n l) → i < n
+taken-within zero i l h = absurd (not-suc-le-zero h)
+taken-within (suc n) i [] h = absurd (not-suc-le-zero h)
+taken-within (suc n) zero (s ∷ rest) h = omega arith
+taken-within (suc n) (suc i) (s ∷ rest) h = suc-le-suc (taken-within n i rest (le-of-suc-le-suc h))
