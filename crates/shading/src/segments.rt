@@ -58,20 +58,18 @@ fn look_at(azimuth: f64, n: usize, walk: Walk, sector: ShadingSegment) -> Walk
     ensures { λ r. ⌜ r ≡ lookAt azimuth n walk sector ⌝ }
 {
     let i = walk.next;
-    let start360 = sector.start360;
-    let end360 = sector.end360;
-    if (i != 0) & (walk.last != start360) {
+    if (i != 0) & (walk.last != sector.start360) {
         return stop_at(n, Place::Gap);
     }
-    if end360 < start360 {
+    if sector.end360 < sector.start360 {
         return stop_at(n, Place::Turned);
     }
-    if between_ends(azimuth, start360, end360) {
+    if between_ends(azimuth, sector.start360, sector.end360) {
         return stop_at(n, Place::At(i));
     }
     Walk {
         next: i + 1,
-        last: end360,
+        last: sector.end360,
         place: Place::NoSector,
     }
 }

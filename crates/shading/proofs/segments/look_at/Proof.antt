@@ -16,7 +16,7 @@ stop-at-requires-2 c κs = tt
 
 returns-2 : tie.Need-returns-2
 unfolding lookAt
-returns-2 c = rw (c .stop-at2 .ensures, c .before .before .if1 .left, c .before .if2 .taken)
+returns-2 c = rw (c .stop-at2 .ensures, c .before .before .before .if1 .left, c .before .if2 .taken)
 
 between-ends-requires : tie.Need-between-ends-requires
 between-ends-requires c κs = tt
@@ -26,14 +26,14 @@ stop-at-requires-3 c κs = tt
 
 returns-3 : tie.Need-returns-3
 unfolding lookAt holdsAzimuth
-returns-3 c = rw (c .stop-at3 .ensures, c .before .before .before .before .if1 .left, c .before .before .before .if2 .left, ← (c .before .before .between-ends .ensures), c .before .if3 .taken)
+returns-3 c = rw (c .stop-at3 .ensures, c .before .before .before .before .before .if1 .left, c .before .before .before .if2 .left, ← (c .before .before .between-ends .ensures), c .before .if3 .taken)
 
-add-t15 : tie.Need-add-t15
-add-t15 c = omega arith
+add-t13 : tie.Need-add-t13
+add-t13 c = omega arith
 
 returns-4 : tie.Need-returns-4
 unfolding lookAt holdsAzimuth
-returns-4 c = rw (c .before .before .before .if1 .left, c .before .before .if2 .left, ← (c .before .between-ends .ensures), c .if3 .left)
+returns-4 c = rw (c .before .before .before .before .if1 .left, c .before .before .if2 .left, ← (c .before .between-ends .ensures), c .if3 .left)
 
 pub look-at-spec : {M : Type 1} → statement M
 look-at-spec =
@@ -46,5 +46,5 @@ look-at-spec =
     between-ends-requires
     stop-at-requires-3
     returns-3
-    add-t15
+    add-t13
     returns-4)
