@@ -84,7 +84,7 @@ fn listed_factor(
     words::store_double(&mut window, 1, shade);
     words::store_double(&mut window, 2, distance);
     words::store_double(&mut window, 3, transparency);
-    shading::step::factor_call(altitude, azimuth, surface, &sectors, &window)
+    shading::step::factor_call_by_records(altitude, azimuth, surface, &sectors, &window)
 }
 
 // The answer to a line without its line feed.

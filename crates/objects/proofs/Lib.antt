@@ -4,4 +4,5 @@ pub mod RecordLists
 pub mod Accepted
 pub mod AcceptedWindow
 pub mod AcceptedSectors
+pub mod SectorTables
 pub mod SameRecords

@@ -2,12 +2,15 @@
 use mathlib.Core.Bool.{cond}
 use mathlib.Core.List.{List, [], _∷_}
 use Prim.Native.Nat.{ℕ, zero, suc, _+_, _*_, _/_}
-use lib.Dec.{eqb}
+use lib.Dec.{eqb, ltb}
+use lib.ListN.{replicate}
+use Rattle.doubles.specs.Arithmetic.{whole}
 use Rattle.words.specs.Words.{wordCount, wordAt, doubleAt}
 use Rattle.objects.specs.declared.sectors.ShadingObject.{ShadingObject}
 use Rattle.objects.specs.declared.sectors.ShadingObjectType.{ShadingObjectType}
 use Rattle.objects.specs.declared.sectors.ShadingObjectType.the-variants as distant
 use Rattle.objects.specs.declared.sectors.ShadingSegment.{ShadingSegment}
+use Rattle.objects.specs.declared.sectors.Sectors.{Sectors}
 use Rattle.objects.specs.declared.window.WindowShadingObject.{WindowShadingObject}
 use Rattle.objects.specs.declared.window.WindowShading.{WindowShading}
 use Rattle.objects.specs.declared.window.WindowShadingType.{WindowShadingType}
@@ -46,6 +49,23 @@ segmentAt l i =
 -- all whole records of a list, in order
 unfoldable pub sectorsOf : List ℕ → List ShadingSegment
 sectorsOf l = recordsFrom (segmentAt l) 0 (wordCount l / 27)
+
+-- what stands in a place that no sector has
+unfoldable pub noSegment : ShadingSegment
+noSegment = record {
+  start360 = whole 0;
+  end360 = whole 0;
+  count = 0;
+  «shading_objects» = replicate 8 (record { «object_type» = distant.Obstacle; height = whole 0; distance = whole 0 });
+}
+
+-- the first n sectors in 36 places
+unfoldable pub sectorPlaces : List ℕ → ℕ → List ShadingSegment
+sectorPlaces l n = recordsFrom (λ (i : ℕ). cond (ltb i n) (segmentAt l i) noSegment) 0 36
+
+-- the same as `sectorsOf`, where there are no more than 36
+unfoldable pub sectorTable : List ℕ → Sectors
+sectorTable l = record { count = wordCount l / 27; places = sectorPlaces l (wordCount l / 27) }
 
 -- ---- the window list
 

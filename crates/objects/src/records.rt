@@ -1,4 +1,5 @@
 // The records of the lent lists, read into structs by value.
+use crate::sectors::Sectors;
 use crate::sectors::ShadingObject;
 use crate::sectors::ShadingObjectType;
 use crate::sectors::ShadingSegment;
@@ -9,8 +10,9 @@ use words::double_at;
 use words::word_at;
 use words::word_count;
 ghost use mathlib.Core.Path.{_≡_};
-ghost use Prim.Native.Nat.{_<_};
-ghost use Rattle.objects.specs.Records.{distantKind, objectAt, segmentAt, windowKind, windowObjectAt, windowOf};
+ghost use Prim.Native.Nat.{_/_, _≤_, _<_};
+ghost use Rattle.words.specs.Words.{wordCount};
+ghost use Rattle.objects.specs.Records.{distantKind, objectAt, segmentAt, noSegment, sectorTable, windowKind, windowObjectAt, windowOf};
 
 fn distant_kind(kind: u64) -> ShadingObjectType
     ensures { λ r. ⌜ r ≡ distantKind kind ⌝ }
@@ -59,6 +61,43 @@ pub fn segment_at(bytes: &[u8], i: usize) -> ShadingSegment
         end360: end360,
         count: count,
         shading_objects: shading_objects,
+    }
+}
+
+// What stands in a place that no sector has.
+fn no_segment() -> ShadingSegment
+    ensures { λ r. ⌜ r ≡ noSegment ⌝ }
+{
+    let object = ShadingObject {
+        object_type: ShadingObjectType::Obstacle,
+        height: 0.0,
+        distance: 0.0,
+    };
+    let shading_objects = [object; 8];
+    ShadingSegment {
+        start360: 0.0,
+        end360: 0.0,
+        count: 0,
+        shading_objects: shading_objects,
+    }
+}
+
+// The sectors of a checked list, read once.
+pub fn sectors_of(bytes: &[u8]) -> Sectors
+    requires { ⌜ wordCount (now bytes) / 27 ≤ 36 ⌝ }
+    ensures { λ r. ⌜ r ≡ sectorTable (now (bytes .entry)) ⌝ }
+{
+    let n = word_count(bytes) / 27;
+    let none = no_segment();
+    let mut places = [none; 36];
+    let mut i: usize = 0;
+    while i < n {
+        places[i] = segment_at(bytes, i);
+        i += 1;
+    }
+    Sectors {
+        count: n as u64,
+        places: places,
     }
 }
 

@@ -2,6 +2,7 @@
 -- those of its parts; what they assume stands in `Comparison` of specs/. `Loops` and `Walks` are for the loops of the code.
 pub mod Loops
 pub mod Walks
+pub mod RecordWalks
 pub mod Steps
 pub mod Members
 pub mod Bounds

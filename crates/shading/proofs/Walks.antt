@@ -18,11 +18,11 @@ use Rattle.objects.specs.Records.{recordsFrom, segmentAt, sectorsOf}
 use Rattle.shading.specs.Comparison.{SameBounds, PlaceByPlace, none, and-then}
 
 -- the walk from a sector on, which may be the first
-walkAt : Float → Bool → Float → List ShadingSegment → Segment
+unfoldable pub walkAt : Float → Bool → Float → List ShadingSegment → Segment
 walkAt azimuth first last [] = noSector
 walkAt azimuth first last (s ∷ rest) = cond (not first && ne last (s .start360)) gap (visit azimuth s (walkFrom azimuth (s .end360) rest))
 
-later : (azimuth last : Float) (l : List ShadingSegment) → walkAt azimuth false last l ≡ walkFrom azimuth last l
+pub later : (azimuth last : Float) (l : List ShadingSegment) → walkAt azimuth false last l ≡ walkFrom azimuth last l
 unfolding walkAt walkFrom
 later azimuth last [] = refl
 later azimuth last (s ∷ rest) = refl

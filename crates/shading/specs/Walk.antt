@@ -1,7 +1,9 @@
 -- What the walk's code answers, as the walk over records has it: a place in the list stands for the sector there.
-use mathlib.Core.List.{List}
-use Prim.Native.Nat.{ℕ, _/_, _<_}
+use mathlib.Core.List.{List, [], _∷_}
+use Prim.Native.Nat.{ℕ, zero, suc, _/_, _<_}
+use lib.ListN.{length}
 use Rattle.words.specs.Words.{wordCount}
+use Rattle.objects.specs.declared.sectors.ShadingSegment.{ShadingSegment}
 use Rattle.shading.specs.declared.segments.Place.{Place}
 use Rattle.shading.specs.declared.segments.Place.the-variants as place
 use Rattle.shading.specs.Segments.{Segment, found, gap, turned, noSector}
@@ -19,3 +21,23 @@ InList l (place.At i) = i < wordCount l / 27
 InList l place.Gap = Unit {0}
 InList l place.Turned = Unit {0}
 InList l place.NoSector = Unit {0}
+
+-- ---- the same in a list of records
+
+unfoldable pub sectorAt : List ShadingSegment → ℕ → Segment
+sectorAt [] i = noSector
+sectorAt (s ∷ rest) zero = found s
+sectorAt (s ∷ rest) (suc i) = sectorAt rest i
+
+unfoldable pub segmentIn : List ShadingSegment → Place → Segment
+unfolding sectorAt
+segmentIn l (place.At i) = sectorAt l i
+segmentIn l place.Gap = gap
+segmentIn l place.Turned = turned
+segmentIn l place.NoSector = noSector
+
+abbrev pub Within : List ShadingSegment → Place → Type 0
+Within l (place.At i) = i < length l
+Within l place.Gap = Unit {0}
+Within l place.Turned = Unit {0}
+Within l place.NoSector = Unit {0}

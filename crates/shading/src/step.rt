@@ -2,7 +2,7 @@
 ghost use mathlib.Core.Path.{_≡_};
 ghost use Prim.Native.Nat.{_/_, _≤_};
 ghost use Rattle.words.specs.Words.{wordCount};
-ghost use Rattle.objects.specs.Objects.{placed};
+ghost use Rattle.objects.specs.Objects.{listed, placed};
 ghost use Rattle.shading.specs.Factor.{shadingFactor};
 ghost use Rattle.shading.specs.Call.{sunFine};
 ghost use Rattle.shading.specs.Call.{factorCall};
@@ -15,6 +15,7 @@ use objects::answers::FactorAnswer;
 use objects::answers::Refusal;
 use objects::checks;
 use objects::records;
+use objects::sectors::Sectors;
 use objects::surface::Surface;
 use objects::window::WindowShading;
 
@@ -32,10 +33,38 @@ pub fn direct_shading_reduction_factor(
     if beam::outside_solar_beam(surface.tilt, surface.orientation, altitude, azimuth) {
         return FactorAnswer::Factor(1.0);
     }
-    match segments::get_segment(azimuth, sectors) {
+    match segments::get_segment_in_bytes(azimuth, sectors) {
         Place::At(i) => {
             let sun = factor::sun_on(surface, altitude, azimuth);
             let segment = records::segment_at(sectors, i);
+            factor::factor_in(surface, sun, segment, window)
+        }
+        Place::Gap => FactorAnswer::Refused(Refusal::Gap),
+        Place::Turned => FactorAnswer::Refused(Refusal::Turned),
+        Place::NoSector => FactorAnswer::Refused(Refusal::NoSector),
+    }
+}
+
+// The same for sectors that are records, by the walk along their slice.
+pub fn factor_among(
+    surface: Surface,
+    altitude: f64,
+    azimuth: f64,
+    sectors: Sectors,
+    window: WindowShading,
+) -> FactorAnswer
+    requires { ⌜ sectors .count ≤ 36 ⌝ }
+    ensures { λ r. ⌜ r ≡ shadingFactor surface altitude azimuth (listed sectors) (placed window) ⌝ }
+{
+    if beam::outside_solar_beam(surface.tilt, surface.orientation, altitude, azimuth) {
+        return FactorAnswer::Factor(1.0);
+    }
+    let places = sectors.places;
+    let n = sectors.count as usize;
+    match segments::segment_in(azimuth, places, n) {
+        Place::At(i) => {
+            let sun = factor::sun_on(surface, altitude, azimuth);
+            let segment = places[i];
             factor::factor_in(surface, sun, segment, window)
         }
         Place::Gap => FactorAnswer::Refused(Refusal::Gap),
@@ -64,6 +93,27 @@ pub fn factor_call(
         if checks::sectors_fine(sectors) & checks::window_fine(window) {
             let objects = records::window_of(window);
             return direct_shading_reduction_factor(surface, altitude, azimuth, sectors, objects);
+        }
+        return FactorAnswer::Refused(Refusal::Object);
+    }
+    FactorAnswer::Refused(Refusal::Surface)
+}
+
+// The same, by the walk along records: the sectors are read once, into a table.
+pub fn factor_call_by_records(
+    altitude: f64,
+    azimuth: f64,
+    surface: Surface,
+    sectors: &[u8],
+    window: &[u8],
+) -> FactorAnswer
+    ensures { λ r. ⌜ r ≡ factorCall altitude azimuth surface (now (sectors .entry)) (now (window .entry)) ⌝ }
+{
+    if sun_fine(altitude, azimuth) & checks::surface_fine(surface) {
+        if checks::sectors_fine(sectors) & checks::window_fine(window) {
+            let table = records::sectors_of(sectors);
+            let objects = records::window_of(window);
+            return factor_among(surface, altitude, azimuth, table, objects);
         }
         return FactorAnswer::Refused(Refusal::Object);
     }

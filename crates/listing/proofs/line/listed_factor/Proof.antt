@@ -33,20 +33,20 @@ slice-aggregate-store-double-4 c = search needs
 store-double-requires-4 : tie.Need-store-double-requires-4
 store-double-requires-4 c κs = search needs
 
-slice-aggregate-factor-call : tie.Need-slice-aggregate-factor-call
-slice-aggregate-factor-call c = search needs
+slice-aggregate-factor-call-by-records : tie.Need-slice-aggregate-factor-call-by-records
+slice-aggregate-factor-call-by-records c = search needs
 
-slice-aggregate-factor-call-2 : tie.Need-slice-aggregate-factor-call-2
-slice-aggregate-factor-call-2 c = search needs
+slice-aggregate-factor-call-by-records-2 : tie.Need-slice-aggregate-factor-call-by-records-2
+slice-aggregate-factor-call-by-records-2 c = search needs
 
-factor-call-requires : tie.Need-factor-call-requires
-factor-call-requires c κs = search needs
+factor-call-by-records-requires : tie.Need-factor-call-by-records-requires
+factor-call-by-records-requires c κs = search needs
 
 returns : tie.Need-returns
 unfolding wholeHorizon oneObstacle whole ofBits
 returns c =
     let a = c .before .before .before .before .before .before .before .before .before .before .before .before .before .before .before .args in
-    c .factor-call .ensures
+    c .factor-call-by-records .ensures
     ∙ ap₂ (factorCall (a .altitude) (a .azimuth) (a .surface))
     (c .before .before .before .before .before .before .before .before .before .before .before .before .before .store-double .ensures)
     (c .before .before .before .before .store-double4 .ensures
@@ -64,7 +64,7 @@ listed-factor-spec =
     store-double-requires-3
     slice-aggregate-store-double-4
     store-double-requires-4
-    slice-aggregate-factor-call
-    slice-aggregate-factor-call-2
-    factor-call-requires
+    slice-aggregate-factor-call-by-records
+    slice-aggregate-factor-call-by-records-2
+    factor-call-by-records-requires
     returns)

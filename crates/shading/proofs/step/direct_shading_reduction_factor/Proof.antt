@@ -16,8 +16,8 @@ returns : tie.Need-returns
 unfolding shadingFactor ofBits
 returns c = rw (← (c .before .outside-solar-beam .ensures), c .if1 .taken)
 
-get-segment-requires : tie.Need-get-segment-requires
-get-segment-requires c κs = search needs
+get-segment-in-bytes-requires : tie.Need-get-segment-in-bytes-requires
+get-segment-in-bytes-requires c κs = search needs
 
 enum-known-i : tie.Need-enum-known-i
 enum-known-i c = search needs
@@ -28,7 +28,7 @@ sun-on-requires c κs = search needs
 segment-at-requires : tie.Need-segment-at-requires
 segment-at-requires c κs =
     let s = c .before .before .before .before .before .before .before .before .args .sectors .now in
-    let there : c .before .before .i .given .0 .0 < wordCount s / 27 = subst (InList s) (c .before .before .i .given .1) (c .before .before .before .before .get-segment .ensures .1) in
+    let there : c .before .before .i .given .0 .0 < wordCount s / 27 = subst (InList s) (c .before .before .i .given .1) (c .before .before .before .before .get-segment-in-bytes .ensures .1) in
     omega (arith, c .before .before .before .before .before .before .before .before .pre)
 
 factor-in-requires : tie.Need-factor-in-requires
@@ -49,7 +49,7 @@ returns-2 c =
     rw (
       ← (c .before .before .before .before .before .before .before .before .outside-solar-beam .ensures),
       c .before .before .before .before .before .before .before .if1 .left,
-      ← (c .before .before .before .before .before .before .get-segment .ensures .0),
+      ← (c .before .before .before .before .before .before .get-segment-in-bytes .ensures .0),
       c .before .before .before .before .i .given .1,
       c .factor-in .ensures,
       c .before .before .sun-on .ensures,
@@ -58,15 +58,15 @@ returns-2 c =
 
 returns-3 : tie.Need-returns-3
 unfolding shadingFactor factorIn segmentFor
-returns-3 c = rw (← (c .before .before .before .before .outside-solar-beam .ensures), c .before .before .before .if1 .left, ← (c .before .before .get-segment .ensures .0), c .enum-told .given .1)
+returns-3 c = rw (← (c .before .before .before .before .outside-solar-beam .ensures), c .before .before .before .if1 .left, ← (c .before .before .get-segment-in-bytes .ensures .0), c .enum-told .given .1)
 
 returns-4 : tie.Need-returns-4
 unfolding shadingFactor factorIn segmentFor
-returns-4 c = rw (← (c .before .before .before .before .outside-solar-beam .ensures), c .before .before .before .if1 .left, ← (c .before .before .get-segment .ensures .0), c .enum-told2 .given .1)
+returns-4 c = rw (← (c .before .before .before .before .outside-solar-beam .ensures), c .before .before .before .if1 .left, ← (c .before .before .get-segment-in-bytes .ensures .0), c .enum-told2 .given .1)
 
 returns-5 : tie.Need-returns-5
 unfolding shadingFactor factorIn segmentFor
-returns-5 c = rw (← (c .before .before .before .before .outside-solar-beam .ensures), c .before .before .before .if1 .left, ← (c .before .before .get-segment .ensures .0), c .enum-told3 .given .1)
+returns-5 c = rw (← (c .before .before .before .before .outside-solar-beam .ensures), c .before .before .before .if1 .left, ← (c .before .before .get-segment-in-bytes .ensures .0), c .enum-told3 .given .1)
 
 pub direct-shading-reduction-factor-spec : {M : Type 1} → statement M
 direct-shading-reduction-factor-spec =
@@ -74,7 +74,7 @@ direct-shading-reduction-factor-spec =
     (tie.spec
     outside-solar-beam-requires
     returns
-    get-segment-requires
+    get-segment-in-bytes-requires
     enum-known-i
     sun-on-requires
     segment-at-requires
