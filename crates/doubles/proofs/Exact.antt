@@ -1,5 +1,5 @@
 -- Where an operation rounds nothing: a double is the rounding of its own value, adding or taking away a zero leaves it as it is,
--- and x / x is 1. Assumes nothing.
+-- so does 1 as a factor, and x / x is 1. Assumes nothing.
 use mathlib.Core.Path.{_≡_, refl, sym, ap, _∙_, subst}
 use mathlib.Core.Logic.{_⊎_, inl, inr}
 use mathlib.Core.Bool.{Bool, true, false, not, _&&_, _||_, Bool·beq, cond}
@@ -158,6 +158,20 @@ add-zero-same {x} {z} f n h = add-zero-all x z (f .holds) (n .holds) (h .holds)
 pub sub-zero-same : {x z : Float} → Fits x → NonZero x → Zero z → x ⊖ z ≡ x
 unfolding sub
 sub-zero-same {x} {z} f n h = add-zero-all x (neg z) (f .holds) (n .holds) (neg-zero z (h .holds))
+
+-- ---- a product with 1
+
+-- 1 times a double is that double, bit for bit
+pub one-times : {x : Float} → Fits x → whole 1 ⊗ x ≡ x
+unfolding mul whole
+one-times {x} f = go x (f .holds)
+  where
+    go : (x : Float) → T (fits binary64 x) → whole 1 ⊗ x ≡ x
+    go nan f = refl
+    go (inf true) f = refl
+    go (inf false) f = refl
+    go (fin true m e) f = rw (one-mul (m * up e), one-mul (down e)) (round-own true m e f)
+    go (fin false m e) f = rw (one-mul (m * up e), one-mul (down e)) (round-own false m e f)
 
 -- ---- a quotient of equals
 

@@ -44,7 +44,7 @@ use Rattle.jobs.specs.Checks.{siteFine, hoursInYear, atAll, indexFine, r
 use Rattle.jobs.specs.Step.{sunAt, shadingAt, rowWith, stepWith, stepAt}
 use Rattle.jobs.specs.Run.{numberFor, onRow, runFrom, runChecked, runOf}
 use Rattle.jobs.specs.Comparison.{factorAt, countOf, SameSeries, Alike, sectorCount, BoundedAlike, triple, sectorObjects, windowObjects, HoldsAll, NoNan, Doubles, IsAccepted, Comparable}
-use Rattle.jobs.proofs.ObjectLists.{found-has}
+use Rattle.shading.proofs.Walks.{found-has}
 use Rattle.jobs.proofs.TwoJobs.{two-jobs-compared}
 
 -- ---- the jobs

@@ -8,7 +8,7 @@ use Prim.Native.Nat.{ℕ, zero, suc, _+_, _*_, _/_, _≤_, _<_}
 use native.Mathlib.Omega.{arith}
 use lib.Dec.{T, leb, leb→le}
 use lib.ListN.{length, getD, take}
-use lib.Ieee.{Float, binary64, ofBits, lt, ne}
+use lib.Ieee.{Float, binary64, ofBits}
 use lib.Ieee.Fits.{and-l, and-r}
 use Rattle.doubles.specs.Arithmetic.{whole}
 use Rattle.words.specs.Words.{wordCount, wordAt, doubleAt}
@@ -16,7 +16,6 @@ use Rattle.objects.specs.declared.sectors.ShadingObject.{ShadingObject}
 use Rattle.objects.specs.declared.sectors.ShadingSegment.{ShadingSegment}
 use Rattle.objects.specs.declared.window.WindowShadingObject.{WindowShadingObject}
 use Rattle.objects.specs.Checks.{within, firstFine, tripleFine, boundsFine, sectorRecordFine, sectorsFine}
-use Rattle.shading.specs.Segments.{Segment, found, gap, turned, noSector, holdsAzimuth, visit, walkFrom, segmentOf}
 use Rattle.objects.specs.Objects.{counted}
 use Rattle.objects.specs.Records.{recordsFrom, distantKind, objectAt, objectsFrom, segmentAt, sectorsOf, windowKind, windowObjectAt, windowObjectsOf}
 use Rattle.shading.specs.Comparison.{Holds, SameBounds, PlaceByPlace, none, and-then, MoreInSector, SameInSector}
@@ -164,41 +163,3 @@ no-counted l i e = ap (λ (n : ℕ). take n (objectsFrom l (27 * i + 3) 8)) (no-
 pub none-counted : (l : List ℕ) → ((i : ℕ) → i < sectorCount l → sectorObjects l i ≡ []) → (s : ShadingSegment) → List·Memᴰ s (sectorsOf l) → counted s ≡ []
 unfolding sectorsOf sectorCount
 none-counted l h = member-records (segmentAt l) (λ (s : ShadingSegment). counted s ≡ []) (wordCount l / 27) 0 (λ i k. no-counted l i (h i (omega arith)))
-
--- ---- the sector that the walk finds is one of the list
-
-abbrev IfFound : (ShadingSegment → Type 0) → Segment → Type 0
-IfFound P (found s) = P s
-IfFound P gap = Unit {0}
-IfFound P turned = Unit {0}
-IfFound P noSector = Unit {0}
-
-module _ (P : ShadingSegment → Type 0) (azimuth : Float) where
-  visit-has : (s : ShadingSegment) (rest : Segment) → P s → IfFound P rest → IfFound P (visit azimuth s rest)
-  unfolding visit
-  visit-has s rest p r = go (lt (s .end360) (s .start360)) (holdsAzimuth azimuth s)
-    where
-      go : (b c : Bool) → IfFound P (cond b turned (cond c (found s) rest))
-      go true c = tt
-      go false true = p
-      go false false = r
-
-  walk-has : (last : Float) (ss : List ShadingSegment) → ((s : ShadingSegment) → List·Memᴰ s ss → P s) → IfFound P (walkFrom azimuth last ss)
-  unfolding walkFrom
-  walk-has last [] h = tt
-  walk-has last (s ∷ ss) h =
-      go (ne last (s .start360)) (visit azimuth s (walkFrom azimuth (s .end360) ss))
-      (visit-has s (walkFrom azimuth (s .end360) ss) (h s (List·Memᴰ·head refl)) (walk-has (s .end360) ss (λ t m. h t (List·Memᴰ·tail m))))
-    where
-      go : (b : Bool) (rest : Segment) → IfFound P rest → IfFound P (cond b gap rest)
-      go true rest r = tt
-      go false rest r = r
-
-  segment-has : (ss : List ShadingSegment) → ((s : ShadingSegment) → List·Memᴰ s ss → P s) → IfFound P (segmentOf azimuth ss)
-  unfolding segmentOf
-  segment-has [] h = tt
-  segment-has (s ∷ ss) h = visit-has s (walkFrom azimuth (s .end360) ss) (h s (List·Memᴰ·head refl)) (walk-has (s .end360) ss (λ t m. h t (List·Memᴰ·tail m)))
-
-  -- what holds of every sector of a list holds of the one that is found
-  pub found-has : (ss : List ShadingSegment) → ((s : ShadingSegment) → List·Memᴰ s ss → P s) → (s : ShadingSegment) → segmentOf azimuth ss ≡ found s → P s
-  found-has ss h s e = subst (IfFound P) e (segment-has ss h)

@@ -13,19 +13,7 @@ use Rattle.doubles.proofs.Order.{le-refl, le-trans, finite-number}
 use Rattle.doubles.proofs.Monotone.{add-mono, mul-mono}
 use Rattle.doubles.proofs.Bounds.{zero-number, finite-zero, add-nonneg-number, add-nonneg, mul-number, mul-nonneg, zero-le-one}
 use Rattle.doubles.proofs.Differences.{between-finite}
-use Rattle.doubles.proofs.Exact.{round-own}
-
--- 1 times a double is that double, bit for bit
-pub one-times : {x : Float} → Fits x → whole 1 ⊗ x ≡ x
-unfolding mul whole
-one-times {x} f = go x (f .holds)
-  where
-    go : (x : Float) → T (fits binary64 x) → whole 1 ⊗ x ≡ x
-    go nan f = refl
-    go (inf true) f = refl
-    go (inf false) f = refl
-    go (fin true m e) f = rw (one-mul (m * up e), one-mul (down e)) (round-own true m e f)
-    go (fin false m e) f = rw (one-mul (m * up e), one-mul (down e)) (round-own false m e f)
+use Rattle.doubles.proofs.Exact.{one-times}
 
 -- ---- sums
 

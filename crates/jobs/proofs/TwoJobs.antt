@@ -29,8 +29,10 @@ use Rattle.jobs.specs.Comparison.{factorAt, directAt, countOf, sumOf, un
 use Rattle.jobs.proofs.StepRows.{StepRow, step-row, row-fits, row-direct-nonneg}
 use Rattle.jobs.proofs.PassedChecks.{diffuse-nonneg, surface-accepted, near-accepted}
 use Rattle.jobs.proofs.RunLaws.{rowAt, sumTo, done, AcceptedRun, accepted-run, done-rows}
-use Rattle.jobs.proofs.Sums.{total, total-same, total-nonneg, total-mono, one-times, Part, Amount, part-nonneg, part-mono, part-le}
-use Rattle.jobs.proofs.ObjectLists.{more-in-sectors, same-in-sectors, window-holds, no-window, none-counted, found-has}
+use Rattle.doubles.proofs.Exact.{one-times}
+use Rattle.jobs.proofs.Sums.{total, total-same, total-nonneg, total-mono, Part, Amount, part-nonneg, part-mono, part-le}
+use Rattle.jobs.proofs.ObjectLists.{more-in-sectors, same-in-sectors, window-holds, no-window, none-counted}
+use Rattle.shading.proofs.Walks.{found-has}
 
 -- ---- what an accepted run leaves
 

@@ -1,8 +1,9 @@
 -- The walk's loop, one sector after the other: what is left of the list comes to the same as the whole. And two walks along sectors
--- that start and end alike end alike, stated of any relation of sectors that says no less than that. Assumes nothing.
-use mathlib.Core.Path.{_≡_, refl, sym, ap, _∙_}
+-- that start and end alike end alike, stated of any relation of sectors that says no less than that. What holds of every sector
+-- holds of the one that is found. Assumes nothing.
+use mathlib.Core.Path.{_≡_, refl, sym, ap, _∙_, subst}
 use mathlib.Core.Bool.{Bool, true, false, not, _&&_, cond}
-use mathlib.Core.List.{List, [], _∷_}
+use mathlib.Core.List.{List, [], _∷_, List·Memᴰ, List·Memᴰ·head, List·Memᴰ·tail}
 use Prim.Native.Nat.{ℕ, suc, _+_, _-_, _*_, _/_, _<_}
 use native.Mathlib.Nat.{sub-self, sub-zero}
 use native.Mathlib.Numerals.{add-one}
@@ -128,3 +129,41 @@ module _ (R : ShadingSegment → ShadingSegment → Type 0) (bounds : (s t : Sha
   segment-alike azimuth none = both-none
   segment-alike azimuth (and-then {s} {t} {ss} {ts} r p) =
       visit-alike azimuth s t r (walk-alike azimuth (s .end360) (t .end360) (bounds s t r .ends) p)
+
+-- ---- the sector that the walk finds is one of the list
+
+abbrev IfFound : (ShadingSegment → Type 0) → Segment → Type 0
+IfFound P (found s) = P s
+IfFound P gap = Unit {0}
+IfFound P turned = Unit {0}
+IfFound P noSector = Unit {0}
+
+module _ (P : ShadingSegment → Type 0) (azimuth : Float) where
+  visit-has : (s : ShadingSegment) (rest : Segment) → P s → IfFound P rest → IfFound P (visit azimuth s rest)
+  unfolding visit
+  visit-has s rest p r = go (lt (s .end360) (s .start360)) (holdsAzimuth azimuth s)
+    where
+      go : (b c : Bool) → IfFound P (cond b turned (cond c (found s) rest))
+      go true c = tt
+      go false true = p
+      go false false = r
+
+  walk-has : (last : Float) (ss : List ShadingSegment) → ((s : ShadingSegment) → List·Memᴰ s ss → P s) → IfFound P (walkFrom azimuth last ss)
+  unfolding walkFrom
+  walk-has last [] h = tt
+  walk-has last (s ∷ ss) h =
+      go (ne last (s .start360)) (visit azimuth s (walkFrom azimuth (s .end360) ss))
+      (visit-has s (walkFrom azimuth (s .end360) ss) (h s (List·Memᴰ·head refl)) (walk-has (s .end360) ss (λ t m. h t (List·Memᴰ·tail m))))
+    where
+      go : (b : Bool) (rest : Segment) → IfFound P rest → IfFound P (cond b gap rest)
+      go true rest r = tt
+      go false rest r = r
+
+  segment-has : (ss : List ShadingSegment) → ((s : ShadingSegment) → List·Memᴰ s ss → P s) → IfFound P (segmentOf azimuth ss)
+  unfolding segmentOf
+  segment-has [] h = tt
+  segment-has (s ∷ ss) h = visit-has s (walkFrom azimuth (s .end360) ss) (h s (List·Memᴰ·head refl)) (walk-has (s .end360) ss (λ t m. h t (List·Memᴰ·tail m)))
+
+  -- what holds of every sector of a list holds of the one that is found
+  pub found-has : (ss : List ShadingSegment) → ((s : ShadingSegment) → List·Memᴰ s ss → P s) → (s : ShadingSegment) → segmentOf azimuth ss ≡ found s → P s
+  found-has ss h s e = subst (IfFound P) e (segment-has ss h)
