@@ -3,7 +3,9 @@
 ghost use mathlib.Core.Path.{_≡_};
 ghost use Rattle.angles.specs.Sine.{remainder, sineSum, cosineSum, clamp, sine, cosine, tangent};
 ghost use Rattle.angles.specs.Reduction.{Reduces, Expands};
-ghost use Rattle.angles.specs.Arcsine.{arcsineSeries, arcsine, arccosine};
+ghost use Rattle.doubles.specs.Arithmetic.{whole};
+ghost use Rattle.angles.specs.Series.{down};
+ghost use Rattle.angles.specs.Arcsine.{arcsineStep, arcsineSeries, arcsine, arccosine};
 ghost use Rattle.angles.specs.ArcsineParts.{magnitude, seriesArgument, upwardBy, arcsineBy};
 ghost use Rattle.angles.specs.Power.{logarithmOf, powerOf, powMinus1253};
 
@@ -218,18 +220,17 @@ fn arcsine_series(a: f64) -> f64
     a * h
 }
 
-// Two arguments' series.
+// Two numbers at once.
 struct Both {
     first: f64,
     second: f64,
 }
 
-// Step by step in pairs, so that two divisions go at once and both series cost little more than one.
-fn arcsine_series_both(a: f64, b: f64) -> Both
-    ensures { λ r. ⌜ (r .first ≡ arcsineSeries a) × (r .second ≡ arcsineSeries b) ⌝ }
+// The series of two arguments with squares t and u, step by step in pairs, so that two divisions go at once and both cost little more
+// than one. Steps 24 to 13.
+fn first_steps_both(t: f64, u: f64) -> Both
+    ensures { λ r. ⌜ (down (arcsineStep t) 12 (r .first) ≡ down (arcsineStep t) 24 (whole 1)) × (down (arcsineStep u) 12 (r .second) ≡ down (arcsineStep u) 24 (whole 1)) ⌝ }
 {
-    let t = a * a;
-    let u = b * b;
     let h = 1.0;
     let k = 1.0;
     let h = 1.0 + t * 2209.0 / 2352.0 * h;
@@ -256,6 +257,16 @@ fn arcsine_series_both(a: f64, b: f64) -> Both
     let k = 1.0 + u * 729.0 / 812.0 * k;
     let h = 1.0 + t * 625.0 / 702.0 * h;
     let k = 1.0 + u * 625.0 / 702.0 * k;
+    Both {
+        first: h,
+        second: k,
+    }
+}
+
+// Steps 12 to 1.
+fn last_steps_both(t: f64, u: f64, h: f64, k: f64) -> Both
+    ensures { λ r. ⌜ (r .first ≡ down (arcsineStep t) 12 h) × (r .second ≡ down (arcsineStep u) 12 k) ⌝ }
+{
     let h = 1.0 + t * 529.0 / 600.0 * h;
     let k = 1.0 + u * 529.0 / 600.0 * k;
     let h = 1.0 + t * 441.0 / 506.0 * h;
@@ -281,8 +292,21 @@ fn arcsine_series_both(a: f64, b: f64) -> Both
     let h = 1.0 + t * 1.0 / 6.0 * h;
     let k = 1.0 + u * 1.0 / 6.0 * k;
     Both {
-        first: a * h,
-        second: b * k,
+        first: h,
+        second: k,
+    }
+}
+
+fn arcsine_series_both(a: f64, b: f64) -> Both
+    ensures { λ r. ⌜ (r .first ≡ arcsineSeries a) × (r .second ≡ arcsineSeries b) ⌝ }
+{
+    let t = a * a;
+    let u = b * b;
+    let begun = first_steps_both(t, u);
+    let ended = last_steps_both(t, u, begun.first, begun.second);
+    Both {
+        first: a * ended.first,
+        second: b * ended.second,
     }
 }
 
