@@ -60,6 +60,15 @@ unfoldable pub fromHere : Reading → List ℕ → List ℕ
 fromHere r [] = lastPrinted (r .stage) (r .held)
 fromHere r (b ∷ rest) = cond (eqb b 10) (printed (r .stage) (r .held) ++ fromHere (lineOver r) rest) (fromHere (withPart r (b ∷ [])) rest)
 
+-- a piece of the text, byte by byte: where the reading stands after it, and what the lines print that end in it
+unfoldable pub readOn : Reading → List ℕ → Reading
+readOn r [] = r
+readOn r (b ∷ rest) = cond (eqb b 10) (readOn (lineOver r) rest) (readOn (withPart r (b ∷ [])) rest)
+
+unfoldable pub printedOn : Reading → List ℕ → List ℕ
+printedOn r [] = []
+printedOn r (b ∷ rest) = cond (eqb b 10) (printed (r .stage) (r .held) ++ printedOn (lineOver r) rest) (printedOn (withPart r (b ∷ [])) rest)
+
 -- ---- the code's records
 
 -- a reader stands for a reading: the first `count` bytes of its line are kept

@@ -1,12 +1,10 @@
 // Answers a shade listing: lines with ten values on standard input, lines with a number and a factor on standard output.
 use listing::output::put;
-use listing::parts::line_end;
 use listing::reader::Reader;
 use listing::reader::Stage;
+use listing::reader::answer_piece;
 use listing::reader::input_over;
-use listing::reader::line_over;
 use listing::reader::line_start;
-use listing::reader::with_part;
 
 // The reader after a piece of the input, and whether to go on.
 struct Progress {
@@ -22,26 +20,15 @@ fn write_out(bytes: &[u8]) -> bool {
     written
 }
 
-// Answers the lines that end in a piece. A piece of 2,048 bytes has at most as many lines, each answered by at most 19 bytes, so
-// that there is room for all answers.
-fn answer_piece(reader: Reader, piece: &[u8]) -> Progress {
+// Prints what the lines print that end in a piece. A piece of 2,048 bytes has at most as many lines, each answered by at most 19 bytes,
+// so that there is room for all answers.
+fn print_answers(reader: Reader, piece: &[u8]) -> Progress {
     let mut out = io::large_buffer();
-    let mut current = reader;
-    let mut used = 0;
-    let mut at = 0;
-    while at < piece.len() {
-        let end = line_end(piece, at);
-        current = with_part(current, &piece[at..end]);
-        at = end;
-        if end < piece.len() {
-            let turn = line_over(current);
-            current = turn.reader;
-            used = put(&mut out, used, turn.output);
-            at = end + 1;
-        }
-    }
+    let answered = answer_piece(reader, piece, &mut out, 0);
+    let after = answered.reader;
+    let used = answered.used;
     Progress {
-        reader: current,
+        reader: after,
         going: write_out(&out[..used]),
     }
 }
@@ -60,7 +47,7 @@ fn read_piece(reader: Reader) -> Progress {
         };
     }
     let n = io::count(got, &piece);
-    answer_piece(reader, &piece[..n])
+    print_answers(reader, &piece[..n])
 }
 
 // Nothing says that the input ends, so the loop counts its turns down from a number that no run uses up.
