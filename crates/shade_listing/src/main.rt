@@ -1,4 +1,8 @@
 // Answers a shade listing: lines with ten values on standard input, lines with a number and a factor on standard output.
+ghost use mathlib.Core.Path.{_≡_};
+ghost use mathlib.Core.Bool.{false};
+ghost use mathlib.Core.List.{[]};
+ghost use Rattle.listing.specs.Reading.{lastPrinted, readingOf};
 use listing::output::put;
 use listing::reader::Reader;
 use listing::reader::Stage;
@@ -20,6 +24,16 @@ fn write_out(bytes: &[u8]) -> bool {
     written
 }
 
+// A read or a write has failed: the listing is over. What was read of the last line may be cut short, and is not answered.
+fn given_up() -> Progress
+    ensures { λ r. ⌜ (lastPrinted (r .reader .stage) (readingOf (r .reader) .held) ≡ []) × (r .going ≡ false) ⌝ }
+{
+    Progress {
+        reader: line_start(Stage::Over),
+        going: false,
+    }
+}
+
 // Prints what the lines print that end in a piece. A piece of 2,048 bytes has at most as many lines, each answered by at most 19 bytes,
 // so that there is room for all answers.
 fn print_answers(reader: Reader, piece: &[u8]) -> Progress {
@@ -27,9 +41,12 @@ fn print_answers(reader: Reader, piece: &[u8]) -> Progress {
     let answered = answer_piece(reader, piece, &mut out, 0);
     let after = answered.reader;
     let used = answered.used;
+    if !write_out(&out[..used]) {
+        return given_up();
+    }
     Progress {
         reader: after,
-        going: write_out(&out[..used]),
+        going: true,
     }
 }
 
@@ -39,8 +56,9 @@ fn read_piece(reader: Reader) -> Progress {
     let got = libc::read(libc::STDIN_FILENO, &mut piece);
     if got < 0 {
         os::fail(b"standard input");
+        return given_up();
     }
-    if got <= 0 {
+    if got == 0 {
         return Progress {
             reader: reader,
             going: false,

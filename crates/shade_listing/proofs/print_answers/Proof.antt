@@ -29,8 +29,14 @@ slice-aggregate-write-out c =
 write-out-requires : tie.Need-write-out-requires
 write-out-requires c κs = tt
 
+given-up-requires : tie.Need-given-up-requires
+given-up-requires c κs = tt
+
 returns : tie.Need-returns
 returns c = tt
+
+returns-2 : tie.Need-returns-2
+returns-2 c = tt
 
 pub print-answers-spec : {M : Type 1} → statement M
 print-answers-spec =
@@ -42,4 +48,6 @@ print-answers-spec =
     array-share-prefix-out
     slice-aggregate-write-out
     write-out-requires
-    returns)
+    given-up-requires
+    returns
+    returns-2)
