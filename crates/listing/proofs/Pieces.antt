@@ -62,7 +62,7 @@ module _ (d : List ℕ) (at : ℕ) (p : List ℕ) where
   pub unchanged : length d ≤ at → d ≡ filled d at p
   unchanged h = paste-zero d at p ∙ ap (paste d at p) (sym (none-moved h))
 
-  -- the list stays as long as it was, and no more of it is used than there is
+  -- the list stays as long as it was
   pub length-filled : length (filled d at p) ≡ length d
   length-filled = go (leb at (length d)) refl
     where
@@ -74,11 +74,8 @@ module _ (d : List ℕ) (at : ℕ) (p : List ℕ) where
           length-paste d at p (moved d at p) few fits
       go false e = let h = leb-false at (length d) e in ap length (sym (unchanged (omega (arith, h))))
 
-  pub as-long : (l : List ℕ) → l ≡ filled d at p → length l ≡ length d
+  as-long : (l : List ℕ) → l ≡ filled d at p → length l ≡ length d
   as-long l e = ap length e ∙ length-filled
-
-  pub used-within : (n : ℕ) → n ≡ usedAfter d at p → at ≤ length d → n ≤ length d
-  used-within n e h = omega (arith, e, h)
 
   -- so many bytes can be lent of the list
   pub used-length : (n : ℕ) (l : List ℕ) → n ≡ usedAfter d at p → l ≡ filled d at p → at ≤ length d → n ≡ length (take n l)

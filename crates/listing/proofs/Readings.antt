@@ -14,7 +14,7 @@ use Rattle.listing.specs.declared.reader.Stage.the-variants.{Names, Valu
 use Rattle.objects.specs.declared.answers.FactorAnswer.the-variants.{Refused}
 use Rattle.objects.specs.declared.answers.Refusal.the-variants as refusal
 use Rattle.listing.specs.Text.{ascii, sameText, lastLine, linesFrom, linesOf}
-use Rattle.listing.specs.Line.{lineAnswer, outputLine}
+use Rattle.listing.specs.Line.{outputLine}
 use Rattle.listing.specs.Listing.{names, header, answered, body, listingOf}
 use Rattle.listing.proofs.Cuts.{take-again, cut-answer, cut-names}
 use Rattle.listing.specs.Reading.{Reading, lineStart, withPart, printed, after, lineOver, lastPrinted, fromHere, readOn, printedOn}
@@ -131,10 +131,6 @@ pub part-read : {A : Type 0} {f : Reading → List ℕ → A} → Passes f → (
 part-read {A} {f} 𝓟 r rest h none = ap (λ (q : Reading). f q rest) (sym (nothing-more r h))
 part-read {A} {f} 𝓟 r rest h (and-then {b} {l} k u) =
     𝓟 .past r b (l ++ rest) k ∙ part-read 𝓟 (withPart r (b ∷ [])) rest (at-most r (b ∷ [])) u ∙ ap (λ (q : Reading). f q rest) (again r (b ∷ []) l)
-
-pub print-passes : Passes fromHere
-unfolding fromHere
-print-passes = record { past = λ r b rest k. rw (ne-eqb b 10 k) }
 
 pub read-on-passes : Passes readOn
 unfolding readOn

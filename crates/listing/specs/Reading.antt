@@ -4,7 +4,7 @@ use mathlib.Core.Bool.{cond}
 use mathlib.Core.List.{List, [], _∷_, _++_}
 use Prim.Native.Nat.{ℕ, zero, suc}
 use lib.Dec.{eqb}
-use lib.ListN.{length, getD, take}
+use lib.ListN.{getD, take}
 use Rattle.objects.specs.declared.answers.FactorAnswer.the-variants.{Refused}
 use Rattle.objects.specs.declared.answers.Refusal.the-variants as refusal
 use Rattle.listing.specs.declared.reader.Stage.{Stage}

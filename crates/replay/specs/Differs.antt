@@ -14,7 +14,7 @@ use Rattle.objects.specs.Refusals.{numberOf}
 use Rattle.shading.specs.Call.{factorCall}
 use Rattle.sun.specs.declared.site.Site.{Site}
 use Rattle.simulation_time.specs.declared.run.Run.{Run}
-use Rattle.jobs.specs.Job.{Job, jobOf}
+use Rattle.jobs.specs.Job.{jobOf}
 use Rattle.jobs.specs.Run.{Ran, runOf, numberFor, stepFor, countFor, sumFor}
 use Rattle.jobs.specs.declared.answers.RunAnswer.{RunAnswer}
 use Rattle.listing.specs.Text.{sameText, linesOf}

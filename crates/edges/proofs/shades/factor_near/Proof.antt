@@ -1,9 +1,7 @@
 -- `factor_near` meets its contract.
-use mathlib.Core.Path.{_∙_, sym, ap}
 use lib.Ieee.{ofBits}
-use denote.Ref.{now}
 use Rattle.doubles.specs.Arithmetic.{whole, decimal}
-use Rattle.edges.specs.Shades.{factorAt, nearObstacle, windowWith}
+use Rattle.edges.specs.Shades.{nearObstacle, windowWith}
 use borrow.Author.Needs.{needs}
 use Rattle.edges.proofs.shades.factor_near.Statement.{statement}
 use Rattle.edges.proofs.shades.factor_near.Tie as tie
