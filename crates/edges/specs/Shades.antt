@@ -11,6 +11,7 @@ use Rattle.objects.specs.declared.surface.Surface.{Surface}
 use Rattle.objects.specs.declared.answers.FactorAnswer.{FactorAnswer}
 use Rattle.shading.specs.Call.{factorCall}
 use Rattle.jobs.specs.Job.{Job, jobOf}
+use Rattle.listing.specs.Line.{wholeHorizon, oneObstacle}
 
 -- base 0, height 2, width 1; upright, facing south
 unfoldable pub southWall : Surface
@@ -20,13 +21,9 @@ southWall = record { tilt = whole 90; orientation = whole 180; «base_height» =
 unfoldable pub factorAt : Float → List ℕ → List ℕ → FactorAnswer
 factorAt azimuth sectors window = factorCall (whole 0) azimuth southWall sectors window
 
--- one sector, all around, without an object
-unfoldable pub openHorizon : List ℕ
-openHorizon = putDouble (replicate 216 0) 1 (whole 360)
-
--- and with one object, 10 m away
+-- one sector, all around, with one object, 10 m away
 unfoldable pub horizonWith : ℕ → Float → List ℕ
-horizonWith kind height = putDouble (putDouble (putWord (putWord openHorizon 2 1) 3 kind) 4 height) 5 (whole 10)
+horizonWith kind height = putDouble (putDouble (putWord (putWord wholeHorizon 2 1) 3 kind) 4 height) 5 (whole 10)
 
 -- 0..180 and start..360
 unfoldable pub twoSectors : Float → List ℕ
@@ -34,7 +31,7 @@ twoSectors start = putDouble (putDouble (putDouble (replicate 432 0) 1 (whole 18
 
 -- 1 m, 3 m away, transparency 0.5
 unfoldable pub nearObstacle : List ℕ
-nearObstacle = putDouble (putDouble (putDouble (replicate 32 0) 1 (whole 1)) 2 (whole 3)) 3 (decimal 5 1)
+nearObstacle = oneObstacle (whole 1) (whole 3) (decimal 5 1)
 
 unfoldable pub windowWith : Bool → List ℕ
 windowWith near = cond near nearObstacle []
@@ -53,5 +50,5 @@ threeHours =
     (replicate 24 0)
     (replicate 24 0)
     (replicate 24 0)
-    openHorizon
+    wholeHorizon
     []

@@ -141,7 +141,7 @@ fn obstacles() {
     );
     compare_factor(
         b"near obstacle 1 m, transparency 0.5 gives 0.75",
-        shades::open_factor(true),
+        shades::near_factor(),
         accepted(0x3FE8_0000_0000_0000),
     );
     compare_factor(

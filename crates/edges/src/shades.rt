@@ -5,8 +5,12 @@ ghost use mathlib.Core.List.{[]};
 ghost use lib.ListN.{replicate};
 ghost use Rattle.doubles.specs.Arithmetic.{whole};
 ghost use Rattle.jobs.specs.Run.{runOf};
-ghost use Rattle.edges.specs.Shades.{southWall, factorAt, openHorizon, horizonWith, twoSectors, windowWith, oneReveal, threeHours};
+ghost use Rattle.listing.specs.Line.{wholeHorizon};
+ghost use Rattle.edges.specs.Shades.{southWall, factorAt, horizonWith, twoSectors, nearObstacle, windowWith, oneReveal, threeHours};
 use jobs::answers::RunAnswer;
+use listing::line::listed_factor;
+use listing::line::one_obstacle;
+use listing::line::whole_horizon;
 use objects::answers::FactorAnswer;
 use objects::surface::Surface;
 use simulation_time::run::Run;
@@ -35,30 +39,24 @@ fn factor_near(sectors: &[u8], near: bool) -> FactorAnswer
     ensures { λ r. ⌜ r ≡ factorAt (whole 0) (now (sectors .entry)) (windowWith near) ⌝ }
 {
     if near {
-        let mut window = [0u8; 32];
-        words::store_double(&mut window, 1, 1.0);
-        words::store_double(&mut window, 2, 3.0);
-        words::store_double(&mut window, 3, 0.5);
+        let window = one_obstacle(1.0, 3.0, 0.5);
         return factor_at(0.0, sectors, &window);
     }
     factor_at(0.0, sectors, b"")
 }
 
-// No distant object.
-pub fn open_factor(near: bool) -> FactorAnswer
-    ensures { λ r. ⌜ r ≡ factorAt (whole 0) openHorizon (windowWith near) ⌝ }
+// The near obstacle and no distant object: what a line of the shade listing stands for.
+pub fn near_factor() -> FactorAnswer
+    ensures { λ r. ⌜ r ≡ factorAt (whole 0) wholeHorizon nearObstacle ⌝ }
 {
-    let mut sectors = [0u8; 216];
-    words::store_double(&mut sectors, 1, 360.0);
-    factor_near(&sectors, near)
+    listed_factor(0.0, 0.0, south_wall(), 1.0, 3.0, 0.5)
 }
 
 // One distant object: 0 obstacle, 1 overhang.
 pub fn distant_factor(kind: u64, height: f64, near: bool) -> FactorAnswer
     ensures { λ r. ⌜ r ≡ factorAt (whole 0) (horizonWith kind height) (windowWith near) ⌝ }
 {
-    let mut sectors = [0u8; 216];
-    words::store_double(&mut sectors, 1, 360.0);
+    let mut sectors = whole_horizon();
     words::store_word(&mut sectors, 2, 1);
     words::store_word(&mut sectors, 3, kind);
     words::store_double(&mut sectors, 4, height);
@@ -68,10 +66,9 @@ pub fn distant_factor(kind: u64, height: f64, near: bool) -> FactorAnswer
 
 // A reveal at the window.
 pub fn reveal_factor(azimuth: f64) -> FactorAnswer
-    ensures { λ r. ⌜ r ≡ factorAt azimuth openHorizon oneReveal ⌝ }
+    ensures { λ r. ⌜ r ≡ factorAt azimuth wholeHorizon oneReveal ⌝ }
 {
-    let mut sectors = [0u8; 216];
-    words::store_double(&mut sectors, 1, 360.0);
+    let sectors = whole_horizon();
     let mut window = [0u8; 32];
     words::store_word(&mut window, 0, 4);
     words::store_double(&mut window, 1, 0.25);
@@ -109,8 +106,7 @@ pub fn three_hours() -> RunAnswer
         step: 1.0,
     };
     let series = [0u8; 24];
-    let mut sectors = [0u8; 216];
-    words::store_double(&mut sectors, 1, 360.0);
+    let sectors = whole_horizon();
     let mut results = [0u8; 144];
     runs::run::run_job(
         site,

@@ -1,5 +1,5 @@
 -- Where a line ends, found byte by byte.
-use mathlib.Core.Path.{_≡_, refl, _∙_, ap, sym}
+use mathlib.Core.Path.{_≡_, ap}
 use mathlib.Core.Bool.{Bool, true, false, cond}
 use mathlib.Core.Logic.{_≢_}
 use mathlib.Core.List.{List}
@@ -28,7 +28,7 @@ module _ (l : List ℕ) (i : ℕ) where
   at-the-end h = let z : length l - i ≡ 0 = omega arith in rw z
 
 -- a line ends within the list, and not before it starts
-from-on : (l : List ℕ) (i n : ℕ) → (i ≤ lineEnd l i n) × (lineEnd l i n ≤ i + n)
+pub from-on : (l : List ℕ) (i n : ℕ) → (i ≤ lineEnd l i n) × (lineEnd l i n ≤ i + n)
 unfolding lineEnd
 from-on l i zero = (omega arith, omega arith)
 from-on l i (suc n) = go (eqb (getD l i 0) 10) (from-on l (suc i) n)

@@ -3,3 +3,4 @@ pub mod Numerals
 pub mod Pieces
 pub mod Cuts
 pub mod Readings
+pub mod Lines

@@ -14,10 +14,10 @@ use Rattle.listing.specs.declared.reader.Stage.the-variants.{Names, Valu
 use Rattle.objects.specs.declared.answers.FactorAnswer.the-variants.{Refused}
 use Rattle.objects.specs.declared.answers.Refusal.the-variants as refusal
 use Rattle.listing.specs.Text.{ascii, sameText, lastLine, linesFrom, linesOf}
-use Rattle.listing.specs.Line.{lineAnswer, outputLine}
+use Rattle.listing.specs.Line.{outputLine}
 use Rattle.listing.specs.Listing.{names, header, answered, body, listingOf}
 use Rattle.listing.proofs.Cuts.{take-again, cut-answer, cut-names}
-use Rattle.listing.specs.Reading.{Reading, lineStart, withPart, printed, after, lineOver, lastPrinted, fromHere}
+use Rattle.listing.specs.Reading.{Reading, lineStart, withPart, printed, after, lineOver, lastPrinted, fromHere, readOn, printedOn}
 
 -- ---- a last line that lacks its line feed
 
@@ -97,9 +97,13 @@ named l (b ∷ rest) =
 -- ---- the laws
 
 -- read byte by byte, a text prints its listing
+body-read : (text : List ℕ) → fromHere (lineStart Names) text ≡ body (linesOf text)
+unfolding linesOf lineStart
+body-read text = named [] text
+
 pub listing-read : (text : List ℕ) → header ++ fromHere (lineStart Names) text ≡ listingOf text
-unfolding listingOf linesOf lineStart
-listing-read text = ap (λ (l : List ℕ). header ++ l) (named [] text)
+unfolding listingOf
+listing-read text = ap (λ (l : List ℕ). header ++ l) (body-read text)
 
 -- a part without a line feed may be taken in one go or in any pieces
 pub data Unbroken : List ℕ → Type 0 where
@@ -110,7 +114,7 @@ again : (r : Reading) (p q : List ℕ) → withPart (withPart r p) q ≡ withPar
 unfolding withPart
 again r p q = ap (at (r .stage)) (take-again 170 (r .held ++ p) q ∙ ap (take 170) (append-assoc (r .held) p q))
 
-at-most : (r : Reading) (p : List ℕ) → length (withPart r p .held) ≤ 170
+pub at-most : (r : Reading) (p : List ℕ) → length (withPart r p .held) ≤ 170
 unfolding withPart
 at-most r p = let z = length-take 170 (r .held ++ p) in omega (arith, z)
 
@@ -118,9 +122,46 @@ nothing-more : (r : Reading) → length (r .held) ≤ 170 → withPart r [] ≡ 
 unfolding withPart
 nothing-more r h = ap (at (r .stage)) (ap (take 170) (append-nil (r .held)) ∙ take-all 170 (r .held) h)
 
-pub part-read : (r : Reading) {part : List ℕ} (rest : List ℕ) → length (r .held) ≤ 170 → Unbroken part
-    → fromHere r (part ++ rest) ≡ fromHere (withPart r part) rest
+-- a function of the reading and the rest of the text that takes a byte other than a line feed into the reading
+pub record Passes {A : Type 0} (f : Reading → List ℕ → A) : Type 0 where
+  pub past : (r : Reading) (b : ℕ) (rest : List ℕ) → b ≢ 10 → f r (b ∷ rest) ≡ f (withPart r (b ∷ [])) rest
+
+pub part-read : {A : Type 0} {f : Reading → List ℕ → A} → Passes f → (r : Reading) {part : List ℕ} (rest : List ℕ) → length (r .held) ≤ 170 → Unbroken part
+    → f r (part ++ rest) ≡ f (withPart r part) rest
+part-read {A} {f} 𝓟 r rest h none = ap (λ (q : Reading). f q rest) (sym (nothing-more r h))
+part-read {A} {f} 𝓟 r rest h (and-then {b} {l} k u) =
+    𝓟 .past r b (l ++ rest) k ∙ part-read 𝓟 (withPart r (b ∷ [])) rest (at-most r (b ∷ [])) u ∙ ap (λ (q : Reading). f q rest) (again r (b ∷ []) l)
+
+pub read-on-passes : Passes readOn
+unfolding readOn
+read-on-passes = record { past = λ r b rest k. rw (ne-eqb b 10 k) }
+
+pub printed-on-passes : Passes printedOn
+unfolding printedOn
+printed-on-passes = record { past = λ r b rest k. rw (ne-eqb b 10 k) }
+
+-- a text may be read in pieces
+pub piece-read : (r : Reading) (piece rest : List ℕ) → fromHere r (piece ++ rest) ≡ printedOn r piece ++ fromHere (readOn r piece) rest
+unfolding fromHere readOn printedOn
+piece-read r [] rest = refl
+piece-read r (b ∷ piece) rest = go (eqb b 10) (piece-read (lineOver r) piece rest) (piece-read (withPart r (b ∷ [])) piece rest)
+  where
+    at-feed : List ℕ
+    at-feed = printed (r .stage) (r .held)
+
+    go : (c : Bool)
+        → fromHere (lineOver r) (piece ++ rest) ≡ printedOn (lineOver r) piece ++ fromHere (readOn (lineOver r) piece) rest
+        → fromHere (withPart r (b ∷ [])) (piece ++ rest) ≡ printedOn (withPart r (b ∷ [])) piece ++ fromHere (readOn (withPart r (b ∷ [])) piece) rest
+        → cond c (at-feed ++ fromHere (lineOver r) (piece ++ rest)) (fromHere (withPart r (b ∷ [])) (piece ++ rest))
+        ≡ cond c (at-feed ++ printedOn (lineOver r) piece) (printedOn (withPart r (b ∷ [])) piece) ++ fromHere (cond c (readOn (lineOver r) piece) (readOn (withPart r (b ∷ [])) piece)) rest
+    go true p q = ap (λ (l : List ℕ). at-feed ++ l) p ∙ sym (append-assoc at-feed (printedOn (lineOver r) piece) (fromHere (readOn (lineOver r) piece) rest))
+    go false p q = q
+
+-- what a whole text prints: its lines as they end, and what is left when it ends
+text-read : (text : List ℕ) → printedOn (lineStart Names) text ++ lastPrinted (readOn (lineStart Names) text .stage) (readOn (lineStart Names) text .held) ≡ body (linesOf text)
 unfolding fromHere
-part-read r rest h none = ap (λ (q : Reading). fromHere q rest) (sym (nothing-more r h))
-part-read r rest h (and-then {b} {l} k u) =
-    rw (ne-eqb b 10 k) (part-read (withPart r (b ∷ [])) rest (at-most r (b ∷ [])) u ∙ ap (λ (q : Reading). fromHere q rest) (again r (b ∷ []) l))
+text-read text = sym (piece-read (lineStart Names) text []) ∙ ap (fromHere (lineStart Names)) (append-nil text) ∙ body-read text
+
+pub text-answered : (text : List ℕ) (first last : Reading) (out : List ℕ) → first ≡ lineStart Names → last ≡ readOn first text → out ≡ lastPrinted (last .stage) (last .held)
+    → printedOn first text ++ out ≡ body (linesOf text)
+text-answered text first last out f l o = rw (o, l, f) (text-read text)

@@ -4,7 +4,7 @@ use mathlib.Core.Bool.{cond}
 use mathlib.Core.List.{List, [], _∷_, _++_}
 use Prim.Native.Nat.{ℕ, zero, suc}
 use lib.Dec.{eqb}
-use lib.ListN.{length, getD, take}
+use lib.ListN.{getD, take}
 use Rattle.objects.specs.declared.answers.FactorAnswer.the-variants.{Refused}
 use Rattle.objects.specs.declared.answers.Refusal.the-variants as refusal
 use Rattle.listing.specs.declared.reader.Stage.{Stage}
@@ -59,6 +59,15 @@ lastPrinted Over l = []
 unfoldable pub fromHere : Reading → List ℕ → List ℕ
 fromHere r [] = lastPrinted (r .stage) (r .held)
 fromHere r (b ∷ rest) = cond (eqb b 10) (printed (r .stage) (r .held) ++ fromHere (lineOver r) rest) (fromHere (withPart r (b ∷ [])) rest)
+
+-- a piece of the text, byte by byte: where the reading stands after it, and what the lines print that end in it
+unfoldable pub readOn : Reading → List ℕ → Reading
+readOn r [] = r
+readOn r (b ∷ rest) = cond (eqb b 10) (readOn (lineOver r) rest) (readOn (withPart r (b ∷ [])) rest)
+
+unfoldable pub printedOn : Reading → List ℕ → List ℕ
+printedOn r [] = []
+printedOn r (b ∷ rest) = cond (eqb b 10) (printed (r .stage) (r .held) ++ printedOn (lineOver r) rest) (printedOn (withPart r (b ∷ [])) rest)
 
 -- ---- the code's records
 

@@ -1,11 +1,12 @@
 -- Texts as lists of bytes.
 use mathlib.Core.Bool.{Bool, cond, _&&_}
 use mathlib.Core.List.{List, [], _∷_, _++_}
-use Prim.Native.Nat.{ℕ}
+use Prim.Native.Nat.{ℕ, _+_, _-_, min}
 use Prim.Native.Char.{code}
 use Prim.Native.String as string
 use lib.Dec.{eqb}
 use lib.ListN.{length, getD}
+use lib.Seq.{paste}
 use Rattle.objects.specs.Checks.{firstFine}
 
 -- the bytes of an ASCII text
@@ -31,3 +32,14 @@ linesFrom line (b ∷ rest) = cond (eqb b 10) (line ∷ linesFrom [] rest) (line
 
 unfoldable pub linesOf : List ℕ → List (List ℕ)
 linesOf text = linesFrom [] text
+
+-- a part put behind the first `used` bytes of a list, as far as there is room: how many bytes of it, the list afterwards, and how many
+-- of the list's bytes are used then
+abbrev pub moved : List ℕ → ℕ → List ℕ → ℕ
+moved list used part = min (length part) (length list - used)
+
+abbrev pub filled : List ℕ → ℕ → List ℕ → List ℕ
+filled list used part = paste list used part (moved list used part)
+
+abbrev pub usedAfter : List ℕ → ℕ → List ℕ → ℕ
+usedAfter list used part = used + moved list used part

@@ -67,8 +67,28 @@ fn value_at(line: &[u8], k: usize) -> f64
     }
 }
 
+// The sector list: one sector from 0 to 360 degrees without an object.
+pub fn whole_horizon() -> [u8; 216]
+    ensures { λ r. ⌜ (r ≡ wholeHorizon) × (216 ≡ length r) ⌝ }
+{
+    let mut sectors = [0u8; 216];
+    words::store_double(&mut sectors, 1, 360.0);
+    sectors
+}
+
+// The window list: one near obstacle.
+pub fn one_obstacle(height: f64, distance: f64, transparency: f64) -> [u8; 32]
+    ensures { λ r. ⌜ (r ≡ oneObstacle height distance transparency) × (32 ≡ length r) ⌝ }
+{
+    let mut window = [0u8; 32];
+    words::store_double(&mut window, 1, height);
+    words::store_double(&mut window, 2, distance);
+    words::store_double(&mut window, 3, transparency);
+    window
+}
+
 // The factor call that a line stands for.
-fn listed_factor(
+pub fn listed_factor(
     altitude: f64,
     azimuth: f64,
     surface: Surface,
@@ -78,12 +98,8 @@ fn listed_factor(
 ) -> FactorAnswer
     ensures { λ r. ⌜ r ≡ factorCall altitude azimuth surface wholeHorizon (oneObstacle shade distance transparency) ⌝ }
 {
-    let mut sectors = [0u8; 216];
-    words::store_double(&mut sectors, 1, 360.0);
-    let mut window = [0u8; 32];
-    words::store_double(&mut window, 1, shade);
-    words::store_double(&mut window, 2, distance);
-    words::store_double(&mut window, 3, transparency);
+    let sectors = whole_horizon();
+    let window = one_obstacle(shade, distance, transparency);
     shading::step::factor_call_by_records(altitude, azimuth, surface, &sectors, &window)
 }
 

@@ -1,10 +1,8 @@
 // Lines that are printed.
 ghost use mathlib.Core.Path.{_≡_};
 ghost use mathlib.Core.List.{[]};
-ghost use Prim.Native.Nat.{_+_, _-_, min};
-ghost use lib.ListN.{length};
-ghost use lib.Seq.{paste};
 ghost use Rattle.objects.specs.declared.answers.FactorAnswer.the-variants.{Factor, Refused};
+ghost use Rattle.listing.specs.Text.{filled, usedAfter};
 ghost use Rattle.listing.specs.Line.{outputLine};
 ghost use Rattle.listing.specs.Reading.{bytesOf};
 use crate::parts::append;
@@ -71,7 +69,7 @@ pub fn output_line(answer: FactorAnswer) -> OutputLine
 
 // Puts a line behind the first `used` bytes of a list, as far as there is room. Answers how many are used then.
 pub fn put(list: &mut [u8], used: usize, output: OutputLine) -> usize
-    ensures { λ r. ⌜ (r ≡ used + min (length (bytesOf output)) (length (now (list .entry)) - used)) × (now (list .exit) ≡ paste (now (list .entry)) used (bytesOf output) (min (length (bytesOf output)) (length (now (list .entry)) - used))) ⌝ }
+    ensures { λ r. ⌜ (r ≡ usedAfter (now (list .entry)) used (bytesOf output)) × (now (list .exit) ≡ filled (now (list .entry)) used (bytesOf output)) ⌝ }
 {
     let bytes = output.bytes;
     let n = least(output.count, 19);

@@ -1,9 +1,8 @@
 // Pieces of text.
 ghost use mathlib.Core.Path.{_≡_};
-ghost use Prim.Native.Nat.{_+_, _-_, min};
+ghost use Prim.Native.Nat.{_-_, min};
 ghost use lib.ListN.{length};
-ghost use lib.Seq.{paste};
-ghost use Rattle.listing.specs.Text.{sameText};
+ghost use Rattle.listing.specs.Text.{sameText, filled, usedAfter};
 ghost use Rattle.listing.specs.Reading.{lineEnd};
 
 // The place of the first line feed from place `from` on, and the piece's length where there is none.
@@ -31,7 +30,7 @@ pub fn least(a: usize, b: usize) -> usize
 
 // Puts as much of a part behind the first `count` bytes of a list as there is room for. Answers how many there are then.
 pub fn append(list: &mut [u8], count: usize, part: &[u8]) -> usize
-    ensures { λ r. ⌜ (r ≡ count + min (length (now (part .entry))) (length (now (list .entry)) - count)) × (now (list .exit) ≡ paste (now (list .entry)) count (now (part .entry)) (min (length (now (part .entry))) (length (now (list .entry)) - count))) ⌝ }
+    ensures { λ r. ⌜ (r ≡ usedAfter (now (list .entry)) count (now (part .entry))) × (now (list .exit) ≡ filled (now (list .entry)) count (now (part .entry))) ⌝ }
 {
     if list.len() <= count {
         return count;

@@ -1,15 +1,17 @@
 // A listing read piece by piece. All that is kept of the input is a part of one line, so a line may have any length.
 ghost use mathlib.Core.Path.{_≡_};
 ghost use Rattle.listing.specs.declared.reader.Stage.the-variants.{Names};
-ghost use Rattle.listing.specs.Text.{sameText};
-ghost use Rattle.listing.specs.Listing.{names};
-ghost use Rattle.listing.specs.Reading.{lineStart, withPart, after, lineOver, printed, lastPrinted, readingOf, bytesOf};
+ghost use Rattle.listing.specs.Text.{sameText, linesOf, filled, usedAfter};
+ghost use Rattle.listing.specs.Listing.{names, body};
+ghost use Rattle.listing.specs.Reading.{lineStart, withPart, after, lineOver, printed, lastPrinted, readOn, printedOn, readingOf, bytesOf};
 use crate::line::line_answer;
 use crate::output::OutputLine;
 use crate::output::nothing;
 use crate::output::output_line;
+use crate::output::put;
 use crate::parts::append;
 use crate::parts::least;
+use crate::parts::line_end;
 use crate::parts::same_text;
 use objects::answers::FactorAnswer;
 use objects::answers::Refusal;
@@ -111,6 +113,36 @@ pub fn line_over(reader: Reader) -> Turn
     turn_at(stage, &line[..n])
 }
 
+// What a piece brings: the reader after it, and how many bytes of the output list are used then.
+pub struct Answered {
+    pub reader: Reader,
+    pub used: usize,
+}
+
+// Answers the lines that end in a piece: puts what they print behind the first `used` bytes of a list, as far as there is room.
+pub fn answer_piece(reader: Reader, piece: &[u8], list: &mut [u8], used: usize) -> Answered
+    ensures { λ r. ⌜ (readingOf (r .reader) ≡ readOn (readingOf reader) (now (piece .entry))) × (r .used ≡ usedAfter (now (list .entry)) used (printedOn (readingOf reader) (now (piece .entry)))) × (now (list .exit) ≡ filled (now (list .entry)) used (printedOn (readingOf reader) (now (piece .entry)))) ⌝ }
+{
+    let mut current = reader;
+    let mut count = used;
+    let mut at = 0;
+    while at < piece.len() {
+        let end = line_end(piece, at);
+        current = with_part(current, &piece[at..end]);
+        at = end;
+        if end < piece.len() {
+            let turn = line_over(current);
+            current = turn.reader;
+            count = put(list, count, turn.output);
+            at = end + 1;
+        }
+    }
+    Answered {
+        reader: current,
+        used: count,
+    }
+}
+
 // The input has ended. Its last line may lack a line feed.
 pub fn input_over(reader: Reader) -> OutputLine
     ensures { λ r. ⌜ bytesOf r ≡ lastPrinted (reader .stage) (readingOf reader .held) ⌝ }
@@ -126,4 +158,12 @@ pub fn input_over(reader: Reader) -> OutputLine
         }
         Stage::Over => nothing(),
     }
+}
+
+// Answers a whole text: puts the lines that answer it at the start of a list, as far as there is room. Answers how many bytes they are.
+pub fn answer_text(text: &[u8], list: &mut [u8]) -> usize
+    ensures { λ r. ⌜ (r ≡ usedAfter (now (list .entry)) 0 (body (linesOf (now (text .entry))))) × (now (list .exit) ≡ filled (now (list .entry)) 0 (body (linesOf (now (text .entry))))) ⌝ }
+{
+    let answered = answer_piece(line_start(Stage::Names), text, list, 0);
+    put(list, answered.used, input_over(answered.reader))
 }

@@ -1,69 +1,91 @@
-// Functions of one to three doubles: the function's number, three arguments and the answer.
+// Functions of one to three doubles: the function's number, three arguments and the answer. Within a group the functions are counted
+// from 0, and a number that is none of them gives NaN.
+ghost use mathlib.Core.Path.{_≡_};
+ghost use lib.ListN.{getD};
+ghost use lib.Ieee.{nan};
+ghost use Rattle.replay.specs.Leaves.{angleValues, numberValues, sunValues, skyValues, leafOf};
+ghost use Rattle.replay.specs.Differs.{leafDiffers};
 use words::bits_of_double;
 use words::double_at;
 use words::word_at;
 
-fn angle(function: u64, x: f64) -> f64 {
-    match function {
+fn angle(k: u64, x: f64) -> f64
+    ensures { λ r. ⌜ r ≡ getD (angleValues x) k nan ⌝ }
+{
+    match k {
         1 => angles::sin(x),
         2 => angles::cos(x),
         3 => angles::tan(x),
         4 => angles::asin(x),
         5 => angles::acos(x),
         6 => angles::pow_minus_1_253(x),
-        _ => roots::sqrt(x),
+        7 => roots::sqrt(x),
+        _ => 0.0 / 0.0,
     }
 }
 
-fn number(function: u64, x: f64, y: f64) -> f64 {
-    match function {
-        8 => doubles::floor(x),
-        9 => doubles::cube(x),
-        10 => doubles::to_radians(x),
-        11 => doubles::to_degrees(x),
-        12 => doubles::min_of_2(x, y),
-        13 => doubles::max_of_2(x, y),
-        14 => doubles::float_min(x, y),
-        _ => doubles::float_max(x, y),
+fn number(k: u64, x: f64, y: f64) -> f64
+    ensures { λ r. ⌜ r ≡ getD (numberValues x y) k nan ⌝ }
+{
+    match k {
+        0 => doubles::floor(x),
+        1 => doubles::cube(x),
+        2 => doubles::to_radians(x),
+        3 => doubles::to_degrees(x),
+        4 => doubles::min_of_2(x, y),
+        5 => doubles::max_of_2(x, y),
+        6 => doubles::float_min(x, y),
+        7 => doubles::float_max(x, y),
+        _ => 0.0 / 0.0,
     }
 }
 
-fn of_the_sun(function: u64, x: f64, y: f64, z: f64) -> f64 {
-    match function {
-        16 => sun::day::init_solar_declination(x),
-        17 => sun::day::init_extra_terrestrial_radiation(x),
-        18 => sun::hour::init_solar_hour_angle(x),
-        19 => sun::hour::init_solar_altitude(x, y, z),
-        20 => sun::hour::init_solar_zenith_angle(x),
-        _ => sun::hour::init_air_mass(x),
+fn of_the_sun(k: u64, x: f64, y: f64, z: f64) -> f64
+    ensures { λ r. ⌜ r ≡ getD (sunValues x y z) k nan ⌝ }
+{
+    match k {
+        0 => sun::day::init_solar_declination(x),
+        1 => sun::day::init_extra_terrestrial_radiation(x),
+        2 => sun::hour::init_solar_hour_angle(x),
+        3 => sun::hour::init_solar_altitude(x, y, z),
+        4 => sun::hour::init_solar_zenith_angle(x),
+        5 => sun::hour::init_air_mass(x),
+        _ => 0.0 / 0.0,
     }
 }
 
-fn of_the_sky(function: u64, x: f64, y: f64, z: f64) -> f64 {
-    match function {
-        22 => irradiance::sky::init_dimensionless_clearness_parameter(x, y, z),
-        23 => irradiance::sky::init_dimensionless_sky_brightness_parameter(x, y, z),
-        24 => irradiance::sky::init_f1_circumsolar_brightness_coefficient(x, y, z),
-        _ => irradiance::sky::init_f2_horizontal_brightness_coefficient(x, y, z),
+fn of_the_sky(k: u64, x: f64, y: f64, z: f64) -> f64
+    ensures { λ r. ⌜ r ≡ getD (skyValues x y z) k nan ⌝ }
+{
+    match k {
+        0 => irradiance::sky::init_dimensionless_clearness_parameter(x, y, z),
+        1 => irradiance::sky::init_dimensionless_sky_brightness_parameter(x, y, z),
+        2 => irradiance::sky::init_f1_circumsolar_brightness_coefficient(x, y, z),
+        3 => irradiance::sky::init_f2_horizontal_brightness_coefficient(x, y, z),
+        _ => 0.0 / 0.0,
     }
 }
 
-fn leaf(function: u64, x: f64, y: f64, z: f64) -> f64 {
-    if function <= 7 {
+fn leaf(function: u64, x: f64, y: f64, z: f64) -> f64
+    ensures { λ r. ⌜ r ≡ leafOf function x y z ⌝ }
+{
+    if function < 8 {
         return angle(function, x);
     }
-    if function <= 15 {
-        return number(function, x, y);
+    if function < 16 {
+        return number(function - 8, x, y);
     }
-    if function <= 21 {
-        return of_the_sun(function, x, y, z);
+    if function < 22 {
+        return of_the_sun(function - 16, x, y, z);
     }
-    of_the_sky(function, x, y, z)
+    of_the_sky(function - 22, x, y, z)
 }
 
-pub fn differs(record: &[u8]) -> bool {
-    let x = double_at(record, 3);
-    let y = double_at(record, 4);
-    let z = double_at(record, 5);
-    bits_of_double(leaf(word_at(record, 2), x, y, z)) != word_at(record, 6)
+pub fn differs(kept: &[u8]) -> bool
+    ensures { λ r. ⌜ r ≡ leafDiffers (now (kept .entry)) ⌝ }
+{
+    let x = double_at(kept, 3);
+    let y = double_at(kept, 4);
+    let z = double_at(kept, 5);
+    bits_of_double(leaf(word_at(kept, 2), x, y, z)) != word_at(kept, 6)
 }

@@ -1,5 +1,8 @@
 // Replays answers of the published Rust: calls the code with what is in four files and compares. Prints for each file how many
 // records it has and how many of them come out otherwise. `oracle/README.md` has the files' format.
+ghost use mathlib.Core.Path.{_≡_};
+ghost use Rattle.replay.specs.Differs.{recordDiffers};
+
 mod factors;
 mod leaves;
 mod listings;
@@ -21,33 +24,35 @@ struct Progress {
 }
 
 // Whether a record's call answers otherwise. A record of no kind does too, and one that is cut short.
-fn differs(record: &[u8]) -> bool {
-    if word_at(record, 1) != record.len() as u64 {
+fn differs(kept: &[u8]) -> bool
+    ensures { λ r. ⌜ r ≡ recordDiffers (now (kept .entry)) ⌝ }
+{
+    if word_at(kept, 1) != kept.len() as u64 {
         return true;
     }
-    let kind = word_at(record, 0);
+    let kind = word_at(kept, 0);
     if kind == 1 {
-        return whole_runs::differs(record);
+        return whole_runs::differs(kept);
     }
     if kind == 2 {
-        return factors::differs(record);
+        return factors::differs(kept);
     }
     if kind == 3 {
-        return leaves::differs(record);
+        return leaves::differs(kept);
     }
     if kind == 4 {
-        return listings::differs(record);
+        return listings::differs(kept);
     }
     true
 }
 
 // The tally with one record more. The zeros behind a block's last record are none.
-fn with_record(tally: Tally, record: &[u8]) -> Tally {
-    if word_at(record, 0) == 0 {
+fn with_record(tally: Tally, kept: &[u8]) -> Tally {
+    if word_at(kept, 0) == 0 {
         return tally;
     }
     let count = std::num::wrapping_add_u64(tally.count, 1);
-    if differs(record) {
+    if differs(kept) {
         return Tally {
             count: count,
             different: std::num::wrapping_add_u64(tally.different, 1),

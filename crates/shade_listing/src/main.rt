@@ -1,12 +1,14 @@
 // Answers a shade listing: lines with ten values on standard input, lines with a number and a factor on standard output.
+ghost use mathlib.Core.Path.{_≡_};
+ghost use mathlib.Core.Bool.{false};
+ghost use mathlib.Core.List.{[]};
+ghost use Rattle.listing.specs.Reading.{lastPrinted, readingOf};
 use listing::output::put;
-use listing::parts::line_end;
 use listing::reader::Reader;
 use listing::reader::Stage;
+use listing::reader::answer_piece;
 use listing::reader::input_over;
-use listing::reader::line_over;
 use listing::reader::line_start;
-use listing::reader::with_part;
 
 // The reader after a piece of the input, and whether to go on.
 struct Progress {
@@ -22,27 +24,29 @@ fn write_out(bytes: &[u8]) -> bool {
     written
 }
 
-// Answers the lines that end in a piece. A piece of 2,048 bytes has at most as many lines, each answered by at most 19 bytes, so
-// that there is room for all answers.
-fn answer_piece(reader: Reader, piece: &[u8]) -> Progress {
+// A read or a write has failed: the listing is over. What was read of the last line may be cut short, and is not answered.
+fn given_up() -> Progress
+    ensures { λ r. ⌜ (lastPrinted (r .reader .stage) (readingOf (r .reader) .held) ≡ []) × (r .going ≡ false) ⌝ }
+{
+    Progress {
+        reader: line_start(Stage::Over),
+        going: false,
+    }
+}
+
+// Prints what the lines print that end in a piece. A piece of 2,048 bytes has at most as many lines, each answered by at most 19 bytes,
+// so that there is room for all answers.
+fn print_answers(reader: Reader, piece: &[u8]) -> Progress {
     let mut out = io::large_buffer();
-    let mut current = reader;
-    let mut used = 0;
-    let mut at = 0;
-    while at < piece.len() {
-        let end = line_end(piece, at);
-        current = with_part(current, &piece[at..end]);
-        at = end;
-        if end < piece.len() {
-            let turn = line_over(current);
-            current = turn.reader;
-            used = put(&mut out, used, turn.output);
-            at = end + 1;
-        }
+    let answered = answer_piece(reader, piece, &mut out, 0);
+    let after = answered.reader;
+    let used = answered.used;
+    if !write_out(&out[..used]) {
+        return given_up();
     }
     Progress {
-        reader: current,
-        going: write_out(&out[..used]),
+        reader: after,
+        going: true,
     }
 }
 
@@ -52,15 +56,16 @@ fn read_piece(reader: Reader) -> Progress {
     let got = libc::read(libc::STDIN_FILENO, &mut piece);
     if got < 0 {
         os::fail(b"standard input");
+        return given_up();
     }
-    if got <= 0 {
+    if got == 0 {
         return Progress {
             reader: reader,
             going: false,
         };
     }
     let n = io::count(got, &piece);
-    answer_piece(reader, &piece[..n])
+    print_answers(reader, &piece[..n])
 }
 
 // Nothing says that the input ends, so the loop counts its turns down from a number that no run uses up.

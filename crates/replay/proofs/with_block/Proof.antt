@@ -2,6 +2,8 @@
 use Prim.Native.Nat.{_-_}
 use native.Mathlib.Omega.{arith}
 use lib.ListN.{length}
+use denote.Ref.{now}
+use Rattle.replay.proofs.Ends.{end-bounds}
 use Rattle.replay.proofs.with_block.Statement.{statement}
 use Rattle.replay.proofs.with_block.Tie as tie
 
@@ -18,19 +20,19 @@ record-end-requires : tie.Need-record-end-requires Inv-loop μ-loop
 record-end-requires c κs = omega arith
 
 sub-with-record : tie.Need-sub-with-record Inv-loop μ-loop
-sub-with-record c = omega (arith, c .record-end .ensures .0)
+sub-with-record c = let z = end-bounds (now (c .before .before .before .before .args .block)) (c .before .before .loop .at) (c .record-end .result) (c .record-end .ensures) (omega arith) in omega (arith, z .0)
 
 part-with-record-start : tie.Need-part-with-record-start Inv-loop μ-loop
-part-with-record-start c = omega (arith, c .record-end .ensures .0)
+part-with-record-start c = let z = end-bounds (now (c .before .before .before .before .args .block)) (c .before .before .loop .at) (c .record-end .result) (c .record-end .ensures) (omega arith) in omega (arith, z .0)
 
 part-with-record-end : tie.Need-part-with-record-end Inv-loop μ-loop
-part-with-record-end c = omega (arith, c .record-end .ensures .1)
+part-with-record-end c = let z = end-bounds (now (c .before .before .before .before .args .block)) (c .before .before .loop .at) (c .record-end .result) (c .record-end .ensures) (omega arith) in omega (arith, z .1)
 
 with-record-requires : tie.Need-with-record-requires Inv-loop μ-loop
 with-record-requires c κs = tt
 
 loop-less : tie.Need-loop-less Inv-loop μ-loop
-loop-less c = let r = c .before .before .record-end .ensures in omega (arith, r .0, r .1)
+loop-less c = let z = end-bounds (now (c .before .before .before .before .before .before .args .block)) (c .before .before .before .before .loop .at) (c .before .before .record-end .result) (c .before .before .record-end .ensures) (omega arith) in omega (arith, z .0, z .1)
 
 loop-again : tie.Need-loop-again Inv-loop μ-loop
 loop-again c = tt

@@ -1,68 +1,56 @@
 -- `reveal_factor` meets its contract.
-use mathlib.Core.Path.{_∙_, ap, ap₂}
 use lib.Ieee.{ofBits}
-use Rattle.doubles.specs.Arithmetic.{whole, decimal}
-use Rattle.words.specs.Words.{putDouble}
-use Rattle.edges.specs.Shades.{factorAt, openHorizon, oneReveal}
+use Rattle.doubles.specs.Arithmetic.{decimal}
+use Rattle.edges.specs.Shades.{oneReveal}
 use borrow.Author.Needs.{needs}
 use Rattle.edges.proofs.shades.reveal_factor.Statement.{statement}
 use Rattle.edges.proofs.shades.reveal_factor.Tie as tie
 
-slice-aggregate-store-double : tie.Need-slice-aggregate-store-double
-slice-aggregate-store-double c = search needs
-
-store-double-requires : tie.Need-store-double-requires
-store-double-requires c κs = search needs
+whole-horizon-requires : tie.Need-whole-horizon-requires
+whole-horizon-requires c κs = tt
 
 slice-aggregate-store-word : tie.Need-slice-aggregate-store-word
 slice-aggregate-store-word c = search needs
 
 store-word-requires : tie.Need-store-word-requires
-store-word-requires c κs = search needs
+store-word-requires c κs = tt
+
+slice-aggregate-store-double : tie.Need-slice-aggregate-store-double
+slice-aggregate-store-double c = search needs
+
+store-double-requires : tie.Need-store-double-requires
+store-double-requires c κs = tt
 
 slice-aggregate-store-double-2 : tie.Need-slice-aggregate-store-double-2
 slice-aggregate-store-double-2 c = search needs
 
 store-double-requires-2 : tie.Need-store-double-requires-2
-store-double-requires-2 c κs = search needs
-
-slice-aggregate-store-double-3 : tie.Need-slice-aggregate-store-double-3
-slice-aggregate-store-double-3 c = search needs
-
-store-double-requires-3 : tie.Need-store-double-requires-3
-store-double-requires-3 c κs = search needs
+store-double-requires-2 c κs = tt
 
 slice-aggregate-factor-at : tie.Need-slice-aggregate-factor-at
-slice-aggregate-factor-at c = search needs
+slice-aggregate-factor-at c = c .before .before .before .before .before .before .before .before .before .before .whole-horizon .ensures .1
 
 slice-aggregate-factor-at-2 : tie.Need-slice-aggregate-factor-at-2
 slice-aggregate-factor-at-2 c = search needs
 
 factor-at-requires : tie.Need-factor-at-requires
-factor-at-requires c κs = search needs
+factor-at-requires c κs = tt
 
 returns : tie.Need-returns
-unfolding openHorizon oneReveal ofBits whole decimal
-returns c =
-    let a = c .before .before .before .before .before .before .before .before .before .before .before .before .before .before .before .args in
-    c .factor-at .ensures
-    ∙ ap₂ (factorAt (a .azimuth))
-    (c .before .before .before .before .before .before .before .before .before .before .before .before .before .store-double .ensures)
-    (c .before .before .before .before .store-double3 .ensures
-    ∙ ap (λ l. putDouble l 2 (decimal 125 3)) (c .before .before .before .before .before .before .before .store-double2 .ensures ∙ ap (λ l. putDouble l 1 (decimal 25 2)) (c .before .before .before .before .before .before .before .before .before .before .store-word .ensures)))
+unfolding oneReveal ofBits decimal
+returns c = rw (c .factor-at .ensures, c .before .before .before .before .store-double2 .ensures, c .before .before .before .before .before .before .before .store-double .ensures, c .before .before .before .before .before .before .before .before .before .before .store-word .ensures, c .before .before .before .before .before .before .before .before .before .before .before .before .whole-horizon .ensures .0)
 
 pub reveal-factor-spec : {M : Type 1} → statement M
 reveal-factor-spec =
     tie.close
     (tie.spec
-    slice-aggregate-store-double
-    store-double-requires
+    whole-horizon-requires
     slice-aggregate-store-word
     store-word-requires
+    slice-aggregate-store-double
+    store-double-requires
     slice-aggregate-store-double-2
     store-double-requires-2
-    slice-aggregate-store-double-3
-    store-double-requires-3
     slice-aggregate-factor-at
     slice-aggregate-factor-at-2
     factor-at-requires

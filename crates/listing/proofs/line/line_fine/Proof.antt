@@ -1,5 +1,5 @@
 -- `line_fine` meets its contract.
-use mathlib.Core.Path.{refl, _∙_, ap₂}
+use mathlib.Core.Path.{refl, ap₂}
 use mathlib.Core.Bool.{_&&_}
 use denote.Ref.{now}
 use lib.ListN.{length}

@@ -1,6 +1,5 @@
 -- `input_over` meets its contract.
-use mathlib.Core.Path.{_≡_, _∙_, ap, sym}
-use native.Mathlib.Omega.{arith}
+use mathlib.Core.Path.{_≡_, _∙_}
 use lib.ListN.{length}
 use Rattle.shading.proofs.Loops.{unmapped}
 use Rattle.listing.specs.Reading.{readingOf, lastPrinted}
