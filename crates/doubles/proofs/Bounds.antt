@@ -1,19 +1,18 @@
 -- What results are no NaN and not negative, and where they lie: x − y ≤ x ≤ x + y for y ≥ 0, and x / z ≤ 1 for x ≤ z, z above 0.
 -- Assumes nothing.
-use mathlib.Core.Path.{_≡_, refl, sym, ap, _∙_, subst}
+use mathlib.Core.Path.{_≡_, refl, sym, subst}
 use mathlib.Core.Bool.{Bool, true, false, not, _&&_, cond}
-use Prim.Native.Nat.{ℕ, zero, suc, _+_, _-_, _*_, _/_, _%_, _^_, _≤_, _<_, compare}
+use Prim.Native.Nat.{ℕ, zero, suc, _+_, _-_, _*_, _/_, _%_, _^_, _<_, compare}
 use native.Mathlib.Nat.{mul-pos, lt-irrefl}
 use native.Mathlib.Omega.{arith}
 use lib.Dec.{T, not-T, ltb, eqb, ltb→lt, eqb→eq, lit<}
-use lib.IntN.{ℤ, pos}
 use lib.Ieee.{Float, nan, inf, fin, binary64, up, down, unlike, size, nearest, odd, units, round, sum, add, sub, mul, div, neg, lt, eq, le, fits, isNan}
 use lib.Ieee.Fits.{up-pos, down-pos, round-is}
-use lib.Ieee.Positive.{den, den-pos, positive}
+use lib.Ieee.Positive.{den, den-pos}
 use lib.Ieee.Scale.{finite}
 use Rattle.doubles.specs.Arithmetic.{_⊕_, _⊖_, _⊗_, _⊘_, whole}
-use Rattle.doubles.specs.Order.{_≼_, _≺_, _≈_, Number, Finite, Fits, Zero, NonZero}
-use Rattle.doubles.proofs.Order.{or-right, positivePart, negativePart, le-refl, le-trans, top, bottom, neg-finite, neg-le, left-number, right-number, lt→le, lt-excludes, le-of-not-lt}
+use Rattle.doubles.specs.Order.{_≼_, _≺_, Number, Finite, Fits, NonZero}
+use Rattle.doubles.proofs.Order.{or-right, positivePart, negativePart, le-refl, le-trans, top, bottom, neg-finite, left-number, lt-excludes, le-of-not-lt}
 use Rattle.doubles.proofs.Rounding.{Rounded, plus, minus, zero-round, rounded-mono, add-rounds, mul-rounds}
 use Rattle.doubles.proofs.Monotone.{positive-of, add-mono, sub-mono, mul-mono, div-mono}
 use Rattle.doubles.proofs.Exact.{own-rounded, div-self, digits-pos}

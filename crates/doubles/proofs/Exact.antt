@@ -1,16 +1,15 @@
 -- Where an operation rounds nothing: a double is the rounding of its own value, adding or taking away a zero leaves it as it is,
 -- so does 1 as a factor, and x / x is 1. Assumes nothing.
 use mathlib.Core.Path.{_≡_, refl, sym, ap, _∙_, subst}
-use mathlib.Core.Logic.{_⊎_, inl, inr}
 use mathlib.Core.Bool.{Bool, true, false, not, _&&_, _||_, Bool·beq, cond}
 use Prim.Native.Nat.{ℕ, zero, suc, _+_, _-_, _*_, _/_, _%_, _^_, _≤_, _<_, zero-le}
-use native.Mathlib.Nat.{mul-pos, mul-comm, mul-assoc, mul-right-comm, mul-one, one-mul, zero-mul, add-zero, sub-zero, sub-self, lt-irrefl, lt-of-lt-of-le, mul-lt-mul-of-pos-right, eq-of-mul-eq-mul-right}
+use native.Mathlib.Nat.{mul-pos, mul-assoc, mul-right-comm, mul-one, one-mul, zero-mul, add-zero, sub-zero, lt-irrefl, lt-of-lt-of-le, mul-lt-mul-of-pos-right, eq-of-mul-eq-mul-right}
 use native.Mathlib.Decide.{decLe}
 use native.Mathlib.Omega.{arith}
-use lib.Dec.{T, T-not, leb, ltb, eqb, ltb→lt, lt→ltb, leb→le, eqb→eq, eqb-refl, lit<}
+use lib.Dec.{T, T-not, leb, ltb, eqb, ltb→lt, leb→le, eqb→eq, lit<}
 use lib.IntN.{ℤ, pos, negsuc}
 use lib.Pow.{pow-add, pow-pos, pow-lt, pow-mono, shl-lt}
-use lib.Ieee.{Float, nan, inf, fin, binary64, up, down, size, round, sum, add, sub, mul, div, neg, lt, eq, le, fits, isNan, ofBits, toBits}
+use lib.Ieee.{Float, nan, inf, fin, binary64, up, down, size, round, sum, add, sub, mul, div, neg, eq, fits, ofBits, toBits}
 use lib.Ieee.Bits.{ofBits-toBits}
 use lib.Ieee.Exact.{HasValue, round-exact}
 use lib.Ieee.Fits.{up-pos, down-pos, round-fits, and-l, and-r}
@@ -18,7 +17,7 @@ use lib.Ieee.Nearest.{div-same}
 use lib.Ieee.Scale.{finite, round-same}
 use borrow.Author.Tests.{le-ltb, lt-ltb}
 use Rattle.doubles.specs.Arithmetic.{_⊕_, _⊖_, _⊗_, _⊘_, whole}
-use Rattle.doubles.specs.Order.{_≼_, _≺_, _≈_, Number, Finite, Fits, Zero, NonZero}
+use Rattle.doubles.specs.Order.{Finite, Fits, Zero, NonZero}
 use Rattle.doubles.proofs.Order.{positivePart, negativePart}
 use Rattle.doubles.proofs.Rounding.{Rounded, plus, minus, first-zero}
 use lib.Ieee.Positive.{den}

@@ -3,7 +3,7 @@ use mathlib.Core.Path.{_≡_, refl, sym, ap, _∙_}
 use mathlib.Core.Bool.{Bool, true, false, not, cond}
 use lib.Dec.{T}
 use lib.Ieee.{Float, nan, inf, fin, lt, eq, isNan}
-use Rattle.doubles.specs.Functions.{minOf2, maxOf2, floatMin, floatMax}
+use Rattle.doubles.specs.Functions.{floatMin, floatMax}
 use Rattle.doubles.proofs.Order.{equals-itself}
 
 no-nan-left : (x y : Float) → T (isNan x) → T (lt x y) → ⊥

@@ -2,13 +2,13 @@
 -- member and is one of them, lists with the same members give level results, and a list with more members gives no smaller a
 -- largest and no larger a smallest. Proved once, of any operation that gives one of its two arguments, the one further along an order.
 -- Assumes nothing.
-use mathlib.Core.Path.{_≡_, refl, sym, _∙_}
+use mathlib.Core.Path.{_≡_, refl, _∙_}
 use mathlib.Core.Logic.{_⊎_, inl, inr}
 use mathlib.Core.Bool.{Bool, true, false, cond}
 use mathlib.Core.List.{List, [], _∷_, List·Memᴰ, List·Memᴰ·head, List·Memᴰ·tail, List·Memᴰ·cases-cons, Memᴰ·cast}
 use lib.Ieee.{Float, lt}
 use Rattle.doubles.specs.Functions.{minOf2, maxOf2, largestOf, smallestOf}
-use Rattle.doubles.specs.Order.{_≼_, _≺_, _≈_, Number}
+use Rattle.doubles.specs.Order.{_≼_, _≈_, Number}
 use Rattle.doubles.proofs.Order.{le-refl, le-trans, lt→le, le-of-not-lt}
 
 infix 4 _≽_

@@ -1,20 +1,20 @@
 -- The operations keep the order, over all signs, zeros and infinities, wherever no NaN arises: a sum grows with both summands,
 -- a difference grows with its first operand and falls as the second grows, a product of doubles that are not negative grows with
 -- both factors, and a quotient by a divisor above zero grows with its dividend. Assumes nothing.
-use mathlib.Core.Path.{_≡_, refl, sym, ap, _∙_, subst}
+use mathlib.Core.Path.{_≡_, refl, _∙_}
 use mathlib.Core.Bool.{Bool, true, false, not, cond}
 use Prim.Native.Nat.{ℕ, _+_, _*_, _≤_, _<_}
 use native.Mathlib.Nat.{mul-pos, mul-comm, mul-mul-mul-comm, mul-le-mul-right, mul-le-mul}
 use native.Mathlib.Omega.{arith}
-use lib.Dec.{T, ltb, eqb, ltb→lt, lt→ltb, eqb→eq}
-use lib.IntN.{ℤ, pos}
-use lib.Ieee.{Float, nan, inf, fin, binary64, up, down, round, add, sub, mul, div, neg, lt, le, isNan}
-use lib.Ieee.Fits.{up-pos, down-pos}
+use lib.Dec.{T, eqb, ltb→lt, lt→ltb}
+use lib.IntN.{ℤ}
+use lib.Ieee.{Float, nan, inf, fin, up, down, add, sub, mul, div, neg, lt, le, isNan}
+use lib.Ieee.Fits.{up-pos}
 use lib.Ieee.Positive.{den, den-pos, positive, first-pos}
 use lib.Ieee.Scale.{finite}
 use Rattle.doubles.specs.Arithmetic.{_⊕_, _⊖_, _⊗_, _⊘_, whole}
-use Rattle.doubles.specs.Order.{_≼_, _≺_, Number, Finite}
-use Rattle.doubles.proofs.Order.{eq→eqb, positivePart, negativePart, leftSide, rightSide, le→cross, le-refl, le-trans, bottom, top, neg-le, left-number, right-number}
+use Rattle.doubles.specs.Order.{_≼_, _≺_, Number}
+use Rattle.doubles.proofs.Order.{eq→eqb, positivePart, negativePart, leftSide, rightSide, le→cross, le-refl, le-trans, bottom, top, neg-le, right-number}
 use Rattle.doubles.proofs.Rounding.{first-zero, rounded-mono, add-rounds, mul-rounds, div-rounds}
 
 -- a finite double, as the laws below name its parts

@@ -8,12 +8,11 @@ use Prim.Native.Nat.{ℕ, _+_, _*_, _≤_, _<_}
 use native.Mathlib.Nat.{le-of-mul-le-mul-right, mul-le-mul-right, eq-or-lt-of-le}
 use native.Mathlib.Decide.{decLe}
 use native.Mathlib.Omega.{arith}
-use lib.Dec.{T, ltb, eqb, ltb→lt, lt→ltb, eqb→eq, eqb-refl}
-use lib.IntN.{pos}
+use lib.Dec.{T, eqb, ltb→lt, lt→ltb, eqb→eq, eqb-refl}
 use lib.Ieee.{Float, nan, inf, fin, up, down, lt, eq, le, neg, isNan}
 use lib.Ieee.Positive.{den, den-pos}
 use lib.Ieee.Scale.{finite}
-use Rattle.doubles.specs.Order.{_≼_, _≺_, _≈_, Number, Finite}
+use Rattle.doubles.specs.Order.{_≼_, _≺_, Number, Finite}
 
 -- ---- truth values
 

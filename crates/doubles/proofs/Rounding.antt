@@ -2,21 +2,21 @@
 -- One lemma for each operation on finite doubles says so of its result, and one law says that roundings are in the order of
 -- their fractions: what an operation's order needs more is an inequality of natural numbers. Assumes nothing.
 use mathlib.Core.Path.{_≡_, refl, sym, ap, _∙_, subst}
-use mathlib.Core.Logic.{_⊎_, inl, inr}
+use mathlib.Core.Logic.{inl, inr}
 use mathlib.Core.Bool.{Bool, true, false, not, cond}
 use Prim.Native.Nat.{ℕ, zero, suc, _+_, _-_, _*_, _/_, _%_, _^_, _≤_, _<_, compare}
-use native.Mathlib.Nat.{mul-pos, mul-comm, mul-le-mul-right, add-mul, lt-irrefl, eq-zero-or-pos}
+use native.Mathlib.Nat.{mul-pos, lt-irrefl, eq-zero-or-pos}
 use native.Mathlib.Omega.{arith}
 use lib.Dec.{T, ltb, eqb, ltb→lt, nltb→le, eqb→eq, lit<}
-use lib.IntN.{ℤ, pos}
-use lib.Ieee.{Float, nan, inf, fin, Format, binary64, prec, low, up, down, odd, units, size, nearest, round, sum, add, mul, div, neg, isNan, le}
-use lib.Ieee.Fits.{up-pos, down-pos, round-is}
+use lib.IntN.{pos}
+use lib.Ieee.{Float, nan, inf, fin, binary64, up, down, odd, units, size, nearest, round, sum, add, mul, div, neg, le}
+use lib.Ieee.Fits.{round-is}
 use lib.Ieee.Order.{round-mono}
-use lib.Ieee.Positive.{den, den-pos, positive}
+use lib.Ieee.Positive.{den, positive}
 use lib.Ieee.Scale.{finite, round-same}
 use Rattle.doubles.specs.Arithmetic.{_⊕_, _⊗_, _⊘_}
-use Rattle.doubles.specs.Order.{_≼_, _≺_, Number, Finite}
-use Rattle.doubles.proofs.Order.{positivePart, negativePart, le-trans, neg-le, left-number}
+use Rattle.doubles.specs.Order.{_≼_}
+use Rattle.doubles.proofs.Order.{positivePart, negativePart, le-trans, neg-le}
 
 -- ---- rounding with the other sign
 

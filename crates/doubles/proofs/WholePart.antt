@@ -1,19 +1,18 @@
 -- What `floor` uses: a fitting double with a fraction is below 2 ^ 52 in size and its digits m are odd, so m / 2 ^ suc k is never
 -- whole; and a double without a fraction is the double of its whole value. Assumes nothing.
 use mathlib.Core.Path.{_≡_, refl, sym, ap, _∙_, subst}
-use mathlib.Core.Bool.{Bool, true, false, not, _&&_, _||_, cond, true≢false}
-use Prim.Native.Nat.{ℕ, zero, suc, _+_, _-_, _*_, _/_, _%_, _^_, _≤_, _<_, min}
-use native.Mathlib.Nat.{mul-one, mul-comm, mul-assoc, one-mul, div-one, mod-one, min-eq-left, div-lt-iff-lt-mul, div-add-mod', lt-irrefl, mod-lt, pow-suc, le-of-lt, lt-of-lt-of-le, mul-le-mul-left, mul-lt-mul-of-pos-right, eq-of-mul-eq-mul-right}
+use mathlib.Core.Bool.{Bool, true, false, _&&_, true≢false}
+use Prim.Native.Nat.{ℕ, zero, suc, _+_, _-_, _*_, _/_, _%_, _^_, _≤_, _<_}
+use native.Mathlib.Nat.{mul-one, mod-one, min-eq-left, div-lt-iff-lt-mul, div-add-mod', mod-lt, pow-suc, mul-le-mul-left, eq-of-mul-eq-mul-right}
 use native.Mathlib.Omega.{arith}
 use lib.Arith.{digits-div}
-use lib.Dec.{T, leb, ltb, eqb, ltb→lt, lt→ltb, le→leb, leb→le, eqb→eq, lit<, lit≤}
+use lib.Dec.{T, leb, ltb, eqb, lt→ltb, le→leb, eqb→eq}
 use lib.IntN.{ℤ, pos, negsuc}
 use lib.Pow.{pow-pos, pow-mono}
-use lib.Ieee.{Float, nan, inf, fin, binary64, up, down, round, neg, lt, eq, le, fits, isNan, ofInt, toUnsigned, inUnsigned, inFloat}
+use lib.Ieee.{Float, nan, inf, fin, binary64, up, down, neg, lt, eq, le, fits, isNan, ofInt, toUnsigned, inUnsigned}
 use lib.Ieee as Ieee
 use lib.Ieee.Back.{float-back-unsigned, round-whole}
 use lib.Ieee.Exact.{HasValue}
-use lib.Ieee.Casts.{toUnsigned-lt}
 use lib.Ieee.Fits.{and-i, and-l, and-r, eq→eqb, down-pos, neg-fits}
 use Rattle.doubles.specs.Arithmetic.{whole}
 use Rattle.doubles.specs.Functions.{floorOf}

@@ -1,9 +1,9 @@
 -- The functions on doubles that the engine's formulas use beside the four operations.
 use mathlib.Core.Bool.{true, false, cond}
 use mathlib.Core.List.{List, [], _∷_}
-use Prim.Native.Nat.{ℕ, suc, _+_, _-_, _/_, _^_}
+use Prim.Native.Nat.{suc, _+_, _-_, _/_, _^_}
 use lib.IntN.{pos, negsuc}
-use lib.Ieee.{Float, nan, inf, fin, binary64, mul, div, neg, lt, isNan}
+use lib.Ieee.{Float, nan, inf, fin, neg, lt, isNan}
 use Rattle.doubles.specs.Arithmetic.{_⊗_, _⊘_, whole, bits}
 
 -- the smaller of two, and the second where the comparison fails

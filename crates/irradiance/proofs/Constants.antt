@@ -1,6 +1,6 @@
 -- The cosine of 85 degrees, as the checker computes it from the definitions. Assumes nothing.
 use mathlib.Core.Path.{_≡_, refl}
-use lib.Ieee.{add, sub, mul, div, neg, lt, le, toUnsigned}
+use lib.Ieee.{add, sub, mul, div, lt, le, toUnsigned}
 use Rattle.doubles.specs.Arithmetic.{whole, bits}
 use Rattle.doubles.specs.Functions.{floorOf, toRadians}
 use Rattle.angles.specs.Sine.{isAngle, quarters, turns, quadrant, remainder, sineSum, cosineSum, sineSeries, cosineSeries, cosineAt, clamp, cosine}

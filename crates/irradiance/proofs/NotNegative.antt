@@ -1,7 +1,7 @@
 -- The direct value on the surface, where it is a number, is never below 0. (It may be −0.0.) Assumes nothing.
-use mathlib.Core.Bool.{Bool, cond}
+use mathlib.Core.Bool.{Bool}
 use lib.Ieee.{Float, lt, isNan}
-use Rattle.doubles.specs.Arithmetic.{_⊕_, _⊗_, _⊘_, whole, bits}
+use Rattle.doubles.specs.Arithmetic.{_⊗_, whole, bits}
 use Rattle.doubles.specs.Functions.{maxOf2}
 use Rattle.doubles.specs.Order.{_≼_, _≺_, Number}
 use Rattle.doubles.proofs.Order.{lt-le-trans}

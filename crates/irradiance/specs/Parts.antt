@@ -1,5 +1,5 @@
 -- The irradiance on the surface and its parts, added as the Rust adds them. Values are in W/m².
-use mathlib.Core.Bool.{Bool, cond}
+use mathlib.Core.Bool.{cond}
 use lib.Ieee.{Float, lt}
 use Rattle.doubles.specs.Arithmetic.{_⊕_, _⊖_, _⊗_, _⊘_, whole}
 use Rattle.angles.specs.declared.SinCos.{SinCos}

@@ -5,7 +5,7 @@ use mathlib.Core.List.{List, [], _∷_}
 use Prim.Native.Nat.{ℕ, suc, _+_}
 use lib.ListN.{getD}
 use lib.Ieee.{Float, nan, neg, lt, eq}
-use Rattle.doubles.specs.Arithmetic.{_⊕_, _⊖_, _⊗_, _⊘_, decimal, whole}
+use Rattle.doubles.specs.Arithmetic.{_⊕_, _⊗_, _⊘_, decimal, whole}
 use Rattle.doubles.specs.Functions.{pi, cubeOf}
 use Rattle.sun.specs.declared.hour.Hour.{Hour}
 use Rattle.irradiance.specs.declared.sky.Sky.{Sky}

@@ -1,12 +1,9 @@
 -- Sums from 0, in order, of values that are not negative, and of such values times factors from 0 to 1: they keep the order. Assumes
 -- nothing.
 use mathlib.Core.Path.{_≡_, refl, ap₂, subst}
-use mathlib.Core.Bool.{true, false}
-use Prim.Native.Nat.{ℕ, zero, suc, _*_, _<_}
-use native.Mathlib.Nat.{one-mul}
+use Prim.Native.Nat.{ℕ, zero, suc, _<_}
 use native.Mathlib.Omega.{arith}
-use lib.Dec.{T}
-use lib.Ieee.{Float, nan, inf, fin, binary64, mul, up, down, fits}
+use lib.Ieee.{Float, fits}
 use Rattle.doubles.specs.Arithmetic.{_⊕_, _⊗_, whole}
 use Rattle.doubles.specs.Order.{_≼_, Number, Finite, Fits}
 use Rattle.doubles.proofs.Order.{le-refl, le-trans, finite-number}

@@ -1,7 +1,7 @@
 -- The sectors of a list in a table: one place after the other is filled, and its counted places are the list's sectors. Assumes nothing.
 use mathlib.Core.Path.{_≡_, refl, sym, ap, _∙_}
 use mathlib.Core.Bool.{Bool, true, false, cond}
-use mathlib.Core.List.{List, [], _∷_}
+use mathlib.Core.List.{List, _∷_}
 use Prim.Native.Nat.{ℕ, zero, suc, _+_, _/_, _≤_, _<_}
 use native.Mathlib.Nat.{not-suc-le-zero, le-of-suc-le-suc}
 use native.Mathlib.Omega.{arith}
@@ -9,7 +9,6 @@ use borrow.Author.Tests.{lt-ltb, le-ltb, ltb-true, ltb-false}
 use lib.Dec.{ltb}
 use lib.ListN.{set, take, replicate}
 use Rattle.words.specs.Words.{wordCount}
-use Rattle.objects.specs.declared.sectors.ShadingSegment.{ShadingSegment}
 use Rattle.objects.specs.Records.{recordsFrom, segmentAt, sectorsOf, noSegment, sectorPlaces, sectorTable}
 use Rattle.objects.specs.Objects.{listed}
 

@@ -2,11 +2,10 @@
 -- definition.
 use mathlib.Core.Path.{_≡_, refl, sym, _∙_, ap, ap₂}
 use mathlib.Core.List.{List}
-use Prim.Native.Nat.{ℕ, suc, _+_, _-_, _/_, _≤_, _<_}
+use Prim.Native.Nat.{ℕ, suc, _+_, _-_, _/_, _<_}
 use native.Mathlib.Omega.{arith}
 use lib.Ieee.{Float}
 use Rattle.doubles.specs.Arithmetic.{_⊕_, _⊗_, whole}
-use Rattle.sun.specs.Hour.{hourOf}
 use Rattle.simulation_time.specs.Timestep.{currentHour}
 use Rattle.objects.specs.declared.answers.Refusal.{Refusal}
 use Rattle.objects.specs.Records.{windowObjectsOf}
@@ -21,7 +20,7 @@ use Rattle.jobs.specs.declared.answers.Row.{Row}
 use Rattle.jobs.specs.declared.answers.StepAnswer.{StepAnswer}
 use Rattle.jobs.specs.declared.answers.StepAnswer.the-variants as step
 use Rattle.jobs.specs.declared.answers.RunAnswer.the-variants.{Accepted, Refused}
-use Rattle.jobs.specs.Job.{Job, indexAt, readingAt}
+use Rattle.jobs.specs.Job.{Job, readingAt}
 use Rattle.jobs.specs.Step.{sunAt, irradianceAt, shadingAt, stepWith, stepAt}
 use Rattle.jobs.specs.Run.{ran, putRow, withRow, runFrom}
 use Rattle.jobs.proofs.RunLaws.{run-ended, run-refused, run-onward}

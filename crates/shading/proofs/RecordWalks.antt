@@ -2,7 +2,7 @@
 use mathlib.Core.Path.{_≡_, refl, sym, ap, _∙_}
 use mathlib.Core.Bool.{Bool, true, false, not, _&&_, cond}
 use mathlib.Core.List.{List, [], _∷_}
-use Prim.Native.Nat.{ℕ, zero, suc, _+_, _-_, _≤_, _<_, zero-le, suc-le-suc}
+use Prim.Native.Nat.{ℕ, zero, suc, _+_, _≤_, _<_, zero-le, suc-le-suc}
 use native.Mathlib.Nat.{le-antisymm, le-of-suc-le-suc, not-suc-le-zero}
 use native.Mathlib.Numerals.{add-one}
 use native.Mathlib.Omega.{arith}
@@ -15,7 +15,7 @@ use Rattle.objects.specs.declared.sectors.ShadingSegment.{ShadingSegment}
 use Rattle.shading.specs.declared.segments.Place.{Place}
 use Rattle.shading.specs.declared.segments.Place.the-variants as place
 use Rattle.shading.specs.declared.segments.Walk.{Walk}
-use Rattle.shading.specs.Segments.{Segment, found, gap, turned, noSector, holdsAzimuth, visit, walkFrom, segmentOf}
+use Rattle.shading.specs.Segments.{found, gap, turned, noSector, holdsAzimuth, visit, walkFrom, segmentOf}
 use Rattle.shading.specs.Walk.{sectorAt, segmentIn, Within}
 use Rattle.shading.specs.Steps.{setOut, stopAt, lookAt}
 use Rattle.shading.proofs.Walks.{walkAt, later}

@@ -2,7 +2,7 @@
 -- quarter is a double. Assumes nothing.
 use mathlib.Core.Path.{_≡_, refl, sym, ap, _∙_}
 use mathlib.Core.Bool.{true, false, true≢false}
-use Prim.Native.Nat.{ℕ, _+_, _-_, _*_, _/_, _^_, _≤_, _<_}
+use Prim.Native.Nat.{ℕ, _+_, _*_, _/_, _^_, _≤_, _<_}
 use native.Mathlib.Nat.{mul-pos, mul-assoc, mul-le-mul-right, le-of-mul-le-mul-right, le-div-iff-mul-le, div-mul-le-self, div-le-of-le-mul, lt-of-lt-of-le}
 use native.Mathlib.Omega.{arith}
 use lib.Dec.{T, lit<, lit≤}

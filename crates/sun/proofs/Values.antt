@@ -4,7 +4,6 @@ use mathlib.Core.Bool.{true}
 use lib.IntN.{pos}
 use lib.Ieee.{add, sub, mul, div, neg, lt, ofInt}
 use Rattle.doubles.specs.Arithmetic.{whole, decimal}
-use Rattle.angles.specs.Sine.{cosine}
 use Rattle.sun.specs.Day.{equationOfTime}
 use Rattle.sun.specs.Hour.{timeShift, hourAngle}
 use Rattle.sun.specs.Orientation.{orientation180, wrappedOnce}

@@ -1,9 +1,8 @@
 -- What depends on the day alone: ISO 52010-1's orbit deviation, declination, equation of time and extra-terrestrial radiation,
 -- in the Rust's order of operations. The day number n counts from 1; angles are in degrees.
 use mathlib.Core.Bool.{cond}
-use Prim.Native.Nat.{ℕ, _+_, _≤_}
+use Prim.Native.Nat.{ℕ}
 use lib.Dec.{ltb}
-use lib.IntN.{ℤ}
 use lib.Ieee.{Float, nan, neg, binary64, ofInt, minus}
 use Rattle.doubles.specs.Arithmetic.{_⊕_, _⊖_, _⊗_, _⊘_, decimal, whole}
 use Rattle.doubles.specs.Functions.{toRadians}

@@ -1,4 +1,4 @@
-use lib.Ieee.{ofBits, neg}
+use lib.Ieee.{ofBits}
 use Rattle.angles.specs.ArcsineParts.{magnitude}
 use Rattle.angles.proofs.magnitude.Statement.{statement}
 use Rattle.angles.proofs.magnitude.Tie as tie

@@ -1,5 +1,4 @@
 -- Each way of `reduce` is one lemma of `Reduction`: above 0, at a whole number, and between two.
-use mathlib.Core.Path.{refl}
 use Prim.Native.Nat.{_≤_}
 use native.Mathlib.Omega.{arith}
 use lib.Ieee.{ofBits, neg, div}

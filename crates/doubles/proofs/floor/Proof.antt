@@ -1,9 +1,9 @@
 -- `floor` meets its contract: the laws of the whole part say what each way through it returns.
-use mathlib.Core.Path.{_≡_, sym, ap, _∙_}
+use mathlib.Core.Path.{sym, ap, _∙_}
 use Prim.Native.Nat.{ℕ, _+_, _<_, _^_}
 use native.Mathlib.Omega.{arith}
 use lib.Dec.{le→leb}
-use lib.Ieee.{ofBits, neg, toUnsigned, inFloat}
+use lib.Ieee.{ofBits, neg, inFloat}
 use denote.Floats.{passes}
 use Rattle.doubles.specs.Arithmetic.{whole}
 use Rattle.doubles.proofs.WholePart.{castable, whole-part-lt, floor-positive, floor-whole, floor-even, floor-negative}

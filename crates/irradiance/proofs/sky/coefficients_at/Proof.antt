@@ -1,6 +1,5 @@
 use lib.Ieee.{ofBits, neg}
 use native.Mathlib.Omega.{arith}
-use Rattle.doubles.specs.Arithmetic.{decimal}
 use Rattle.irradiance.specs.Sky.{coefficients}
 use Rattle.irradiance.proofs.Table.{row-lt}
 use Rattle.irradiance.proofs.sky.coefficients_at.Statement.{statement}

@@ -1,5 +1,5 @@
 -- `run_job` meets its contract.
-use mathlib.Core.Path.{_≡_, refl, sym, _∙_}
+use mathlib.Core.Path.{refl, sym, _∙_}
 use native.Mathlib.Omega.{arith}
 use lib.Ieee.Bits.{is-true}
 use denote.Ref.{now}

@@ -1,5 +1,5 @@
 -- `step_with` meets its contract.
-use mathlib.Core.Path.{_≡_, sym, _∙_, ap, subst}
+use mathlib.Core.Path.{sym, _∙_, ap, subst}
 use lib.Dec.{T}
 use Prim.Native.Nat.{ℕ, _/_}
 use denote.Ref.{now}
