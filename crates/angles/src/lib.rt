@@ -188,38 +188,6 @@ pub fn tan(a: f64) -> f64
     both.sin / both.cos
 }
 
-fn arcsine_series(a: f64) -> f64
-    ensures { λ r. ⌜ r ≡ arcsineSeries a ⌝ }
-{
-    let t = a * a;
-    let h = 1.0;
-    let h = 1.0 + t * 2209.0 / 2352.0 * h;
-    let h = 1.0 + t * 2025.0 / 2162.0 * h;
-    let h = 1.0 + t * 1849.0 / 1980.0 * h;
-    let h = 1.0 + t * 1681.0 / 1806.0 * h;
-    let h = 1.0 + t * 1521.0 / 1640.0 * h;
-    let h = 1.0 + t * 1369.0 / 1482.0 * h;
-    let h = 1.0 + t * 1225.0 / 1332.0 * h;
-    let h = 1.0 + t * 1089.0 / 1190.0 * h;
-    let h = 1.0 + t * 961.0 / 1056.0 * h;
-    let h = 1.0 + t * 841.0 / 930.0 * h;
-    let h = 1.0 + t * 729.0 / 812.0 * h;
-    let h = 1.0 + t * 625.0 / 702.0 * h;
-    let h = 1.0 + t * 529.0 / 600.0 * h;
-    let h = 1.0 + t * 441.0 / 506.0 * h;
-    let h = 1.0 + t * 361.0 / 420.0 * h;
-    let h = 1.0 + t * 289.0 / 342.0 * h;
-    let h = 1.0 + t * 225.0 / 272.0 * h;
-    let h = 1.0 + t * 169.0 / 210.0 * h;
-    let h = 1.0 + t * 121.0 / 156.0 * h;
-    let h = 1.0 + t * 81.0 / 110.0 * h;
-    let h = 1.0 + t * 49.0 / 72.0 * h;
-    let h = 1.0 + t * 25.0 / 42.0 * h;
-    let h = 1.0 + t * 9.0 / 20.0 * h;
-    let h = 1.0 + t * 1.0 / 6.0 * h;
-    a * h
-}
-
 // Two numbers at once.
 struct Both {
     first: f64,
@@ -353,11 +321,13 @@ fn arcsine_by(a: f64, series: f64) -> f64
     }
 }
 
+// The series of two cost no more than that of one, so there is no other.
 pub fn asin(a: f64) -> f64
     ensures { λ r. ⌜ r ≡ arcsine a ⌝ }
 {
     let argument = series_argument(magnitude(a));
-    arcsine_by(a, arcsine_series(argument))
+    let series = arcsine_series_both(argument, argument);
+    arcsine_by(a, series.first)
 }
 
 pub struct Arcsines {
