@@ -3,9 +3,9 @@
 ghost use mathlib.Core.Path.{_≡_};
 ghost use Rattle.angles.specs.Sine.{remainder, sineSum, cosineSum, clamp, sine, cosine, tangent};
 ghost use Rattle.angles.specs.Reduction.{Reduces, Expands};
-ghost use Rattle.doubles.specs.Arithmetic.{whole};
+ghost use Rattle.doubles.specs.Arithmetic.{_⊖_, whole};
 ghost use Rattle.angles.specs.Series.{down};
-ghost use Rattle.angles.specs.Arcsine.{arcsineStep, arcsineSeries, arcsine, arccosine};
+ghost use Rattle.angles.specs.Arcsine.{arcsineStep, arcsineSeries, halfPi, arcsine, arccosine};
 ghost use Rattle.angles.specs.ArcsineParts.{magnitude, seriesArgument, upwardBy, arcsineBy};
 ghost use Rattle.angles.specs.Power.{logarithmOf, powerOf, powMinus1253};
 
@@ -348,10 +348,17 @@ pub fn asin_both(a: f64, b: f64) -> Arcsines
     }
 }
 
+// The arccosine of a number by its arcsine.
+pub fn acos_by(arc_sine: f64) -> f64
+    ensures { λ r. ⌜ r ≡ halfPi ⊖ «arc_sine» ⌝ }
+{
+    PI / 2.0 - arc_sine
+}
+
 pub fn acos(a: f64) -> f64
     ensures { λ r. ⌜ r ≡ arccosine a ⌝ }
 {
-    PI / 2.0 - asin(a)
+    acos_by(asin(a))
 }
 
 // The logarithm of w · 2 ^ m.

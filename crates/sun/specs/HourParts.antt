@@ -1,5 +1,5 @@
--- The sun of an hour taken apart, so that a run can order its parts: what the hour angle gives before the altitude is known, and what
--- depends on the altitude alone, which is the same all night. `hour-by-parts` of proofs/HourParts puts it together again.
+-- The sun of an hour taken apart, so that a run can order its parts: the hour angle, what depends on the altitude alone, which is the
+-- same all night, and the rest. `hour-by-parts` of proofs/HourParts puts it together again.
 use mathlib.Core.Bool.{cond}
 use Prim.Native.Nat.{ℕ}
 use lib.Ieee.{Float, lt}
@@ -24,28 +24,23 @@ heightOf altitude = record {
   «air_mass» = airMassBy altitude (sine (toRadians altitude));
 }
 
-unfoldable pub turnBy : SinCos → SinCos → Float → Float → ℕ → Turn
+unfoldable pub turnBy : Float → Float → ℕ → Turn
 unfolding whole
-turnBy l d equation shift hour =
+turnBy equation shift hour =
     let angle = hourAngle (solarTime hour equation shift) in
-    record {
-      «hour_angle» = sinCosOf angle;
-      opposite = sinCosOf (whole 180 ⊖ angle);
-      «altitude_arcsine» = arcsine (d .sin ⊗ l .sin ⊕ d .cos ⊗ l .cos ⊗ sinCosOf angle .cos);
-      «azimuth_arcsine» = arcsine (d .cos ⊗ sinCosOf (whole 180 ⊖ angle) .sin);
-    }
+    record { «hour_angle» = sinCosOf angle; opposite = sinCosOf (whole 180 ⊖ angle) }
 
-unfoldable pub hourFrom : SinCos → SinCos → Turn → Hour
+unfoldable pub hourFrom : SinCos → SinCos → Turn → Float → Hour
 unfolding decimal whole
-hourFrom l d turn =
-    let degrees = toDegrees (turn .«altitude_arcsine») in
+hourFrom l d turn altitudeArcsine =
+    let degrees = toDegrees altitudeArcsine in
     let height = heightOf (cond (lt degrees (decimal 1 4)) (whole 0) degrees) in
     let w = turn .opposite in
     let denominator = height .«azimuth_denominator» in
     record {
       «hour_angle» = turn .«hour_angle»;
       altitude = height .altitude;
-      azimuth = azimuthBranch (d .cos ⊗ w .sin ⊘ denominator) ((l .cos ⊗ d .sin ⊕ l .sin ⊗ d .cos ⊗ w .cos) ⊘ denominator) (toDegrees (turn .«azimuth_arcsine» ⊘ denominator));
+      azimuth = azimuthBranch (d .cos ⊗ w .sin ⊘ denominator) ((l .cos ⊗ d .sin ⊕ l .sin ⊗ d .cos ⊗ w .cos) ⊘ denominator) (toDegrees (arcsine (d .cos ⊗ w .sin) ⊘ denominator));
       «sin_altitude» = height .sin;
       «tan_altitude» = height .tan;
       zenith = height .zenith;

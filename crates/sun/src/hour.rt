@@ -38,7 +38,8 @@ pub fn init_solar_hour_angle(solar_time: f64) -> f64
     wrap_once(15.0 * (12.5 - solar_time))
 }
 
-fn altitude_sine(latitude: SinCos, declination: SinCos, cos_hour_angle: f64) -> f64
+// The sine of the sun's altitude.
+pub fn altitude_sine(latitude: SinCos, declination: SinCos, cos_hour_angle: f64) -> f64
     ensures { λ r. ⌜ r ≡ declination .sin ⊗ latitude .sin ⊕ declination .cos ⊗ latitude .cos ⊗ «cos_hour_angle» ⌝ }
 {
     declination.sin * latitude.sin + declination.cos * latitude.cos * cos_hour_angle
@@ -158,23 +159,7 @@ struct Height {
     air_mass: f64,
 }
 
-fn height_of(altitude: f64) -> Height
-    ensures { λ r. ⌜ r ≡ heightOf altitude ⌝ }
-{
-    let a = sin_cos_of_degrees(altitude);
-    let zenith = init_solar_zenith_angle(altitude);
-    Height {
-        altitude: altitude,
-        sin: a.sin,
-        tan: a.sin / a.cos,
-        azimuth_denominator: azimuth_denominator(a.sin),
-        zenith: zenith,
-        cos_zenith: angles::cos(doubles::to_radians(zenith)),
-        air_mass: air_mass_by(altitude, a.sin),
-    }
-}
-
-// The same of altitude 0, so that the hours of night, about half of a year's, need not work it out.
+// That of altitude 0, so that the hours of night, about half of a year's, need not work it out.
 fn height_at_night() -> Height
     ensures { λ r. ⌜ r ≡ heightOf (whole 0) ⌝ }
 {
@@ -189,13 +174,43 @@ fn height_at_night() -> Height
     }
 }
 
-fn height_by(altitude: f64) -> Height
-    ensures { λ r. ⌜ r ≡ heightOf (cond (lt altitude (decimal 1 4)) (whole 0) altitude) ⌝ }
+// With the arcsine of the azimuth's numerator.
+struct HeightAndArcsine {
+    height: Height,
+    azimuth_arcsine: f64,
+}
+
+fn height_of(altitude: f64, numerator: f64) -> HeightAndArcsine
+    ensures { λ r. ⌜ (r .height ≡ heightOf altitude) × (r .«azimuth_arcsine» ≡ arcsine numerator) ⌝ }
+{
+    let a = sin_cos_of_degrees(altitude);
+    let arcsines = angles::asin_both(numerator, a.sin);
+    let zenith = init_solar_zenith_angle(altitude);
+    HeightAndArcsine {
+        height: Height {
+            altitude: altitude,
+            sin: a.sin,
+            tan: a.sin / a.cos,
+            azimuth_denominator: angles::cos(arcsines.second),
+            zenith: zenith,
+            cos_zenith: angles::cos(doubles::to_radians(zenith)),
+            air_mass: air_mass_by(altitude, a.sin),
+        },
+        azimuth_arcsine: arcsines.first,
+    }
+}
+
+// By day the two arcsines that the azimuth needs go at once; at night it needs but one.
+fn height_by(altitude: f64, numerator: f64) -> HeightAndArcsine
+    ensures { λ r. ⌜ (r .height ≡ heightOf (cond (lt altitude (decimal 1 4)) (whole 0) altitude)) × (r .«azimuth_arcsine» ≡ arcsine numerator) ⌝ }
 {
     if is_night(altitude) {
-        height_at_night()
+        HeightAndArcsine {
+            height: height_at_night(),
+            azimuth_arcsine: angles::asin(numerator),
+        }
     } else {
-        height_of(altitude)
+        height_of(altitude, numerator)
     }
 }
 
@@ -211,48 +226,40 @@ pub struct Hour {
     pub air_mass: f64,
 }
 
-// What the hour angle gives before the altitude is known: the arcsines of the altitude's sine and of the azimuth's numerator.
+// The hour angle, and 180 degrees less it.
 pub struct Turn {
     pub hour_angle: SinCos,
     pub opposite: SinCos,
-    pub altitude_arcsine: f64,
-    pub azimuth_arcsine: f64,
 }
 
-// The sines and cosines of latitude and declination are the caller's to keep: they change with the site and the day alone.
-pub fn turn_by(
-    latitude: SinCos,
-    declination: SinCos,
-    equation_of_time: f64,
-    time_shift: f64,
-    hour_of_day: u32,
-) -> Turn
-    ensures { λ r. ⌜ r ≡ turnBy latitude declination «equation_of_time» «time_shift» «hour_of_day» ⌝ }
+pub fn turn_by(equation_of_time: f64, time_shift: f64, hour_of_day: u32) -> Turn
+    ensures { λ r. ⌜ r ≡ turnBy «equation_of_time» «time_shift» «hour_of_day» ⌝ }
 {
     let angle = init_solar_hour_angle(init_solar_time(hour_of_day, equation_of_time, time_shift));
-    let w = sin_cos_of_degrees(angle);
+    let hour_angle = sin_cos_of_degrees(angle);
     let opposite = sin_cos_of_degrees(180.0 - angle);
-    let sine = altitude_sine(latitude, declination, w.cos);
-    let arcsines = angles::asin_both(sine, declination.cos * opposite.sin);
     Turn {
-        hour_angle: w,
+        hour_angle: hour_angle,
         opposite: opposite,
-        altitude_arcsine: arcsines.first,
-        azimuth_arcsine: arcsines.second,
     }
 }
 
-pub fn hour_from(latitude: SinCos, declination: SinCos, turn: Turn) -> Hour
-    ensures { λ r. ⌜ r ≡ hourFrom latitude declination turn ⌝ }
+// The rest of the hour, by the arcsine of the altitude's sine.
+pub fn hour_from(latitude: SinCos, declination: SinCos, turn: Turn, altitude_arcsine: f64) -> Hour
+    ensures { λ r. ⌜ r ≡ hourFrom latitude declination turn «altitude_arcsine» ⌝ }
 {
-    let height = height_by(doubles::to_degrees(turn.altitude_arcsine));
     let opposite = turn.opposite;
     let hour_angle = turn.hour_angle;
+    let seen = height_by(
+        doubles::to_degrees(altitude_arcsine),
+        declination.cos * opposite.sin,
+    );
+    let height = seen.height;
     let azimuth = azimuth_by(
         latitude,
         declination,
         opposite,
-        turn.azimuth_arcsine,
+        seen.azimuth_arcsine,
         height.azimuth_denominator,
     );
     Hour {
@@ -267,6 +274,7 @@ pub fn hour_from(latitude: SinCos, declination: SinCos, turn: Turn) -> Hour
     }
 }
 
+// The sines and cosines of latitude and declination are the caller's to keep: they change with the site and the day alone.
 pub fn hour_by(
     latitude: SinCos,
     declination: SinCos,
@@ -276,14 +284,10 @@ pub fn hour_by(
 ) -> Hour
     ensures { λ r. ⌜ r ≡ hourBy latitude declination «equation_of_time» «time_shift» «hour_of_day» ⌝ }
 {
-    let turn = turn_by(
-        latitude,
-        declination,
-        equation_of_time,
-        time_shift,
-        hour_of_day,
-    );
-    hour_from(latitude, declination, turn)
+    let turn = turn_by(equation_of_time, time_shift, hour_of_day);
+    let hour_angle = turn.hour_angle;
+    let sine = altitude_sine(latitude, declination, hour_angle.cos);
+    hour_from(latitude, declination, turn, angles::asin(sine))
 }
 
 // The sun at a site in an hour of the year.

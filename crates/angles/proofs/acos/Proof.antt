@@ -1,15 +1,16 @@
-use lib.Ieee.{ofBits}
-use Rattle.angles.specs.Arcsine.{arccosine, halfPi}
-use borrow.Author.Needs.{needs}
+use Rattle.angles.specs.Arcsine.{arccosine}
 use Rattle.angles.proofs.acos.Statement.{statement}
 use Rattle.angles.proofs.acos.Tie as tie
 
 asin-requires : tie.Need-asin-requires
-asin-requires c κs = search needs
+asin-requires c κs = tt
+
+acos-by-requires : tie.Need-acos-by-requires
+acos-by-requires c κs = tt
 
 returns : tie.Need-returns
-unfolding arccosine halfPi ofBits
-returns c = simp (c .asin .ensures)
+unfolding arccosine
+returns c = rw (c .acos-by .ensures, c .before .asin .ensures)
 
 pub acos-spec : {M : Type 1} → statement M
-acos-spec = tie.close (tie.spec asin-requires returns)
+acos-spec = tie.close (tie.spec asin-requires acos-by-requires returns)

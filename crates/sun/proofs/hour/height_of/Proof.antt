@@ -7,33 +7,48 @@ use Rattle.sun.proofs.hour.height_of.Tie as tie
 sin-cos-of-degrees-requires : tie.Need-sin-cos-of-degrees-requires
 sin-cos-of-degrees-requires c κs = tt
 
+asin-both-requires : tie.Need-asin-both-requires
+asin-both-requires c κs = tt
+
 init-solar-zenith-angle-requires : tie.Need-init-solar-zenith-angle-requires
 init-solar-zenith-angle-requires c κs = tt
 
-azimuth-denominator-requires : tie.Need-azimuth-denominator-requires
-azimuth-denominator-requires c κs = tt
+cos-requires : tie.Need-cos-requires
+cos-requires c κs = tt
 
 to-radians-requires : tie.Need-to-radians-requires
 to-radians-requires c κs = tt
 
-cos-requires : tie.Need-cos-requires
-cos-requires c κs = tt
+cos-requires-2 : tie.Need-cos-requires-2
+cos-requires-2 c κs = tt
 
 air-mass-by-requires : tie.Need-air-mass-by-requires
 air-mass-by-requires c κs = tt
 
 returns : tie.Need-returns
 unfolding heightOf sinCosOf tangent
-returns c = rw (c .air-mass-by .ensures, c .before .cos .ensures, c .before .before .to-radians .ensures, c .before .before .before .azimuth-denominator .ensures, c .before .before .before .before .before .init-solar-zenith-angle .ensures, c .before .before .before .before .before .before .sin-cos-of-degrees .ensures)
+returns c = (
+  rw (
+    c .air-mass-by .ensures,
+    c .before .cos2 .ensures,
+    c .before .before .to-radians .ensures,
+    c .before .before .before .cos .ensures,
+    c .before .before .before .before .before .init-solar-zenith-angle .ensures,
+    c .before .before .before .before .before .before .asin-both .ensures .1,
+    c .before .before .before .before .before .before .before .sin-cos-of-degrees .ensures,
+  ),
+  c .before .before .before .before .before .before .asin-both .ensures .0,
+)
 
 pub height-of-spec : {M : Type 1} → statement M
 height-of-spec =
     tie.close
     (tie.spec
     sin-cos-of-degrees-requires
+    asin-both-requires
     init-solar-zenith-angle-requires
-    azimuth-denominator-requires
-    to-radians-requires
     cos-requires
+    to-radians-requires
+    cos-requires-2
     air-mass-by-requires
     returns)

@@ -13,7 +13,7 @@ azimuth-by-requires c κs = tt
 
 returns : tie.Need-returns
 unfolding hourFrom
-returns c = rw (c .azimuth-by .ensures, c .before .before .before .height-by .ensures, c .before .before .before .before .to-degrees .ensures)
+returns c = rw (c .azimuth-by .ensures, c .before .before .height-by .ensures .0, c .before .before .height-by .ensures .1, c .before .before .before .before .before .to-degrees .ensures)
 
 pub hour-from-spec : {M : Type 1} → statement M
 hour-from-spec =

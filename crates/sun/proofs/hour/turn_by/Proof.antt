@@ -15,24 +15,9 @@ sin-cos-of-degrees-requires c κs = tt
 sin-cos-of-degrees-requires-2 : tie.Need-sin-cos-of-degrees-requires-2
 sin-cos-of-degrees-requires-2 c κs = tt
 
-altitude-sine-requires : tie.Need-altitude-sine-requires
-altitude-sine-requires c κs = tt
-
-asin-both-requires : tie.Need-asin-both-requires
-asin-both-requires c κs = tt
-
 returns : tie.Need-returns
 unfolding turnBy ofBits
-returns c =
-    rw (
-      c .asin-both .ensures .0,
-      c .asin-both .ensures .1,
-      c .before .before .before .altitude-sine .ensures,
-      c .before .before .before .before .sin-cos-of-degrees2 .ensures,
-      c .before .before .before .before .before .sin-cos-of-degrees .ensures,
-      c .before .before .before .before .before .before .init-solar-hour-angle .ensures,
-      c .before .before .before .before .before .before .before .init-solar-time .ensures,
-    )
+returns c = rw (c .sin-cos-of-degrees2 .ensures, c .before .sin-cos-of-degrees .ensures, c .before .before .init-solar-hour-angle .ensures, c .before .before .before .init-solar-time .ensures)
 
 pub turn-by-spec : {M : Type 1} → statement M
 turn-by-spec =
@@ -42,6 +27,4 @@ turn-by-spec =
     init-solar-hour-angle-requires
     sin-cos-of-degrees-requires
     sin-cos-of-degrees-requires-2
-    altitude-sine-requires
-    asin-both-requires
     returns)
