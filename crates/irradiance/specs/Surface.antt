@@ -10,14 +10,19 @@ use Rattle.angles.specs.Arcsine.{arccosine}
 use Rattle.sun.specs.declared.hour.Hour.{Hour}
 use Rattle.irradiance.specs.declared.surface.Incidence.{Incidence}
 
-unfoldable pub incidenceAngle : SinCos → SinCos → SinCos → SinCos → SinCos → Float
-incidenceAngle l d t o w =
-    toDegrees (arccosine (
+-- the cosine of the angle of incidence, by the sines and cosines of latitude, declination, tilt, orientation and hour angle
+unfoldable pub incidenceArgument : SinCos → SinCos → SinCos → SinCos → SinCos → Float
+incidenceArgument l d t o w =
     d .sin ⊗ l .sin ⊗ t .cos
     ⊖ d .sin ⊗ l .cos ⊗ t .sin ⊗ o .cos
     ⊕ d .cos ⊗ l .cos ⊗ t .cos ⊗ w .cos
     ⊕ d .cos ⊗ l .sin ⊗ t .sin ⊗ o .cos ⊗ w .cos
-    ⊕ d .cos ⊗ t .sin ⊗ o .sin ⊗ w .sin))
+    ⊕ d .cos ⊗ t .sin ⊗ o .sin ⊗ w .sin
+
+-- not clamped: a sum just above 1 gives NaN
+unfoldable pub incidenceAngle : SinCos → SinCos → SinCos → SinCos → SinCos → Float
+unfolding incidenceArgument
+incidenceAngle l d t o w = toDegrees (arccosine (incidenceArgument l d t o w))
 
 -- the cosine of an angle in degrees
 unfoldable pub cosineOfDegrees : Float → Float

@@ -1,19 +1,27 @@
 // The sun on an inclined surface: incidence, and the ratio of the solid angles a and b.
 ghost use mathlib.Core.Path.{_≡_};
-ghost use Rattle.irradiance.specs.Surface.{incidenceAngle, cosineOfDegrees, aOverB, incidenceBy, incidenceOf};
+ghost use Rattle.doubles.specs.Arithmetic.{_⊖_};
+ghost use Rattle.doubles.specs.Functions.{toDegrees};
+ghost use Rattle.angles.specs.Arcsine.{halfPi};
+ghost use Rattle.irradiance.specs.Surface.{incidenceArgument, cosineOfDegrees, aOverB, incidenceBy, incidenceOf};
 use angles::SinCos;
 use sun::hour::Hour;
 
-// By the sines and cosines of latitude, declination, tilt, orientation and hour angle.
-fn solar_angle_of_incidence(l: SinCos, d: SinCos, t: SinCos, o: SinCos, w: SinCos) -> f64
-    ensures { λ r. ⌜ r ≡ incidenceAngle l d t o w ⌝ }
+// By the sines and cosines of latitude, declination, tilt, orientation and hour angle: the sum whose arccosine is the incidence.
+pub fn incidence_argument(l: SinCos, d: SinCos, t: SinCos, o: SinCos, w: SinCos) -> f64
+    ensures { λ r. ⌜ r ≡ incidenceArgument l d t o w ⌝ }
 {
-    doubles::to_degrees(angles::acos(
-        d.sin * l.sin * t.cos - d.sin * l.cos * t.sin * o.cos
-            + d.cos * l.cos * t.cos * w.cos
-            + d.cos * l.sin * t.sin * o.cos * w.cos
-            + d.cos * t.sin * o.sin * w.sin,
-    ))
+    d.sin * l.sin * t.cos - d.sin * l.cos * t.sin * o.cos
+        + d.cos * l.cos * t.cos * w.cos
+        + d.cos * l.sin * t.sin * o.cos * w.cos
+        + d.cos * t.sin * o.sin * w.sin
+}
+
+// By the arcsine of that sum.
+fn solar_angle_of_incidence(arc_sine: f64) -> f64
+    ensures { λ r. ⌜ r ≡ toDegrees (halfPi ⊖ «arc_sine») ⌝ }
+{
+    doubles::to_degrees(angles::acos_by(arc_sine))
 }
 
 // The constant is the cosine of 85 degrees.
@@ -29,11 +37,11 @@ pub struct Incidence {
     pub a_over_b: f64,
 }
 
-// The cosine of the angle of incidence.
-pub fn incidence_cosine(l: SinCos, d: SinCos, t: SinCos, o: SinCos, w: SinCos) -> f64
-    ensures { λ r. ⌜ r ≡ cosineOfDegrees (incidenceAngle l d t o w) ⌝ }
+// The cosine of the angle of incidence, which is not quite the sum itself.
+pub fn incidence_cosine(arc_sine: f64) -> f64
+    ensures { λ r. ⌜ r ≡ cosineOfDegrees (toDegrees (halfPi ⊖ «arc_sine»)) ⌝ }
 {
-    angles::cos(doubles::to_radians(solar_angle_of_incidence(l, d, t, o, w)))
+    angles::cos(doubles::to_radians(solar_angle_of_incidence(arc_sine)))
 }
 
 pub fn incidence_by(cos_incidence: f64, cos_zenith: f64) -> Incidence
@@ -49,6 +57,6 @@ pub fn incidence_of(l: SinCos, d: SinCos, t: SinCos, o: SinCos, hour: Hour) -> I
     ensures { λ r. ⌜ r ≡ incidenceOf l d t o hour ⌝ }
 {
     let w = hour.hour_angle;
-    let cos_incidence = incidence_cosine(l, d, t, o, w);
+    let cos_incidence = incidence_cosine(angles::asin(incidence_argument(l, d, t, o, w)));
     incidence_by(cos_incidence, hour.cos_zenith)
 }

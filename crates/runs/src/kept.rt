@@ -77,7 +77,7 @@ pub struct KeptHour {
     pub factor: FactorAnswer,
 }
 
-// The incidence needs nothing of the altitude, so it stands between the hour's two parts: the processor then does both at once.
+// Arcsines that do not wait for each other are worked out two at a time: those of the altitude and the incidence here.
 pub fn kept_hour(
     site: Site,
     surface: Surface,
@@ -97,10 +97,13 @@ pub fn kept_hour(
     let o = fixed.orientation;
     let d = day.declination;
     let equation_of_time = day.values.equation_of_time;
-    let turn = sun::hour::turn_by(l, d, equation_of_time, fixed.time_shift, hour % 24);
+    let turn = sun::hour::turn_by(equation_of_time, fixed.time_shift, hour % 24);
     let w = turn.hour_angle;
-    let cos_incidence = irradiance::surface::incidence_cosine(l, d, t, o, w);
-    let sun = sun::hour::hour_from(l, d, turn);
+    let sine = sun::hour::altitude_sine(l, d, w.cos);
+    let argument = irradiance::surface::incidence_argument(l, d, t, o, w);
+    let arcsines = angles::asin_both(sine, argument);
+    let cos_incidence = irradiance::surface::incidence_cosine(arcsines.second);
+    let sun = sun::hour::hour_from(l, d, turn, arcsines.first);
     let incidence = irradiance::surface::incidence_by(cos_incidence, sun.cos_zenith);
     let factor = shading::step::direct_shading_reduction_factor(
         surface,
