@@ -98,7 +98,7 @@ fn rattle(call: &Call) -> FactorAnswer {
 }
 
 fn measure_calls(sectors: usize, objects: usize, near: usize) -> Result<(), String> {
-    let name = format!("{sectors} sectors of {objects}, {near} at the window");
+    let name = format!("{sectors} × {objects} in sectors, {near} at the window");
     let altitude = |k: usize| 5.0 + 60.0 * k as f64 / CALLS as f64;
     let calls: Vec<Call> = (0..CALLS)
         .map(|k| scene(sectors, objects, near, altitude(k)))

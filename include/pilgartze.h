@@ -75,7 +75,7 @@ uint64_t pilgartze_version(void);
 
 /* No call takes more bytes of stack than this, its arguments and memcpy included: enough for a thread's stack, beside
  * what the caller needs. It is not proved but worked out from the library's machine code, and measured (soak/run). */
-#define PILGARTZE_STACK_BYTES 65536
+#define PILGARTZE_STACK_BYTES 16384
 
 /* ---- Refusals ------------------------------------------------------------------------------------------------- */
 
