@@ -28,19 +28,18 @@ use Rattle.runs.specs.Kept.{fixedOf, keptDay, keptHour, irradianceKept, 
 
 -- by what is kept
 module _ (site : Site) (surface : Surface) (sectors window : List ℕ) (time : Float) (reading : Reading) where
-  kept-step : stepKept site (fixedOf site surface) (keptDay (currentHour time / 24) .values .«extra_terrestrial_radiation») (keptHour site surface sectors (windowObjectsOf window) (currentHour time)) reading
+  kept-step : stepKept site (fixedOf site surface) (keptHour site surface sectors (windowObjectsOf window) (currentHour time)) reading
       ≡ stepWith site surface sectors window time reading
   unfolding stepKept irradianceKept keptHour keptDay fixedOf stepWith sunAt irradianceAt shadingAt
   kept-step = refl
 
-  pub by-kept : (fixed : Fixed) (day : KeptDay) (kept : KeptHour) (objects : List WindowShadingObject) (answer : StepAnswer) → fixed ≡ fixedOf site surface
-      → day ≡ keptDay (currentHour time / 24) → kept ≡ keptHour site surface sectors objects (currentHour time) → objects ≡ windowObjectsOf window
-      → answer ≡ stepKept site fixed (day .values .«extra_terrestrial_radiation») kept reading → answer ≡ stepWith site surface sectors window time reading
-  by-kept fixed day kept objects answer f d k w e =
+  pub by-kept : (fixed : Fixed) (kept : KeptHour) (objects : List WindowShadingObject) (answer : StepAnswer) → fixed ≡ fixedOf site surface
+      → kept ≡ keptHour site surface sectors objects (currentHour time) → objects ≡ windowObjectsOf window → answer ≡ stepKept site fixed kept reading
+      → answer ≡ stepWith site surface sectors window time reading
+  by-kept fixed kept objects answer f k w e =
       e
-      ∙ ap₂ (λ (x : Fixed) (y : KeptHour). stepKept site x (day .values .«extra_terrestrial_radiation») y reading) f
+      ∙ ap₂ (λ (x : Fixed) (y : KeptHour). stepKept site x y reading) f
       (k ∙ ap (λ (v : List WindowShadingObject). keptHour site surface sectors v (currentHour time)) w)
-      ∙ ap (λ (x : KeptDay). stepKept site (fixedOf site surface) (x .values .«extra_terrestrial_radiation») (keptHour site surface sectors (windowObjectsOf window) (currentHour time)) reading) d
       ∙ kept-step
 
 pub job-step : (job : Job) (time : Float) (answer : StepAnswer) → answer ≡ stepWith (job .site) (job .surface) (job .sectors) (job .window) time (readingAt job time)

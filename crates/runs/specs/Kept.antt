@@ -42,17 +42,18 @@ keptHour site surface sectors window hour =
     let sun = hourOf site hour in
     record {
       hour = hour;
+      «extra_terrestrial_radiation» = day .values .«extra_terrestrial_radiation»;
       sun = sun;
       incidence = incidenceOf (fixed .latitude) (day .declination) (fixed .tilt) (fixed .orientation) sun;
       factor = shadingFactor surface (sun .altitude) (sun .azimuth) (sectorsOf sectors) window;
     }
 
--- the irradiance by what is kept and the day's extra-terrestrial radiation
-unfoldable pub irradianceKept : Fixed → ℕ → Float → KeptHour → Reading → Irradiance
-irradianceKept fixed conversion extraTerrestrial kept reading =
-    let sky = skyOf (eqb conversion 1) (kept .sun) extraTerrestrial (reading .diffuse) (reading .direct) in
+-- the irradiance by what is kept
+unfoldable pub irradianceKept : Fixed → ℕ → KeptHour → Reading → Irradiance
+irradianceKept fixed conversion kept reading =
+    let sky = skyOf (eqb conversion 1) (kept .sun) (kept .«extra_terrestrial_radiation») (reading .diffuse) (reading .direct) in
     irradianceOf (fixed .tilt) (kept .incidence) sky (kept .sun .«sin_altitude») (reading .reflectivity)
 
 -- the step by what is kept
-unfoldable pub stepKept : Site → Fixed → Float → KeptHour → Reading → StepAnswer
-stepKept site fixed extraTerrestrial kept reading = rowWith (kept .sun) (irradianceKept fixed (site .«direct_beam_conversion») extraTerrestrial kept reading) (kept .factor)
+unfoldable pub stepKept : Site → Fixed → KeptHour → Reading → StepAnswer
+stepKept site fixed kept reading = rowWith (kept .sun) (irradianceKept fixed (site .«direct_beam_conversion») kept reading) (kept .factor)

@@ -72,6 +72,7 @@ pub fn day_for(index: u32, kept: KeptDay) -> KeptDay
 // An hour of the year, from 0.
 pub struct KeptHour {
     pub hour: u32,
+    pub extra_terrestrial_radiation: f64,
     pub sun: Hour,
     pub incidence: Incidence,
     pub factor: FactorAnswer,
@@ -114,6 +115,7 @@ pub fn kept_hour(
     );
     KeptHour {
         hour: hour,
+        extra_terrestrial_radiation: day.values.extra_terrestrial_radiation,
         sun: sun,
         incidence: incidence,
         factor: factor,
@@ -124,11 +126,10 @@ pub fn kept_hour(
 pub fn irradiance_kept(
     fixed: Fixed,
     conversion: u64,
-    extra_terrestrial_radiation: f64,
     kept: KeptHour,
     reading: Reading,
 ) -> Irradiance
-    ensures { λ r. ⌜ r ≡ irradianceKept fixed conversion «extra_terrestrial_radiation» kept reading ⌝ }
+    ensures { λ r. ⌜ r ≡ irradianceKept fixed conversion kept reading ⌝ }
 {
     let tilt = fixed.tilt;
     let sun = kept.sun;
@@ -136,7 +137,7 @@ pub fn irradiance_kept(
     let sky = irradiance::sky::sky_of(
         conversion == 1,
         sun,
-        extra_terrestrial_radiation,
+        kept.extra_terrestrial_radiation,
         reading.diffuse,
         reading.direct,
     );

@@ -18,26 +18,14 @@ use simulation_time::timestep::time_series_idx;
 use sun::site::Site;
 use words::store_double;
 
-pub fn step_row(
-    fixed: Fixed,
-    conversion: u64,
-    extra_terrestrial_radiation: f64,
-    kept: KeptHour,
-    reading: Reading,
-) -> StepAnswer
-    ensures { λ r. ⌜ r ≡ rowWith (kept .sun) (irradianceKept fixed conversion «extra_terrestrial_radiation» kept reading) (kept .factor) ⌝ }
+pub fn step_row(fixed: Fixed, conversion: u64, kept: KeptHour, reading: Reading) -> StepAnswer
+    ensures { λ r. ⌜ r ≡ rowWith (kept .sun) (irradianceKept fixed conversion kept reading) (kept .factor) ⌝ }
 {
     let answer = kept.factor;
     match answer {
         FactorAnswer::Refused(refusal) => StepAnswer::Refused(refusal),
         FactorAnswer::Factor(factor) => {
-            let parts = irradiance_kept(
-                fixed,
-                conversion,
-                extra_terrestrial_radiation,
-                kept,
-                reading,
-            );
+            let parts = irradiance_kept(fixed, conversion, kept, reading);
             StepAnswer::Row(Row {
                 altitude: kept.sun.altitude,
                 azimuth: kept.sun.azimuth,
@@ -54,7 +42,6 @@ pub fn step_row(
 pub fn step_at(
     site: Site,
     fixed: Fixed,
-    extra_terrestrial_radiation: f64,
     kept: KeptHour,
     time: f64,
     diffuse: &[u8],
@@ -62,17 +49,11 @@ pub fn step_at(
     reflectivity: &[u8],
 ) -> StepAnswer
     requires { ⌜ site .«start_day» ≤ 365 ⌝ }
-    ensures { λ r. ⌜ r ≡ stepKept site fixed «extra_terrestrial_radiation» kept (readSeries (now (diffuse .entry)) (now (direct .entry)) (now (reflectivity .entry)) (seriesIndex time (site .«start_day») (site .«time_series_step»))) ⌝ }
+    ensures { λ r. ⌜ r ≡ stepKept site fixed kept (readSeries (now (diffuse .entry)) (now (direct .entry)) (now (reflectivity .entry)) (seriesIndex time (site .«start_day») (site .«time_series_step»))) ⌝ }
 {
     let index = time_series_idx(time, site.start_day as u32, site.time_series_step);
     let reading = read_series(diffuse, direct, reflectivity, index);
-    step_row(
-        fixed,
-        site.direct_beam_conversion,
-        extra_terrestrial_radiation,
-        kept,
-        reading,
-    )
+    step_row(fixed, site.direct_beam_conversion, kept, reading)
 }
 
 // Stores the i-th row.

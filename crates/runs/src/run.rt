@@ -5,6 +5,7 @@ ghost use Prim.Native.Nat.{_≤_};
 ghost use Rattle.doubles.specs.Arithmetic.{whole};
 ghost use Rattle.objects.specs.Checks.{sectorsFine, windowFine};
 ghost use Rattle.simulation_time.specs.Steps.{stepCount};
+ghost use Rattle.jobs.specs.declared.answers.RunAnswer.the-variants.{Refused};
 ghost use Rattle.jobs.specs.Job.{jobOf};
 ghost use Rattle.jobs.specs.Checks.{seriesChecked, checked};
 ghost use Rattle.jobs.specs.Run.{ran, runFrom, runOf};
@@ -112,6 +113,15 @@ fn check_job(
     )
 }
 
+fn refused_at(refusal: Refusal, step: u64) -> RunAnswer
+    ensures { λ r. ⌜ r ≡ Refused refusal step ⌝ }
+{
+    RunAnswer::Refused {
+        refusal: refusal,
+        step: step,
+    }
+}
+
 // All steps of a job that has passed the checks.
 pub fn run_steps(
     site: Site,
@@ -145,23 +155,10 @@ pub fn run_steps(
             day = day_for(hour / 24, day);
             kept = kept_hour(site, surface, fixed, day, hour, sectors, objects);
         }
-        let extra = day.values.extra_terrestrial_radiation;
-        let answer = step_at(
-            site,
-            fixed,
-            extra,
-            kept,
-            time,
-            diffuse,
-            direct,
-            reflectivity,
-        );
+        let answer = step_at(site, fixed, kept, time, diffuse, direct, reflectivity);
         match answer {
             StepAnswer::Refused(refusal) => {
-                return RunAnswer::Refused {
-                    refusal: refusal,
-                    step: i,
-                };
+                return refused_at(refusal, i);
             }
             StepAnswer::Row(row) => {
                 store_row(results, i as usize, row);
@@ -203,10 +200,7 @@ pub fn run_job(
         results,
     );
     match answer {
-        Checked::Refused(refusal) => RunAnswer::Refused {
-            refusal: refusal,
-            step: 0,
-        },
+        Checked::Refused(refusal) => refused_at(refusal, 0),
         Checked::Steps(count) => run_steps(
             site,
             run,

@@ -112,8 +112,7 @@ fn step_with(
     let hour = current_hour(time);
     let day = kept_day(hour / 24);
     let kept = kept_hour(site, surface, fixed, day, hour, sectors, objects);
-    let extra = day.values.extra_terrestrial_radiation;
-    step_row(fixed, site.direct_beam_conversion, extra, kept, reading)
+    step_row(fixed, site.direct_beam_conversion, kept, reading)
 }
 
 fn store_step(answer: StepAnswer, results: &mut [u8]) -> Single

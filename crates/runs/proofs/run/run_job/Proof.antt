@@ -40,12 +40,15 @@ run-steps-requires c κs =
       ),
     )
 
+refused-at-requires : tie.Need-refused-at-requires
+refused-at-requires c κs = tt
+
 same-length : tie.Need-same-length
 same-length c = search needs
 
 returns : tie.Need-returns
 unfolding runOf runChecked
-returns c = rw (sym (c .before .before .before .check-job .ensures) ∙ c .before .answer .given .1) refl
+returns c = rw (c .refused-at .ensures, sym (c .before .before .before .before .check-job .ensures) ∙ c .before .before .answer .given .1) refl
 
 same-length-2 : tie.Need-same-length-2
 same-length-2 c = search needs
@@ -60,6 +63,7 @@ run-job-spec =
     (tie.spec
     check-job-requires
     enum-known-answer
+    refused-at-requires
     enum-known-answer-2
     run-steps-requires
     same-length

@@ -16,7 +16,8 @@ use Rattle.objects.specs.Records.{windowObjectsOf}
 use Rattle.objects.proofs.AcceptedSectors.{sector-count}
 use Rattle.objects.proofs.AcceptedWindow.{window-places}
 use Rattle.jobs.specs.Job.{Job, jobOf, indexAt, readingAt}
-use Rattle.jobs.specs.Run.{runFrom}
+use Rattle.jobs.specs.declared.answers.RunAnswer.{RunAnswer}
+use Rattle.jobs.specs.Run.{ran, runFrom}
 use Rattle.runs.specs.Kept.{fixedOf, keptDay, keptHour}
 use Rattle.runs.proofs.StepByStep.{by-kept, job-step, of-its-hour, day-of-its-hour, of-its-day, row-next, refused-here, at-end, at-start}
 use Rattle.jobs.proofs.RowStores.{length-putRow}
@@ -102,17 +103,22 @@ step-at-requires c κs = c .before .before .before .before .before .before .befo
 enum-known-answer : tie.Need-enum-known-answer Inv-loop μ-loop
 enum-known-answer c = search needs
 
+refused-at-requires : tie.Need-refused-at-requires Inv-loop μ-loop
+refused-at-requires c κs = tt
+
 same-length : tie.Need-same-length Inv-loop μ-loop
-same-length c = c .before .before .before .before .before .before .before .before .loop .inv .1
+same-length c = c .before .before .before .before .before .before .before .before .before .loop .inv .1
 
 returns : tie.Need-returns Inv-loop μ-loop
 unfolding readingAt indexAt
 returns c =
-    let s = c .before .before .before .before .before .before .before .before .before .before .before .before .before .before .before .before .before .before .before .before in
-    let q = c .before .before .before .before .before .before .before .before .loop in
-    let kept = kept-now (c .before .before .before .before) in
-    let e = job-step (job s) (q .time) _ (by-kept (s .args .site) (s .args .surface) (now (s .args .sectors)) (now (s .args .window)) (q .time) (readingAt (job s) (q .time)) _ _ _ _ _ (q .inv .2) (kept .0) (kept .1) (q .inv .3) (c .before .before .before .step-at .ensures)) in
-    refused-here (job s) (s .args .count) (q .i) (q .time) (q .sum) (q .results) _ (sym e ∙ c .before .answer .given .1) (omega (arith, c .before .before .before .before .before .before .before .loop-test .taken)) ∙ q .inv .6
+    let s = c .before .before .before .before .before .before .before .before .before .before .before .before .before .before .before .before .before .before .before .before .before in
+    let q = c .before .before .before .before .before .before .before .before .before .loop in
+    let kept = kept-now (c .before .before .before .before .before) in
+    let e = job-step (job s) (q .time) _ (by-kept (s .args .site) (s .args .surface) (now (s .args .sectors)) (now (s .args .window)) (q .time) (readingAt (job s) (q .time)) _ _ _ _ (q .inv .2) (kept .1) (q .inv .3) (c .before .before .before .before .step-at .ensures)) in
+    ap (λ (r : RunAnswer). ran r (q .results)) (c .refused-at .ensures)
+    ∙ refused-here (job s) (s .args .count) (q .i) (q .time) (q .sum) (q .results) _ (sym e ∙ c .before .before .answer .given .1) (omega (arith, c .before .before .before .before .before .before .before .before .loop-test .taken))
+    ∙ q .inv .6
 
 enum-known-answer-2 : tie.Need-enum-known-answer-2 Inv-loop μ-loop
 enum-known-answer-2 c = search needs
@@ -133,7 +139,7 @@ loop-again c =
     let q = c .before .before .before .before .before .before .before .before .before .before .before .before .before .before .loop in
     let row = c .before .before .before .before .before .before .before .answer2 .given .0 .0 in
     let kept = kept-now (c .before .before .before .before .before .before .before .before .before .before) in
-    let e = job-step (job s) (q .time) _ (by-kept (s .args .site) (s .args .surface) (now (s .args .sectors)) (now (s .args .window)) (q .time) (readingAt (job s) (q .time)) _ _ _ _ _ (q .inv .2) (kept .0) (kept .1) (q .inv .3) (c .before .before .before .before .before .before .before .before .before .step-at .ensures)) in
+    let e = job-step (job s) (q .time) _ (by-kept (s .args .site) (s .args .surface) (now (s .args .sectors)) (now (s .args .window)) (q .time) (readingAt (job s) (q .time)) _ _ _ _ (q .inv .2) (kept .1) (q .inv .3) (c .before .before .before .before .before .before .before .before .before .step-at .ensures)) in
     let on = c .before .before .before .before .before .before .before .before .before .before .before .before .before .loop-test .taken in
     let stored = c .before .before .before .before .store-row .ensures in (
       omega (arith, on),
@@ -170,6 +176,7 @@ run-steps-spec =
     kept-hour-requires-2
     step-at-requires
     enum-known-answer
+    refused-at-requires
     same-length
     returns
     enum-known-answer-2

@@ -1,10 +1,9 @@
 -- `step_with` meets its contract.
 use mathlib.Core.Path.{sym, _∙_, ap, subst}
 use lib.Dec.{T}
-use Prim.Native.Nat.{ℕ, _/_}
 use denote.Ref.{now}
 use Rattle.objects.specs.Objects.{placed}
-use Rattle.runs.specs.Kept.{keptDay, keptHour, stepKept}
+use Rattle.runs.specs.Kept.{keptHour, stepKept}
 use Rattle.objects.proofs.AcceptedSectors.{sector-count}
 use Rattle.objects.proofs.AcceptedWindow.{window-places}
 use Rattle.runs.proofs.StepByStep.{by-kept}
@@ -36,9 +35,8 @@ returns c =
     let s = c .before .before .before .before .before .before .before .before in
     let a = s .args in
     let objects = ap placed (c .before .before .before .before .before .window-of .ensures) ∙ window-places (now (a .window)) (subst T (sym (s .pre .1)) tt) in
-    let day = c .before .before .kept-day .ensures ∙ ap (λ (h : ℕ). keptDay (h / 24)) (c .before .before .before .current-hour .ensures) in
     let kept = c .before .kept-hour .ensures ∙ ap (keptHour (a .site) (a .surface) (now (a .sectors)) (placed (c .before .before .before .before .before .window-of .result))) (c .before .before .before .current-hour .ensures) in
-    by-kept (a .site) (a .surface) (now (a .sectors)) (now (a .window)) (a .time) (a .reading) _ _ _ _ _ (c .before .before .before .before .fixed-of .ensures) day kept objects (c .step-row .ensures)
+    by-kept (a .site) (a .surface) (now (a .sectors)) (now (a .window)) (a .time) (a .reading) _ _ _ _ (c .before .before .before .before .fixed-of .ensures) kept objects (c .step-row .ensures)
 
 pub step-with-spec : {M : Type 1} → statement M
 step-with-spec =
