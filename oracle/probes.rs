@@ -187,6 +187,82 @@ extern "C" {
     ) -> ProbeHour;
 }
 
+/// What a year's hours have of the site and the surface.
+struct YearSite {
+    latitude: SinCos,
+    tilt: SinCos,
+    orientation: SinCos,
+    time_shift: f64,
+    conversion_needed: u64,
+}
+
+/// What a day's hours have of the day.
+struct YearDay {
+    day: ProbeDay,
+    declination: SinCos,
+}
+
+unsafe fn sin_cos_of_degrees(degrees: f64) -> SinCos {
+    probe_sin_cos(probe_to_radians(degrees))
+}
+
+impl YearDay {
+    unsafe fn new(current_day: u32) -> Self {
+        let day = probe_day_of(current_day);
+        let declination = sin_cos_of_degrees(day.declination);
+        YearDay { day, declination }
+    }
+}
+
+impl YearSite {
+    unsafe fn hour(
+        &self,
+        day: &YearDay,
+        hour_of_day: u32,
+        [diffuse, direct, reflectivity]: [f64; 3],
+    ) -> ProbeHour {
+        probe_hour_by(
+            self.latitude.sin,
+            self.latitude.cos,
+            day.declination.sin,
+            day.declination.cos,
+            self.tilt.sin,
+            self.tilt.cos,
+            self.orientation.sin,
+            self.orientation.cos,
+            day.day,
+            self.time_shift,
+            hour_of_day,
+            self.conversion_needed,
+            diffuse,
+            direct,
+            reflectivity,
+        )
+    }
+}
+
+/// The hours of the year that all lists have room for, by their lengths in bytes.
+fn hours_in(series: [usize; 3], results: usize) -> usize {
+    let doubles = series.into_iter().map(|len| len / 8);
+    let rows = results / (8 * YEAR_COLUMNS);
+    doubles.chain([rows, YEAR]).min().unwrap()
+}
+
+/// Stores the columns of one hour at its place in the results.
+unsafe fn store_hour(results: *mut u8, hour: usize, row: &ProbeHour) {
+    let columns = [
+        row.altitude,
+        row.azimuth,
+        row.direct,
+        row.diffuse,
+        row.total,
+    ];
+    for (column, value) in columns.into_iter().enumerate() {
+        let place = results.add(8 * (YEAR_COLUMNS * hour + column));
+        place.cast::<f64>().write_unaligned(value);
+    }
+}
+
 /// A year, hour by hour, as a run works it out: what depends on the site and the surface is had once,
 /// what depends on the day once a day, and handed to each hour.
 #[allow(clippy::too_many_arguments)]
@@ -206,53 +282,23 @@ unsafe extern "C" fn year_by_pieces(
     results: *mut u8,
     results_len: usize,
 ) -> u64 {
-    let count = [diffuse_len, direct_len, reflectivity_len]
-        .into_iter()
-        .map(|len| len / 8)
-        .chain([results_len / (8 * YEAR_COLUMNS), YEAR])
-        .min()
-        .unwrap();
+    let count = hours_in([diffuse_len, direct_len, reflectivity_len], results_len);
     let at = |list: *const u8, k: usize| unsafe { list.add(8 * k).cast::<f64>().read_unaligned() };
-    let sin_cos = |degrees: f64| unsafe { probe_sin_cos(probe_to_radians(degrees)) };
-    let latitude = sin_cos(latitude);
-    let tilt = sin_cos(tilt);
-    let orientation = sin_cos(180.0 - orientation);
-    let time_shift = probe_init_time_shift(timezone, longitude);
-    let mut day = probe_day_of(0);
-    let mut declination = sin_cos(day.declination);
+    let site = YearSite {
+        latitude: sin_cos_of_degrees(latitude),
+        tilt: sin_cos_of_degrees(tilt),
+        orientation: sin_cos_of_degrees(180.0 - orientation),
+        time_shift: probe_init_time_shift(timezone, longitude),
+        conversion_needed,
+    };
+    let mut day = YearDay::new(0);
     for hour in 0..count {
         if hour % 24 == 0 {
-            day = probe_day_of(hour as u32 / 24);
-            declination = sin_cos(day.declination);
+            day = YearDay::new(hour as u32 / 24);
         }
-        let row = probe_hour_by(
-            latitude.sin,
-            latitude.cos,
-            declination.sin,
-            declination.cos,
-            tilt.sin,
-            tilt.cos,
-            orientation.sin,
-            orientation.cos,
-            day,
-            time_shift,
-            hour as u32 % 24,
-            conversion_needed,
-            at(diffuse, hour),
-            at(direct, hour),
-            at(reflectivity, hour),
-        );
-        let columns = [
-            row.altitude,
-            row.azimuth,
-            row.direct,
-            row.diffuse,
-            row.total,
-        ];
-        for (column, value) in columns.into_iter().enumerate() {
-            let place = results.add(8 * (YEAR_COLUMNS * hour + column));
-            place.cast::<f64>().write_unaligned(value);
-        }
+        let readings = [diffuse, direct, reflectivity].map(|list| at(list, hour));
+        let row = site.hour(&day, hour as u32 % 24, readings);
+        store_hour(results, hour, &row);
     }
     count as u64
 }

@@ -86,16 +86,25 @@ impl OneHour {
     /// What `ExternalConditions::new` works out for that hour, put at place 0 of the record's
     /// lists, so that it is the hour of the first step.
     pub fn fill(&self, record: &mut ExternalConditions) {
+        record.latitude = self.site.latitude;
+        record.longitude = self.site.longitude;
+        record.timezone = self.site.timezone;
+        record.diffuse_horizontal_radiations[0] = self.diffuse;
+        record.solar_reflectivity_of_ground[0] = self.reflectivity;
+        self.fill_sun(record);
+        self.fill_sky(record);
+    }
+
+    /// The sun's angles.
+    fn fill_sun(&self, record: &mut ExternalConditions) {
         let Site {
             latitude,
             longitude,
             timezone,
-            conversion_needed,
             ..
         } = self.site;
         let (day, hour_of_day) = (self.hour / 24, self.hour % 24);
-        let deviation = init_earth_orbit_deviation(day);
-        let declination = init_solar_declination(deviation);
+        let declination = init_solar_declination(init_earth_orbit_deviation(day));
         let solar_time = init_solar_time(
             hour_of_day,
             init_equation_of_time(day),
@@ -104,29 +113,28 @@ impl OneHour {
         );
         let hour_angle = init_solar_hour_angle(solar_time);
         let altitude = init_solar_altitude(latitude, declination, hour_angle);
-        let zenith = init_solar_zenith_angle(altitude);
-        let azimuth = init_solar_azimuth_angle(latitude, declination, hour_angle, altitude);
-        let air_mass = init_air_mass(altitude);
 
-        let beam = init_direct_beam_radiation(conversion_needed, self.direct, altitude);
+        record.solar_declinations[0] = declination;
+        record.solar_hour_angles[0] = hour_angle;
+        record.solar_altitudes[0] = altitude;
+        record.solar_zenith_angles[0] = init_solar_zenith_angle(altitude);
+        record.solar_azimuth_angles[0] =
+            init_solar_azimuth_angle(latitude, declination, hour_angle, altitude);
+    }
+
+    /// The beam and the coefficients of brightness, by the sun's angles that the record holds.
+    fn fill_sky(&self, record: &mut ExternalConditions) {
+        let (altitude, zenith) = (record.solar_altitudes[0], record.solar_zenith_angles[0]);
+        let beam = init_direct_beam_radiation(self.site.conversion_needed, self.direct, altitude);
         let clearness = init_dimensionless_clearness_parameter(self.diffuse, beam, altitude);
+        let deviation = init_earth_orbit_deviation(self.hour / 24);
         let delta = init_dimensionless_sky_brightness_parameter(
-            air_mass,
+            init_air_mass(altitude),
             self.diffuse,
             init_extra_terrestrial_radiation(deviation),
         );
 
-        record.latitude = latitude;
-        record.longitude = longitude;
-        record.timezone = timezone;
-        record.diffuse_horizontal_radiations[0] = self.diffuse;
         record.direct_beam_radiations[0] = beam;
-        record.solar_reflectivity_of_ground[0] = self.reflectivity;
-        record.solar_declinations[0] = declination;
-        record.solar_hour_angles[0] = hour_angle;
-        record.solar_altitudes[0] = altitude;
-        record.solar_zenith_angles[0] = zenith;
-        record.solar_azimuth_angles[0] = azimuth;
         record.f1_circumsolar_brightness_coefficients[0] =
             init_f1_circumsolar_brightness_coefficient(clearness, delta, zenith);
         record.f2_horizontal_brightness_coefficients[0] =

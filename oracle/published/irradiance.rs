@@ -6,7 +6,7 @@ use super::sun::{altitude, declination_of, hour_angle_at, BRANCHES, DAYS};
 use super::*;
 use crate::arguments::{around, compare_function, Argument};
 use crate::comparison::{compare, same, shown, Outcome, Settings, Tally};
-use crate::probes::{ProbeHour, Probes, YEAR, YEAR_COLUMNS};
+use crate::probes::{HourCall, ProbeHour, Probes, YEAR, YEAR_COLUMNS};
 use crate::random::{ulps_from, Random};
 use std::cell::Cell;
 
@@ -75,6 +75,12 @@ fn beam_at_a_limit(random: &mut Random, diffuse: f64, altitude: f64) -> f64 {
 }
 
 fn sky(settings: &Settings, rattle: &Probes) -> Outcome {
+    sky_parameters(settings, rattle)?;
+    brightness_coefficients(settings, rattle)
+}
+
+/// The beam, the clearness and the brightness.
+fn sky_parameters(settings: &Settings, rattle: &Probes) -> Outcome {
     compare_function(
         settings,
         "init_direct_beam_radiation",
@@ -103,7 +109,10 @@ fn sky(settings: &Settings, rattle: &Probes) -> Outcome {
         ],
         |[m, d, e]| rust::init_dimensionless_sky_brightness_parameter(m, d, e),
         |[m, d, e]| unsafe { (rattle.init_dimensionless_sky_brightness_parameter)(m, d, e) },
-    )?;
+    )
+}
+
+fn brightness_coefficients(settings: &Settings, rattle: &Probes) -> Outcome {
     compare_function(
         settings,
         "init_f1_circumsolar_brightness_coefficient",
@@ -409,44 +418,51 @@ impl Met {
     }
 }
 
-fn one_hours(settings: &Settings, rattle: &Probes) -> Outcome {
-    let call = |function: crate::probes::HourCall, input: [f64; 10]| {
-        let [latitude, longitude, zone, hour, conversion, tilt, orientation, d, b, r] = input;
-        let (zone, hour, conversion) = (zone as i64, hour as u32, conversion as u64);
-        unsafe {
-            function(
-                latitude,
-                longitude,
-                zone,
-                hour,
-                conversion,
-                tilt,
-                orientation,
-                d,
-                b,
-                r,
-            )
-        }
-    };
+/// The answer of a function behind the C interface.
+fn hour_by(function: HourCall, input: [f64; 10]) -> ProbeHour {
+    let [latitude, longitude, zone, hour, conversion, tilt, orientation, d, b, r] = input;
+    let (zone, hour, conversion) = (zone as i64, hour as u32, conversion as u64);
+    unsafe {
+        function(
+            latitude,
+            longitude,
+            zone,
+            hour,
+            conversion,
+            tilt,
+            orientation,
+            d,
+            b,
+            r,
+        )
+    }
+}
+
+/// The two known cases are NaN where they have to be.
+fn known_hours() -> Outcome {
     for (known, what) in [(SQUARE, "direct"), (OVERHEAD, "altitude")] {
-        let answer = call(rust::hour, known.doubles());
+        let answer = hour_by(rust::hour, known.doubles());
         let (direct, altitude) = (answer.direct.is_nan(), answer.altitude.is_nan());
         if !direct || altitude != (what == "altitude") {
             return Err(format!("hour: the known case whose {what} is NaN has none"));
         }
     }
+    Ok(())
+}
 
+fn one_hours(settings: &Settings, rattle: &Probes) -> Outcome {
+    known_hours()?;
     let met = Cell::new(Met::default());
     let mut random = settings.random("hour");
     let tally = compare(
         "hour",
         hours(&mut random, settings.count / 5),
         |input| {
-            let answer = call(rust::hour, input);
+            let answer = hour_by(rust::hour, input);
             met.set(met.get().with(&input, &answer));
             answer.doubles()
         },
-        |input| call(rattle.hour, input).doubles(),
+        |input| hour_by(rattle.hour, input).doubles(),
     )
     .map_err(|words| {
         format!(
@@ -514,6 +530,45 @@ pub fn compare_years(right: &[u8], got: &[u8]) -> Result<Tally, String> {
     Ok(tally)
 }
 
+/// The three series of a year, as lists of bytes.
+fn any_series(random: &mut Random) -> [Vec<u8>; 3] {
+    let mut series =
+        |usual| -> Vec<f64> { (0..YEAR).map(|_| any_reading(random, usual)).collect() };
+    let (diffuse, direct) = (series(400.0), series(900.0));
+    let reflectivity: Vec<f64> = (0..YEAR).map(|_| random.uniform(0.0, 1.0)).collect();
+    [diffuse, direct, reflectivity].map(|doubles| bytes_of(&doubles))
+}
+
+fn site_shown(site: &Site) -> String {
+    let Site {
+        latitude,
+        longitude,
+        timezone,
+        conversion_needed,
+        tilt,
+        orientation,
+    } = *site;
+    format!(
+        "latitude {}, longitude {}, timezone {timezone}, conversion {conversion_needed}, tilt {}, \
+         orientation {}",
+        shown(latitude),
+        shown(longitude),
+        shown(tilt),
+        shown(orientation),
+    )
+}
+
+fn one_year(rattle: &Probes, site: &Site, lists: [&[u8]; 3]) -> Result<Tally, String> {
+    let mut right = vec![0x55; YEAR * YEAR_COLUMNS * 8];
+    let mut got = right.clone();
+    year_by(rust::year, site, lists, &mut right);
+    let count = year_by(rattle.year, site, lists, &mut got);
+    if count != YEAR as u64 {
+        return Err(format!("year gives {count} hours, not {YEAR}"));
+    }
+    compare_years(&right, &got).map_err(|words| format!("{words}\n  {}", site_shown(site)))
+}
+
 /// Years at random sites, by the published record of a whole year. What a day decides is worked out
 /// once for all its hours there, and may be in Rattle: it has to be the right day's.
 fn years(settings: &Settings, rattle: &Probes) -> Outcome {
@@ -521,38 +576,8 @@ fn years(settings: &Settings, rattle: &Probes) -> Outcome {
     let mut all = Tally::default();
     for _ in 0..(settings.count / 50_000).max(2) {
         let site = any_site(&mut random);
-        let mut series =
-            |usual| -> Vec<f64> { (0..YEAR).map(|_| any_reading(&mut random, usual)).collect() };
-        let (diffuse, direct) = (bytes_of(&series(400.0)), bytes_of(&series(900.0)));
-        let reflectivity: Vec<f64> = (0..YEAR).map(|_| random.uniform(0.0, 1.0)).collect();
-        let reflectivity = bytes_of(&reflectivity);
-        let lists = [&diffuse[..], &direct[..], &reflectivity[..]];
-
-        let mut right = vec![0x55; YEAR * YEAR_COLUMNS * 8];
-        let mut got = right.clone();
-        year_by(rust::year, &site, lists, &mut right);
-        let count = year_by(rattle.year, &site, lists, &mut got);
-        if count != YEAR as u64 {
-            return Err(format!("year gives {count} hours, not {YEAR}"));
-        }
-        let tally = compare_years(&right, &got).map_err(|words| {
-            let Site {
-                latitude,
-                longitude,
-                timezone,
-                conversion_needed,
-                tilt,
-                orientation,
-            } = site;
-            format!(
-                "{words}\n  latitude {}, longitude {}, timezone {timezone}, conversion \
-                 {conversion_needed}, tilt {}, orientation {}",
-                shown(latitude),
-                shown(longitude),
-                shown(tilt),
-                shown(orientation),
-            )
-        })?;
+        let series = any_series(&mut random);
+        let tally = one_year(rattle, &site, series.each_ref().map(|list| &list[..]))?;
         all.compared += tally.compared;
         all.both_nan += tally.both_nan;
     }

@@ -406,16 +406,16 @@ fn factor_by(
         .map_err(|error| refusal_number(&error))
 }
 
-/// The rows of a job that passes the checks, by the published record of the whole job and its own
-/// steps; the number of a refusal in place of the first row that is refused.
-pub fn rows_by_new(job: &Job) -> Vec<Result<[f64; ROW], u64>> {
+/// The published record of a whole job.
+fn conditions_by_new(
+    job: &Job,
+    times: &SimulationTime,
+    sectors: Vec<ShadingSegment>,
+) -> ExternalConditions {
     let site = &job.site;
-    let [start, end, step] = job.times;
-    let times = SimulationTime::new(start, end, step);
-    let lists = lists_of(&job.sectors, &job.window).expect("lists in range");
     let [diffuse, direct, reflectivity] =
         [0, 1, 2].map(|list: usize| doubles_of(&job.series[list]));
-    let conditions = ExternalConditions::new(
+    ExternalConditions::new(
         &times.iter(),
         vec![],
         vec![],
@@ -433,23 +433,43 @@ pub fn rows_by_new(job: &Job) -> Vec<Result<[f64; ROW], u64>> {
         None,
         site.leap_year == 1,
         site.direct_beam_conversion == 1,
-        Some(lists.sectors),
-    );
+        Some(sectors),
+    )
+}
+
+/// The row of one step by a record of a whole job, or the number.
+fn row_by_new(
+    conditions: &ExternalConditions,
+    surface: &Surface,
+    window: &[WindowShadingObject],
+    step: Timestep,
+) -> Result<[f64; ROW], u64> {
+    let hour = step.current_hour() as usize;
+    let CalculatedDirectDiffuseTotalIrradiance(direct, diffuse, total, _) = conditions
+        .calculated_direct_diffuse_total_irradiance(
+            surface[0],
+            Orientation360(surface[1]),
+            false,
+            step,
+        );
+    let altitude = conditions.solar_altitudes[hour];
+    let azimuth = conditions.solar_azimuth_angles[hour];
+    let factor = factor_by(conditions, surface, window, step)?;
+    Ok([altitude, azimuth, direct, diffuse, total, factor])
+}
+
+/// The rows of a job that passes the checks, by the published record of the whole job and its own
+/// steps; the number of a refusal in place of the first row that is refused.
+pub fn rows_by_new(job: &Job) -> Vec<Result<[f64; ROW], u64>> {
+    let [start, end, step] = job.times;
+    let times = SimulationTime::new(start, end, step);
+    let lists = lists_of(&job.sectors, &job.window).expect("lists in range");
+    let conditions = conditions_by_new(job, &times, lists.sectors);
     let mut rows = vec![];
     for step in times.iter() {
-        let hour = step.current_hour() as usize;
-        let CalculatedDirectDiffuseTotalIrradiance(direct, diffuse, total, _) = conditions
-            .calculated_direct_diffuse_total_irradiance(
-                job.surface[0],
-                Orientation360(job.surface[1]),
-                false,
-                step,
-            );
-        let altitude = conditions.solar_altitudes[hour];
-        let azimuth = conditions.solar_azimuth_angles[hour];
-        let factor = factor_by(&conditions, &job.surface, &lists.window, step);
-        rows.push(factor.map(|factor| [altitude, azimuth, direct, diffuse, total, factor]));
-        if factor.is_err() {
+        let row = row_by_new(&conditions, &job.surface, &lists.window, step);
+        rows.push(row);
+        if row.is_err() {
             break;
         }
     }

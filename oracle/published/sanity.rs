@@ -181,6 +181,18 @@ fn sun_at_noon(checks: &mut Checks, day: u32) -> Outcome {
 }
 
 fn sky(checks: &mut Checks) -> Outcome {
+    direct_beam(checks)?;
+    air_mass_and_radiation(checks)?;
+    clearness(checks)?;
+    brightness(checks)?;
+
+    let oriented = |angle| Orientation360::new(angle).unwrap().transform_to_180();
+    checks.equal("orientation 0", oriented(0.0), 180.0)?;
+    checks.equal("orientation 360", oriented(360.0), -180.0)?;
+    checks.done("sky")
+}
+
+fn direct_beam(checks: &mut Checks) -> Outcome {
     checks.equal(
         "beam as given",
         init_direct_beam_radiation(false, 100.0, 30.0),
@@ -195,7 +207,10 @@ fn sky(checks: &mut Checks) -> Outcome {
     checks.holds(
         "beam converted at 30 degrees is doubled",
         (converted - 200.0).abs() < 1e-9,
-    )?;
+    )
+}
+
+fn air_mass_and_radiation(checks: &mut Checks) -> Outcome {
     checks.holds(
         "air mass at the zenith is 1",
         (init_air_mass(90.0) - 1.0).abs() < 1e-12,
@@ -209,8 +224,11 @@ fn sky(checks: &mut Checks) -> Outcome {
     checks.holds(
         "extra-terrestrial radiation at 90",
         (radiation - 1367.0).abs() < 1e-9,
-    )?;
+    )
+}
 
+/// The clearness, and the row of the coefficients that goes with it.
+fn clearness(checks: &mut Checks) -> Outcome {
     let f11 = |clearness| brightness_coefficient(clearness, BrightnessCoefficientName::F11);
     let clearness = init_dimensionless_clearness_parameter(100.0, 100.0, 0.0);
     checks.equal("clearness of 100, 100, 0", clearness, 2.0)?;
@@ -221,7 +239,11 @@ fn sky(checks: &mut Checks) -> Outcome {
         "clearness without diffuse",
         init_dimensionless_clearness_parameter(0.0, 5.0, 9.0),
         999.0,
-    )?;
+    )
+}
+
+/// The sky's brightness, F1 and F2.
+fn brightness(checks: &mut Checks) -> Outcome {
     checks.equal(
         "brightness 2 · 3 / 4",
         init_dimensionless_sky_brightness_parameter(2.0, 3.0, 4.0),
@@ -236,12 +258,7 @@ fn sky(checks: &mut Checks) -> Outcome {
         "F2 may be negative",
         init_f2_horizontal_brightness_coefficient(1.0, 0.0, 0.0),
         -0.06,
-    )?;
-
-    let oriented = |angle| Orientation360::new(angle).unwrap().transform_to_180();
-    checks.equal("orientation 0", oriented(0.0), 180.0)?;
-    checks.equal("orientation 360", oriented(360.0), -180.0)?;
-    checks.done("sky")
+    )
 }
 
 /// The factor of a surface that faces south: base 0, height 2, width 1.
@@ -253,61 +270,64 @@ fn south_factor(
     conditions.direct_shading_reduction_factor(0.0, 2.0, 1.0, 90.0, south, Some(window), FIRST_STEP)
 }
 
-fn factor(checks: &mut Checks) -> Outcome {
-    let obstacle = ShadingObject {
-        object_type: ShadingObjectType::Obstacle,
-        height: 1.0,
-        distance: 1.0,
-    };
-    let overhang = ShadingObject {
-        object_type: ShadingObjectType::Overhang,
-        height: 1.5,
-        distance: 1.0,
-    };
-    let near = WindowShadingObject::Obstacle {
-        height: 1.0,
-        distance: 1.0,
-        transparency: 0.5,
-    };
-    let reveal = WindowShadingObject::Reveal {
-        depth: 1.0,
-        distance: 1.0,
-    };
+const DISTANT_OBSTACLE: ShadingObject = ShadingObject {
+    object_type: ShadingObjectType::Obstacle,
+    height: 1.0,
+    distance: 1.0,
+};
+const DISTANT_OVERHANG: ShadingObject = ShadingObject {
+    object_type: ShadingObjectType::Overhang,
+    height: 1.5,
+    distance: 1.0,
+};
+const NEAR_OBSTACLE: WindowShadingObject = WindowShadingObject::Obstacle {
+    height: 1.0,
+    distance: 1.0,
+    transparency: 0.5,
+};
+const REVEAL: WindowShadingObject = WindowShadingObject::Reveal {
+    depth: 1.0,
+    distance: 1.0,
+};
 
-    let all_around = |objects| sun_at(0.0, 0.0, vec![sector(0.0, 360.0, objects)]);
+/// The sun in the south on the horizon, and one sector all around with these objects.
+fn all_around(objects: Vec<ShadingObject>) -> ExternalConditions {
+    sun_at(0.0, 0.0, vec![sector(0.0, 360.0, objects)])
+}
+
+fn factor(checks: &mut Checks) -> Outcome {
+    obstacles_and_overhangs(checks)?;
+    reveals(checks)?;
+    checks.done("factor")
+}
+
+fn obstacles_and_overhangs(checks: &mut Checks) -> Outcome {
+    let (obstacle, overhang) = ([DISTANT_OBSTACLE], [DISTANT_OVERHANG]);
+    let near = [NEAR_OBSTACLE];
     let mut gives =
-        |what: &str, objects: Vec<ShadingObject>, window: &[WindowShadingObject], expected: f64| {
-            let got = south_factor(&all_around(objects), window);
+        |what: &str, objects: &[ShadingObject], window: &[WindowShadingObject], expected: f64| {
+            let got = south_factor(&all_around(objects.to_vec()), window);
             checks.equal(what, got.unwrap_or(f64::NAN), expected)
         };
-    gives("no object", vec![], &[], 1.0)?;
-    gives("distant obstacle of 1 m", vec![obstacle.clone()], &[], 0.5)?;
-    gives("near obstacle of 1 m", vec![], &[near], 0.75)?;
-    gives("both obstacles", vec![obstacle.clone()], &[near], 0.5)?;
-    gives(
-        "distant overhang at 1.5 m",
-        vec![overhang.clone()],
-        &[],
-        0.75,
-    )?;
-    gives(
-        "that and the near obstacle",
-        vec![overhang.clone()],
-        &[near],
-        0.5,
-    )?;
+    gives("no object", &[], &[], 1.0)?;
+    gives("distant obstacle of 1 m", &obstacle, &[], 0.5)?;
+    gives("near obstacle of 1 m", &[], &near, 0.75)?;
+    gives("both obstacles", &obstacle, &near, 0.5)?;
+    gives("distant overhang at 1.5 m", &overhang, &[], 0.75)?;
+    gives("that and the near obstacle", &overhang, &near, 0.5)
+}
 
-    // a reveal: outside the beam the answer is 1, inside it is refused
+/// Outside the beam the answer is 1, inside it is refused.
+fn reveals(checks: &mut Checks) -> Outcome {
     let behind = sun_at(0.0, 170.0, vec![sector(0.0, 360.0, vec![])]);
     checks.equal(
         "a reveal outside the beam",
-        south_factor(&behind, &[reveal]).unwrap(),
+        south_factor(&behind, &[REVEAL]).unwrap(),
         1.0,
     )?;
     let refused =
-        south_factor(&all_around(vec![]), &[reveal]).map_err(|error| refusal_number(&error));
-    checks.holds("a reveal inside the beam is 11", refused == Err(11))?;
-    checks.done("factor")
+        south_factor(&all_around(vec![]), &[REVEAL]).map_err(|error| refusal_number(&error));
+    checks.holds("a reveal inside the beam is 11", refused == Err(11))
 }
 
 fn sectors(checks: &mut Checks) -> Outcome {

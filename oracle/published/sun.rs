@@ -194,6 +194,12 @@ fn days(settings: &Settings, rattle: &Probes) -> Outcome {
 }
 
 fn times(settings: &Settings, rattle: &Probes) -> Outcome {
+    time_shifts(settings, rattle)?;
+    solar_times(settings, rattle)?;
+    hour_angles(settings, rattle)
+}
+
+fn time_shifts(settings: &Settings, rattle: &Probes) -> Outcome {
     let longitudes = [
         -180.0, 180.0, 0.0, -0.0, 15.0, -15.0, 7.5, -7.5, 0.5, -0.5, 8.26,
     ];
@@ -207,8 +213,10 @@ fn times(settings: &Settings, rattle: &Probes) -> Outcome {
         ],
         |[zone, longitude]| rust::init_time_shift(zone as i64, longitude),
         |[zone, longitude]| unsafe { (rattle.init_time_shift)(zone as i64, longitude) },
-    )?;
+    )
+}
 
+fn solar_times(settings: &Settings, rattle: &Probes) -> Outcome {
     let minutes: Vec<f64> = (0..DAYS).map(init_equation_of_time).collect();
     let shifts = [0.0, -0.0, 26.0, -25.0, 1.0, 0.5, -0.5, 12.0, -12.0];
     compare_function(
@@ -222,8 +230,10 @@ fn times(settings: &Settings, rattle: &Probes) -> Outcome {
         ],
         |[hour, minutes, shift]| rust::init_solar_time(hour as u32, minutes, shift),
         |[hour, minutes, shift]| unsafe { (rattle.init_solar_time)(hour as u32, minutes, shift) },
-    )?;
+    )
+}
 
+fn hour_angles(settings: &Settings, rattle: &Probes) -> Outcome {
     // solar times whose angle is exactly 180, −180, 0, and those that stay beyond after the shift
     let mut times = around(&[0.5, 24.5, 12.5, 36.5, -11.5, 48.5, -23.5]);
     times.extend((-60..=120).map(|half| half as f64 * 0.5));
