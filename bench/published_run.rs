@@ -62,17 +62,21 @@ pub fn given(job: &Job) -> Given {
     }
 }
 
-/// The row of each step, and the sum of factor times direct.
-pub fn run(job: &Job, given: Given, rows: &mut Vec<Row>) -> anyhow::Result<f64> {
-    let time = SimulationTime::new(job.start, job.end, job.step);
-    let year = ExternalConditions::new(
+/// The tables of all hours of the year.
+#[inline(always)] // a part of the run, measured with it
+fn conditions(
+    time: &SimulationTime,
+    series: Series,
+    sectors: Vec<ShadingSegment>,
+) -> ExternalConditions {
+    ExternalConditions::new(
         &time.iter(),
         vec![],
         vec![],
         vec![],
-        given.series.diffuse,
-        given.series.direct,
-        given.series.reflectivity,
+        series.diffuse,
+        series.direct,
+        series.reflectivity,
         SITE.latitude,
         SITE.longitude,
         SITE.timezone,
@@ -83,8 +87,14 @@ pub fn run(job: &Job, given: Given, rows: &mut Vec<Row>) -> anyhow::Result<f64> 
         None,
         false,
         SITE.conversion_needed,
-        Some(given.sectors),
-    );
+        Some(sectors),
+    )
+}
+
+/// The row of each step, and the sum of factor times direct.
+pub fn run(job: &Job, given: Given, rows: &mut Vec<Row>) -> anyhow::Result<f64> {
+    let time = SimulationTime::new(job.start, job.end, job.step);
+    let year = conditions(&time, given.series, given.sectors);
     let orientation = angle(SURFACE.orientation);
     let mut sum = 0.0;
     rows.clear();

@@ -107,66 +107,101 @@ fn two(name: &str, rattle: TwoDoubles, rust: TwoDoubles, inputs: &[f64]) {
     )
 }
 
-fn main() {
-    let mut random = Random::new(1, "bench");
+/// What the functions are called with.
+struct Inputs {
+    turns: Vec<f64>,
+    degrees: Vec<f64>,
+    ratios: Vec<f64>,
+    positive: Vec<f64>,
+    powers: Vec<f64>,
+    hours: Vec<f64>,
+    extents: Vec<f64>,
+}
+
+fn any_inputs(mut random: Random) -> Inputs {
     let mut between = |low: f64, high: f64| -> Vec<f64> {
         (0..INPUTS).map(|_| random.uniform(low, high)).collect()
     };
-    let turns = between(-7.0, 7.0);
-    let degrees = between(-360.0, 360.0);
-    let ratios = between(-1.0, 1.0);
-    let positive = between(0.0, 1.0);
-    let powers = between(3.0, 14.0);
-    let hours = between(0.0, 8784.0);
-    let extents = between(-2.0, 2.0);
+    Inputs {
+        turns: between(-7.0, 7.0),
+        degrees: between(-360.0, 360.0),
+        ratios: between(-1.0, 1.0),
+        positive: between(0.0, 1.0),
+        powers: between(3.0, 14.0),
+        hours: between(0.0, 8784.0),
+        extents: between(-2.0, 2.0),
+    }
+}
 
-    measure::heading("function");
-    two("`min_of_2`", LIBRARY.min_of_2, rust::min_of_2, &extents);
-    two("`max_of_2`", LIBRARY.max_of_2, rust::max_of_2, &extents);
-    two("float `min`", LIBRARY.float_min, rust::float_min, &extents);
-    two("float `max`", LIBRARY.float_max, rust::float_max, &extents);
-    one("floor", LIBRARY.floor, rust::floor, &hours);
-    one("power 3", LIBRARY.cube, rust::cube, &ratios);
+/// The lesser and the greater of two, floor and cube.
+fn plain_lines(inputs: &Inputs) {
+    let extents = &inputs.extents;
+    two("`min_of_2`", LIBRARY.min_of_2, rust::min_of_2, extents);
+    two("`max_of_2`", LIBRARY.max_of_2, rust::max_of_2, extents);
+    two("float `min`", LIBRARY.float_min, rust::float_min, extents);
+    two("float `max`", LIBRARY.float_max, rust::float_max, extents);
+    one("floor", LIBRARY.floor, rust::floor, &inputs.hours);
+    one("power 3", LIBRARY.cube, rust::cube, &inputs.ratios);
+}
+
+fn degree_lines(inputs: &Inputs) {
     one(
         "degrees to radians",
         LIBRARY.to_radians,
         rust::to_radians,
-        &degrees,
+        &inputs.degrees,
     );
     one(
         "radians to degrees",
         LIBRARY.to_degrees,
         rust::to_degrees,
-        &turns,
+        &inputs.turns,
     );
+}
+
+fn root_lines(inputs: &Inputs) {
     one(
         "root (Rust: whole numbers)",
         LIBRARY.sqrt,
         rust::sqrt_by_whole_numbers,
-        &positive,
+        &inputs.positive,
     );
     one(
         "root (Rust: the machine's)",
         LIBRARY.sqrt,
         rust::sqrt,
-        &positive,
+        &inputs.positive,
     );
-    one("sine", LIBRARY.sin, rust::sin, &turns);
-    one("cosine", LIBRARY.cos, rust::cos, &turns);
+}
+
+/// Of angles, and angles of ratios.
+fn angle_lines(inputs: &Inputs) {
+    let (turns, ratios) = (&inputs.turns, &inputs.ratios);
+    one("sine", LIBRARY.sin, rust::sin, turns);
+    one("cosine", LIBRARY.cos, rust::cos, turns);
     let (rattle, rust) = (black_box(LIBRARY.sin_cos), black_box(rust::sin_cos as Both));
     line(
         "sine and cosine",
         |a| unsafe { rattle(a) },
         |a| unsafe { rust(a) },
-        &turns,
+        turns,
     );
-    one("tangent", LIBRARY.tan, rust::tan, &turns);
-    one("arcsine", LIBRARY.asin, rust::asin, &ratios);
-    one("arccosine", LIBRARY.acos, rust::acos, &ratios);
+    one("tangent", LIBRARY.tan, rust::tan, turns);
+    one("arcsine", LIBRARY.asin, rust::asin, ratios);
+    one("arccosine", LIBRARY.acos, rust::acos, ratios);
+}
+
+fn main() {
+    let inputs = any_inputs(Random::new(1, "bench"));
+    measure::heading("function");
+    plain_lines(&inputs);
+    degree_lines(&inputs);
+    root_lines(&inputs);
+    angle_lines(&inputs);
     one(
         "power −1.253",
         LIBRARY.pow_minus_1_253,
         rust::pow_minus_1_253,
-        &powers,
+        &inputs.powers,
     );
 }

@@ -257,6 +257,49 @@ impl Answer {
     }
 }
 
+/// A guarded page, and beside it what its bytes should be.
+struct Page {
+    guarded: Guarded,
+    expected: Vec<u8>,
+}
+
+impl Page {
+    fn filled(settings: &Settings) -> Page {
+        let mut filling = settings.random("page");
+        let mut expected = vec![0u8; PAGE];
+        expected.fill_with(|| filling.word() as u8);
+        let mut guarded = Guarded::holding(PAGE);
+        guarded.bytes().copy_from_slice(&expected);
+        Page { guarded, expected }
+    }
+
+    /// Puts a case's bytes in their place on both sides: where that is.
+    fn hold(&mut self, case: &Case) -> std::ops::Range<usize> {
+        let len = case.bytes.len();
+        let offset = self.guarded.offset(case.side, len);
+        let range = offset..offset + len;
+        self.expected[range.clone()].copy_from_slice(&case.bytes);
+        self.guarded.bytes()[range.clone()].copy_from_slice(&case.bytes);
+        range
+    }
+
+    /// The first byte that is not as it should be, counted from the buffer's start.
+    fn other_byte(&mut self, offset: usize) -> Option<String> {
+        let Page { guarded, expected } = self;
+        let found = guarded.bytes();
+        if found == &expected[..] {
+            return None;
+        }
+        let at = (0..PAGE).find(|&at| found[at] != expected[at]).unwrap();
+        Some(format!(
+            "byte {}: Rust {:02X}, Rattle {:02X}",
+            at as isize - offset as isize,
+            expected[at],
+            found[at],
+        ))
+    }
+}
+
 /// Runs the cases of one function. `rattle` gets the buffer's address; `rust` gets the same bytes
 /// elsewhere. Their answers are compared, then the page with what it should be.
 fn compare(
@@ -266,42 +309,27 @@ fn compare(
     rust: impl Fn(&mut [u8], &Case) -> Answer,
     rattle: impl Fn(*mut u8, usize, &Case) -> Answer,
 ) -> Outcome {
-    let mut filling = settings.random("page");
-    let mut expected = vec![0u8; PAGE];
-    expected.fill_with(|| filling.word() as u8);
-    let mut guarded = Guarded::holding(PAGE);
-    guarded.bytes().copy_from_slice(&expected);
+    let mut page = Page::filled(settings);
     let mut tally = Tally::default();
     for case in cases {
-        let len = case.bytes.len();
-        let offset = guarded.offset(case.side, len);
-        let range = offset..offset + len;
-        expected[range.clone()].copy_from_slice(&case.bytes);
-        guarded.bytes()[range.clone()].copy_from_slice(&case.bytes);
+        let (range, len) = (page.hold(&case), case.bytes.len());
+        let right = rust(&mut page.expected[range.clone()], &case);
+        let start = page.guarded.lend(name, case.side, len, case.place);
+        let got = rattle(start, len, &case);
 
-        let right = rust(&mut expected[range], &case);
-        let got = rattle(guarded.lend(name, case.side, len, case.place), len, &case);
-
+        let compared = tally.compared;
         if !right.same(got) {
             return Err(format!(
-                "{name} differs after {} cases\n{}\n  Rust   {}\n  Rattle {}",
-                tally.compared,
+                "{name} differs after {compared} cases\n{}\n  Rust   {}\n  Rattle {}",
                 case.shown(),
                 right.shown(),
                 got.shown(),
             ));
         }
-        if guarded.bytes() != &expected[..] {
-            let at = (0..PAGE)
-                .find(|&at| guarded.bytes()[at] != expected[at])
-                .unwrap();
+        if let Some(other) = page.other_byte(range.start) {
             return Err(format!(
-                "{name} leaves other bytes after {} cases\n{}\n  byte {}: Rust {:02X}, Rattle {:02X}",
-                tally.compared,
+                "{name} leaves other bytes after {compared} cases\n{}\n  {other}",
                 case.shown(),
-                at as isize - offset as isize,
-                expected[at],
-                guarded.bytes()[at],
             ));
         }
         tally.compared += 1;

@@ -514,34 +514,21 @@ impl Maker {
 
     // --- Single steps ---
 
-    /// The call of one of a job's steps, where it has any, for the most part with room for all of
-    /// its doubles.
-    pub fn single_of(&mut self, job: &Job, doubles: usize) -> Single {
-        let steps = steps_if_any(&job.site, &job.times);
-        let step = steps.get(self.random.below(steps.len().max(1)));
+    /// The readings of one of a job's steps, or any where there are none.
+    fn readings_of(&mut self, job: &Job, step: Option<&Step>) -> [f64; 3] {
         let reading = |list: usize| {
             let series = doubles_of(&job.series[list]);
             step.and_then(|step| series.get(step.index).copied())
         };
         let readings = [reading(0), reading(1), reading(2)];
-        let readings = [0, 1, 2].map(|k: usize| match readings[k] {
+        [0, 1, 2].map(|k: usize| match readings[k] {
             Some(x) => x,
             None => self.any_reading(k),
-        });
-        let time = step.map_or(job.times[0], |step| step.time);
-        let more = match self.random.below(4) {
-            0 => self.random.below(20),
-            _ => 0,
-        };
-        let mut single = Single {
-            site: job.site,
-            time,
-            surface: job.surface,
-            readings,
-            sectors: job.sectors.clone(),
-            window: job.window.clone(),
-            results: self.bytes(8 * doubles + more),
-        };
+        })
+    }
+
+    /// Few of the calls have a short list of results, or a reading or a time at an edge.
+    fn single_damaged(&mut self, single: &mut Single, doubles: usize) {
         match self.random.below(32) {
             0 => {
                 let len = self.random.below(8 * doubles + 1);
@@ -558,6 +545,29 @@ impl Maker {
             }
             _ => {}
         }
+    }
+
+    /// The call of one of a job's steps, where it has any, for the most part with room for all of
+    /// its doubles.
+    pub fn single_of(&mut self, job: &Job, doubles: usize) -> Single {
+        let steps = steps_if_any(&job.site, &job.times);
+        let step = steps.get(self.random.below(steps.len().max(1)));
+        let readings = self.readings_of(job, step);
+        let time = step.map_or(job.times[0], |step| step.time);
+        let more = match self.random.below(4) {
+            0 => self.random.below(20),
+            _ => 0,
+        };
+        let mut single = Single {
+            site: job.site,
+            time,
+            surface: job.surface,
+            readings,
+            sectors: job.sectors.clone(),
+            window: job.window.clone(),
+            results: self.bytes(8 * doubles + more),
+        };
+        self.single_damaged(&mut single, doubles);
         single
     }
 }

@@ -770,18 +770,24 @@ enum Lawless {
     SumByTheObjects,
 }
 
-fn lawless_run<const WAY: u8>(judge: &mut Judge, job: &Job, results: &mut [u8]) -> RunAnswer {
-    let is = |way: Lawless| way as u8 == WAY;
+impl Lawless {
+    fn is(self, way: u8) -> bool {
+        self as u8 == way
+    }
+}
+
+/// The job without some of its objects at the window, and how many there were.
+fn objects_left_out(way: u8, job: &Job) -> (Job, usize) {
     let mut scene = Scene::of(&Call {
         numbers: [0.0; 7],
         sectors: job.sectors.clone(),
         window: job.window.clone(),
     });
     let objects = scene.window.len();
-    if is(Lawless::FirstObjectLeftOut) && objects > 0 {
+    if Lawless::FirstObjectLeftOut.is(way) && objects > 0 {
         scene.window.remove(0);
     }
-    if is(Lawless::LastObjectAlone) && objects > 0 {
+    if Lawless::LastObjectAlone.is(way) && objects > 0 {
         scene.window.drain(..objects - 1);
     }
     let changed = scene.call();
@@ -790,6 +796,25 @@ fn lawless_run<const WAY: u8>(judge: &mut Judge, job: &Job, results: &mut [u8]) 
     if whole {
         job.window = changed.window;
     }
+    (job, objects)
+}
+
+/// What becomes of a step's factor.
+fn lawless_factor(way: u8, mut factor: f64, objects: usize) -> f64 {
+    if Lawless::ObjectsCounted.is(way) {
+        factor *= 1.0 - objects as f64 / 1000.0;
+    }
+    if Lawless::AboveTheWhole.is(way) && factor == 1.0 {
+        factor = ulps_from(1.0, 1);
+    }
+    if Lawless::NeverWhole.is(way) && factor == 1.0 {
+        factor = ulps_from(1.0, -1);
+    }
+    factor
+}
+
+fn lawless_run<const WAY: u8>(judge: &mut Judge, job: &Job, results: &mut [u8]) -> RunAnswer {
+    let (job, objects) = objects_left_out(WAY, job);
     let mut answer = judge.run(&job, results);
     if answer.number != 0 {
         return answer;
@@ -800,21 +825,12 @@ fn lawless_run<const WAY: u8>(judge: &mut Judge, job: &Job, results: &mut [u8]) 
         .take(answer.count as usize)
     {
         let doubles = doubles_of(row);
-        let (direct, mut factor) = (doubles[2], doubles[5]);
-        if is(Lawless::ObjectsCounted) {
-            factor *= 1.0 - objects as f64 / 1000.0;
-        }
-        if is(Lawless::AboveTheWhole) && factor == 1.0 {
-            factor = ulps_from(1.0, 1);
-        }
-        if is(Lawless::NeverWhole) && factor == 1.0 {
-            factor = ulps_from(1.0, -1);
-        }
+        let (direct, factor) = (doubles[2], lawless_factor(WAY, doubles[5], objects));
         store(row, 5, &[factor]);
         sum += factor * direct;
     }
     answer.sum = sum;
-    if is(Lawless::SumByTheObjects) {
+    if Lawless::SumByTheObjects.is(WAY) {
         answer.sum += objects as f64;
     }
     answer

@@ -192,17 +192,20 @@ fn any_pieces(random: &mut Random, len: usize) -> Pieces {
     }
 }
 
-/// Short listings whose answer the specification gives in so many words, each byte by byte and
-/// whole.
-fn known() -> Vec<(&'static str, Vec<u8>)> {
-    let line = example();
-    let names = NAMES.as_bytes();
-    let joined = |parts: &[&[u8]]| parts.concat();
+fn joined(parts: &[&[u8]]) -> Vec<u8> {
+    parts.concat()
+}
+
+/// What a listing is, and its bytes.
+type Known = (&'static str, Vec<u8>);
+
+/// Names and the example, with empty lines or without some of it.
+fn known_lines(names: &[u8], line: &[u8]) -> Vec<Known> {
     vec![
-        ("the example", joined(&[names, b"\n", &line, b"\n"])),
+        ("the example", joined(&[names, b"\n", line, b"\n"])),
         (
             "the example without its last line feed",
-            joined(&[names, b"\n", &line]),
+            joined(&[names, b"\n", line]),
         ),
         ("no input", vec![]),
         ("names alone", joined(&[names, b"\n"])),
@@ -210,50 +213,72 @@ fn known() -> Vec<(&'static str, Vec<u8>)> {
         ("names and an empty line", joined(&[names, b"\n\n"])),
         (
             "names, an empty line and the example",
-            joined(&[names, b"\n\n", &line, b"\n"]),
+            joined(&[names, b"\n\n", line, b"\n"]),
         ),
         (
             "the example and an empty line",
-            joined(&[names, b"\n", &line, b"\n\n"]),
+            joined(&[names, b"\n", line, b"\n\n"]),
         ),
+    ]
+}
+
+/// Line feeds alone, and carriage returns.
+fn known_line_ends(names: &[u8], line: &[u8]) -> Vec<Known> {
+    vec![
         ("a line feed", b"\n".to_vec()),
         ("three line feeds", b"\n\n\n".to_vec()),
         ("a carriage return", b"\r\n".to_vec()),
-        (
-            "carriage returns",
-            joined(&[names, b"\r\n", &line, b"\r\n"]),
-        ),
+        ("carriage returns", joined(&[names, b"\r\n", line, b"\r\n"])),
         (
             "carriage returns after the names",
-            joined(&[names, b"\n", &line, b"\r\n", &line]),
+            joined(&[names, b"\n", line, b"\r\n", line]),
         ),
+    ]
+}
+
+/// Names that are missing, out of place or not alone, and bytes that do not belong.
+fn known_misplaced(names: &[u8], line: &[u8]) -> Vec<Known> {
+    vec![
         (
             "an empty line before the names",
-            joined(&[b"\n", names, b"\n", &line, b"\n"]),
+            joined(&[b"\n", names, b"\n", line, b"\n"]),
         ),
-        ("no names", joined(&[&line, b"\n", &line, b"\n"])),
+        ("no names", joined(&[line, b"\n", line, b"\n"])),
         (
             "names twice",
-            joined(&[names, b"\n", names, b"\n", &line, b"\n"]),
+            joined(&[names, b"\n", names, b"\n", line, b"\n"]),
         ),
         (
             "names and the line in one",
-            joined(&[names, b" ", &line, b"\n"]),
+            joined(&[names, b" ", line, b"\n"]),
         ),
         (
             "a byte order mark",
-            joined(&[b"\xEF\xBB\xBF", names, b"\n", &line, b"\n"]),
+            joined(&[b"\xEF\xBB\xBF", names, b"\n", line, b"\n"]),
         ),
         ("a space and no more", joined(&[names, b"\n "])),
         (
             "a zero byte at the end",
-            joined(&[names, b"\n", &line, b"\n\0"]),
+            joined(&[names, b"\n", line, b"\n\0"]),
         ),
         (
             "names in two lines",
-            joined(&[&names[..8], b"\n", &names[9..], b"\n", &line, b"\n"]),
+            joined(&[&names[..8], b"\n", &names[9..], b"\n", line, b"\n"]),
         ),
     ]
+}
+
+/// Short listings whose answer the specification gives in so many words, each byte by byte and
+/// whole.
+fn known() -> Vec<Known> {
+    let names = NAMES.as_bytes();
+    let line = &example();
+    [
+        known_lines(names, line),
+        known_line_ends(names, line),
+        known_misplaced(names, line),
+    ]
+    .concat()
 }
 
 /// Every byte at each place of a line.

@@ -16,26 +16,17 @@ const FILL: u8 = 0xA5;
 const ACCEPTED: usize = 70;
 const REFUSED: usize = 12;
 
-/// The record of a job, if it is short, with its answer.
-fn record(judge: &mut Judge, mut job: Job) -> Option<(Record, RunAnswer)> {
-    let results = job.results.len();
-    let timezone_is_double =
-        job.site.timezone as f64 as i64 == job.site.timezone && job.site.timezone < i64::MAX;
-    if results > MOST_RESULTS || !timezone_is_double {
-        return None;
-    }
-    job.results = vec![FILL; results];
-    let mut left = job.results.clone();
-    let answer = judge.run(&job, &mut left);
+/// The record of a job with its answer and the results that it leaves.
+fn record_of(job: &Job, answer: &RunAnswer, left: &[u8]) -> Record {
     let site = &job.site;
     let [diffuse, direct, reflectivity] = &job.series;
-    let lists = [
+    let lists: [&[u8]; 6] = [
         diffuse,
         direct,
         reflectivity,
         &job.sectors,
         &job.window,
-        &left,
+        left,
     ];
     let mut record = Record::new(KIND);
     record
@@ -53,10 +44,23 @@ fn record(judge: &mut Judge, mut job: Job) -> Option<(Record, RunAnswer)> {
         .word(answer.number)
         .word(answer.step)
         .word(answer.count)
-        .answer(answer.sum);
-    for list in lists {
-        record.list(list);
+        .answer(answer.sum)
+        .list(&lists.concat());
+    record
+}
+
+/// The record of a job, if it is short, with its answer.
+fn record(judge: &mut Judge, mut job: Job) -> Option<(Record, RunAnswer)> {
+    let results = job.results.len();
+    let timezone_is_double =
+        job.site.timezone as f64 as i64 == job.site.timezone && job.site.timezone < i64::MAX;
+    if results > MOST_RESULTS || !timezone_is_double {
+        return None;
     }
+    job.results = vec![FILL; results];
+    let mut left = job.results.clone();
+    let answer = judge.run(&job, &mut left);
+    let record = record_of(&job, &answer, &left);
     (record.len() <= LONGEST).then_some((record, answer))
 }
 

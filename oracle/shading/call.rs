@@ -69,6 +69,27 @@ impl Scene {
     }
 }
 
+/// A word's digits, the highest first.
+fn word_shown(word: &[u8]) -> String {
+    let digits = word.iter().rev().map(|byte| format!("{byte:02X}"));
+    digits.collect()
+}
+
+/// The line of a record: four words, and more up to the last that is not 0.
+fn record_shown(name: &str, record: &[u8], words: usize) -> String {
+    let used = record
+        .iter()
+        .rposition(|&byte| byte != 0)
+        .map_or(0, |k| k / 8 + 1);
+    let shown = record.chunks(8).take(used.max(4)).map(word_shown);
+    let whole: Vec<String> = shown.collect();
+    let part = match record.len() < 8 * words {
+        true => " (a part)",
+        false => "",
+    };
+    format!("  {name}{part}: {}", whole.join(" "))
+}
+
 impl Call {
     pub fn shown(&self) -> String {
         const NAMES: [&str; 7] = [
@@ -84,34 +105,10 @@ impl Call {
         for (name, x) in NAMES.iter().zip(self.numbers) {
             lines.push(format!("  {name:<11} {}", crate::comparison::shown(x)));
         }
-        let lists = [
-            ("sector", &self.sectors, SECTOR_WORDS),
-            ("window", &self.window, WINDOW_WORDS),
-        ];
-        for (name, bytes, words) in lists {
-            for record in bytes.chunks(8 * words) {
-                let used = record
-                    .iter()
-                    .rposition(|&byte| byte != 0)
-                    .map_or(0, |k| k / 8 + 1);
-                let whole: Vec<String> = record
-                    .chunks(8)
-                    .take(used.max(4))
-                    .map(|word| {
-                        word.iter()
-                            .rev()
-                            .map(|byte| format!("{byte:02X}"))
-                            .collect()
-                    })
-                    .collect();
-                let part = if record.len() < 8 * words {
-                    " (a part)"
-                } else {
-                    ""
-                };
-                lines.push(format!("  {name}{part}: {}", whole.join(" ")));
-            }
-        }
+        let sectors = self.sectors.chunks(8 * SECTOR_WORDS);
+        lines.extend(sectors.map(|record| record_shown("sector", record, SECTOR_WORDS)));
+        let window = self.window.chunks(8 * WINDOW_WORDS);
+        lines.extend(window.map(|record| record_shown("window", record, WINDOW_WORDS)));
         lines.join("\n")
     }
 }

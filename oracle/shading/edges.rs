@@ -164,9 +164,42 @@ fn every_turn(calls: &mut Vec<Call>) {
     }
 }
 
+/// Lists of bounds with one among them.
+fn lists_with(bound: f64) -> [Vec<(f64, f64)>; 7] {
+    [
+        vec![(0.0, bound), (bound, 360.0)],
+        vec![(0.0, bound)],
+        vec![(bound, 360.0)],
+        vec![(0.0, bound), (bound, bound), (bound, 360.0)],
+        vec![(bound, bound)],
+        vec![(bound, 0.0)],
+        vec![(-0.0, bound), (-bound.abs(), 360.0)],
+    ]
+}
+
+/// Sectors with these bounds, whose obstacles are low and high in turns.
+fn sectors_between(list: &[(f64, f64)]) -> Vec<Sector> {
+    let low = [OBSTACLE, 0.5f64.to_bits(), 1.0f64.to_bits()];
+    let high = [OBSTACLE, 1.0f64.to_bits(), 1.0f64.to_bits()];
+    list.iter()
+        .enumerate()
+        .map(|(i, &(start, end))| sector(start, end, &[[low, high][i % 2]]))
+        .collect()
+}
+
+/// The azimuth at a bound, with its neighbours.
+fn about_bound(calls: &mut Vec<Call>, scene: &Scene, bound: f64) {
+    let mut scene = scene.clone();
+    scene.numbers[ORIENTATION] = bound;
+    for steps in -2..=2 {
+        scene.numbers[AZIMUTH] = ulps_from(180.0 - bound, steps);
+        calls.push(scene.call());
+    }
+}
+
 /// The azimuth at a bound, with its neighbours, for bounds all around and several lists with it.
 fn every_bound(calls: &mut Vec<Call>) {
-    let [scene, ..] = plain_scenes();
+    let [mut scene, ..] = plain_scenes();
     let bounds = [
         0.0,
         -0.0,
@@ -182,31 +215,10 @@ fn every_bound(calls: &mut Vec<Call>) {
         ulps_from(360.0, -1),
         360.0,
     ];
-    for bound in bounds {
-        let lists = [
-            vec![(0.0, bound), (bound, 360.0)],
-            vec![(0.0, bound)],
-            vec![(bound, 360.0)],
-            vec![(0.0, bound), (bound, bound), (bound, 360.0)],
-            vec![(bound, bound)],
-            vec![(bound, 0.0)],
-            vec![(-0.0, bound), (-bound.abs(), 360.0)],
-        ];
-        for list in lists {
-            for steps in -2..=2 {
-                let mut scene = scene.clone();
-                scene.numbers[ORIENTATION] = bound;
-                scene.numbers[AZIMUTH] = ulps_from(180.0 - bound, steps);
-                let near = [OBSTACLE, 0.5f64.to_bits(), 1.0f64.to_bits()];
-                let far = [OBSTACLE, 1.0f64.to_bits(), 1.0f64.to_bits()];
-                scene.sectors = list
-                    .iter()
-                    .enumerate()
-                    .map(|(i, &(start, end))| sector(start, end, &[[near, far][i % 2]]))
-                    .collect();
-                calls.push(scene.call());
-            }
-        }
+    let each_list = |bound: f64| lists_with(bound).map(|list| (bound, list));
+    for (bound, list) in bounds.into_iter().flat_map(each_list) {
+        scene.sectors = sectors_between(&list);
+        about_bound(calls, &scene, bound);
     }
 }
 

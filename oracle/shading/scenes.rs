@@ -158,39 +158,59 @@ fn turned_back(azimuth: f64) -> f64 {
     }
 }
 
-pub fn any_numbers(random: &mut Random) -> Numbers {
-    let side = |random: &mut Random| match random.below(16) {
-        0 => any_length(random, 1000.0).max(0.001),
-        1 => 0.001,
-        2..=5 => (1 + random.below(16)) as f64 / 4.0,
-        _ => random.uniform(0.3, 4.0),
-    };
-    let altitude = match random.below(16) {
+fn any_altitude(random: &mut Random) -> f64 {
+    match random.below(16) {
         0 | 1 => 0.0,
         2 => 90.0,
         3 => f64::from_bits(random.word() % 90.0f64.to_bits()),
         4 => ulps_from(90.0, -(random.below(1000) as i64)),
         5 | 6 => any_angle(random, 0.0, 90.0),
         _ => random.uniform(0.0, 60.0),
-    };
-    let tilt = match random.below(8) {
+    }
+}
+
+fn any_tilt(random: &mut Random, altitude: f64) -> f64 {
+    match random.below(8) {
         0..=3 => 90.0,
         4 => any_angle(random, 0.0, 180.0),
         _ => random.uniform(20.0, 90.0) + altitude * random.uniform(0.0, 1.0),
-    };
-    let orientation = any_angle(random, 0.0, 360.0);
-    let azimuth = match random.below(32) {
+    }
+}
+
+fn any_azimuth(random: &mut Random, orientation: f64) -> f64 {
+    match random.below(32) {
         0 => any_angle(random, -360.0, 360.0),
         1 => 180.0 - orientation,
         _ => turned_back(180.0 - orientation + any_angle(random, -90.0, 90.0)),
-    };
-    let base_height = match random.below(8) {
+    }
+}
+
+fn any_base_height(random: &mut Random) -> f64 {
+    match random.below(8) {
         0..=2 => 0.0,
         3 => random.below(20) as f64,
         4 => any_length(random, 1000.0),
         _ => random.uniform(0.0, 10.0),
-    };
-    let (height, width) = (side(random), side(random));
+    }
+}
+
+/// The height or the width of a surface.
+fn any_side(random: &mut Random) -> f64 {
+    match random.below(16) {
+        0 => any_length(random, 1000.0).max(0.001),
+        1 => 0.001,
+        2..=5 => (1 + random.below(16)) as f64 / 4.0,
+        _ => random.uniform(0.3, 4.0),
+    }
+}
+
+pub fn any_numbers(random: &mut Random) -> Numbers {
+    let altitude = any_altitude(random);
+    let tilt = any_tilt(random, altitude);
+    let orientation = any_angle(random, 0.0, 360.0);
+    let azimuth = any_azimuth(random, orientation);
+    let base_height = any_base_height(random);
+    let (height, width) = (any_side(random), any_side(random));
     [
         altitude,
         azimuth,

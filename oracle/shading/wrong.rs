@@ -229,33 +229,42 @@ impl Plain {
         !within(beside) || !(within(above) || self.is(BeamWithoutTilt))
     }
 
-    /// The place of the sector with the sun, or the number of a refusal.
-    fn walk(&self, azimuth: f64, sectors: &[Sector]) -> Result<usize, u64> {
-        let gap = |place: usize| {
-            let (last, start) = match place {
-                0 if !self.is(FirstStartNotFree) => return false,
-                0 => (0, sectors[0][START]),
-                _ => (sectors[place - 1][END], sectors[place][START]),
-            };
-            match self.is(GapByBits) {
-                true => last != start,
-                false => double(last) != double(start),
-            }
+    /// Whether a sector starts elsewhere than the one before it ends.
+    fn gap(&self, sectors: &[Sector], place: usize) -> bool {
+        let (last, start) = match place {
+            0 if !self.is(FirstStartNotFree) => return false,
+            0 => (0, sectors[0][START]),
+            _ => (sectors[place - 1][END], sectors[place][START]),
         };
-        let turned = |place: usize| double(sectors[place][END]) < double(sectors[place][START]);
-        let fault = |place: usize| match (gap(place), turned(place)) {
+        match self.is(GapByBits) {
+            true => last != start,
+            false => double(last) != double(start),
+        }
+    }
+
+    /// The number that a sector's bounds are refused with, if they are.
+    fn fault(&self, sectors: &[Sector], place: usize) -> Option<u64> {
+        let turned = double(sectors[place][END]) < double(sectors[place][START]);
+        match (self.gap(sectors, place), turned) {
             (true, true) if self.is(TurnedBeforeGap) => Some(9),
             (true, _) => Some(8),
             (_, true) => Some(9),
             _ => None,
-        };
-        let holds = |place: usize| {
-            let start = 180.0 - double(sectors[place][START]);
-            let end = 180.0 - double(sectors[place][END]);
-            let before = azimuth < start || (self.is(StartClosed) && azimuth == start);
-            let after = azimuth > end || (self.is(EndClosed) && azimuth == end);
-            before && after
-        };
+        }
+    }
+
+    /// Whether the sun stands in a sector.
+    fn holds(&self, azimuth: f64, sector: &Sector) -> bool {
+        let start = 180.0 - double(sector[START]);
+        let end = 180.0 - double(sector[END]);
+        let before = azimuth < start || (self.is(StartClosed) && azimuth == start);
+        let after = azimuth > end || (self.is(EndClosed) && azimuth == end);
+        before && after
+    }
+
+    /// The place of the sector with the sun, or the number of a refusal.
+    fn walk(&self, azimuth: f64, sectors: &[Sector]) -> Result<usize, u64> {
+        let fault = |place: usize| self.fault(sectors, place);
         if self.is(NoSectorWithoutWalk) {
             return Err(10);
         }
@@ -268,7 +277,7 @@ impl Plain {
             if let Some(number) = fault(place) {
                 return Err(number);
             }
-            if holds(place) {
+            if self.holds(azimuth, &sectors[place]) {
                 return Ok(place);
             }
         }
@@ -394,29 +403,37 @@ impl Plain {
         self.part(numbers, above + behind * through, width)
     }
 
-    fn in_sector(&self, numbers: &Numbers, sector: &Sector, window: &[WindowObject]) -> f64 {
-        let sun = Sun {
-            tan_altitude: tan(to_radians(numbers[ALTITUDE])),
-            difference: difference(numbers),
-        };
+    /// The shade of the distant objects.
+    fn distant(&self, numbers: &Numbers, sun: &Sun, sector: &Sector) -> Shade {
         let mut shade = Shade::default();
         let count = (sector[COUNT] as u32 as usize).min(8);
         for triple in sector[TRIPLES..].chunks_exact(3).take(count) {
-            self.add_distant(&mut shade, numbers, &sun, triple);
+            self.add_distant(&mut shade, numbers, sun, triple);
         }
-        let distant = shade;
-        let window = match window.len() {
-            16 if self.is(SixteenthLeftOut) => &window[..15],
-            _ => window,
-        };
+        shade
+    }
+
+    /// Adds the shade of all objects at the window. The answer is the least that near obstacles
+    /// leave, each against the shade of the objects before it.
+    fn add_window(
+        &self,
+        shade: &mut Shade,
+        numbers: &Numbers,
+        sun: &Sun,
+        window: &[WindowObject],
+    ) -> f64 {
         let mut early: f64 = f64::INFINITY;
         for object in window {
-            self.add_at_the_window(&mut shade, &sun, object);
+            self.add_at_the_window(shade, sun, object);
             if object[0] == OBSTACLE {
-                early = float_min(early, self.near(numbers, &sun, &shade, object));
+                early = float_min(early, self.near(numbers, sun, shade, object));
             }
         }
+        early
+    }
 
+    /// What all but the near obstacles leave.
+    fn without_near(&self, numbers: &Numbers, shade: &Shade) -> f64 {
         let height = numbers[HEIGHT];
         let obstacle = min_of_2(height, shade.obstacle);
         let overhang = min_of_2(height, shade.overhang);
@@ -424,8 +441,31 @@ impl Plain {
             true => height - obstacle - overhang,
             false => height - (obstacle + overhang),
         };
-        let width = self.sunlit_width(numbers, &shade);
-        let first = self.part(numbers, max_of_2(0.0, left_over), width);
+        let width = self.sunlit_width(numbers, shade);
+        self.part(numbers, max_of_2(0.0, left_over), width)
+    }
+
+    /// What a near obstacle leaves of the factor so far.
+    fn lessened(&self, factor: f64, near: f64) -> f64 {
+        match self.is(NearObstacleReplaces) {
+            true => near,
+            false => float_min(factor, near),
+        }
+    }
+
+    fn in_sector(&self, numbers: &Numbers, sector: &Sector, window: &[WindowObject]) -> f64 {
+        let sun = Sun {
+            tan_altitude: tan(to_radians(numbers[ALTITUDE])),
+            difference: difference(numbers),
+        };
+        let distant = self.distant(numbers, &sun, sector);
+        let window = match window.len() {
+            16 if self.is(SixteenthLeftOut) => &window[..15],
+            _ => window,
+        };
+        let mut shade = distant;
+        let early = self.add_window(&mut shade, numbers, &sun, window);
+        let first = self.without_near(numbers, &shade);
         if self.is(NearObstaclesEarly) {
             return float_min(first, early);
         }
@@ -434,11 +474,7 @@ impl Plain {
         }
         let obstacles = window.iter().filter(|object| object[0] == OBSTACLE);
         let factor = obstacles.fold(first, |factor, object| {
-            let near = self.near(numbers, &sun, &shade, object);
-            match self.is(NearObstacleReplaces) {
-                true => near,
-                false => float_min(factor, near),
-            }
+            self.lessened(factor, self.near(numbers, &sun, &shade, object))
         });
         match self.flaw {
             DarkBelowZero if factor == 0.0 => -f64::from_bits(1),
@@ -447,46 +483,55 @@ impl Plain {
         }
     }
 
-    fn answer(&self, call: &Call) -> FactorAnswer {
-        let refused = |number: u64| FactorAnswer {
-            number,
-            factor: if self.is(FactorKeptWhereRefused) {
-                1.0
-            } else {
-                0.0
-            },
-        };
-        let accepted = |factor: f64| FactorAnswer { number: 0, factor };
+    // --- The answer ---
+
+    /// The number that a call is refused with by its numbers or lists alone, if it is.
+    fn refusal(&self, call: &Call, scene: &Scene) -> Option<u64> {
+        let numbers_fine = self.numbers_fine(&call.numbers);
+        let lists_fine = self.lists_fine(call, scene);
+        match (numbers_fine, lists_fine) {
+            (false, false) if self.is(ListsBeforeSurface) => Some(4),
+            (false, _) => Some(3),
+            (_, false) => Some(4),
+            _ => None,
+        }
+    }
+
+    /// The factor, or the number of a refusal.
+    fn factor(&self, call: &Call) -> Result<f64, u64> {
         let numbers = &call.numbers;
         let scene = Scene::of(call);
-        let numbers_fine = self.numbers_fine(numbers);
-        let lists_fine = self.lists_fine(call, &scene);
-        if self.is(ListsBeforeSurface) && !lists_fine {
-            return refused(4);
-        }
-        if !numbers_fine {
-            return refused(3);
-        }
-        if !lists_fine {
-            return refused(4);
+        if let Some(number) = self.refusal(call, &scene) {
+            return Err(number);
         }
         let reveal = scene.window.iter().any(|object| object[0] >= REVEAL);
         if reveal && self.is(RevealOutsideBeam) {
-            return refused(11);
+            return Err(11);
         }
         if self.is(FactorOneAlways) || self.outside(numbers) {
-            return accepted(1.0);
+            return Ok(1.0);
         }
         if reveal && self.is(RevealBeforeWalk) {
-            return refused(11);
+            return Err(11);
         }
-        match self.walk(numbers[AZIMUTH], &scene.sectors) {
-            Err(number) => refused(number),
-            Ok(_) if reveal => refused(11),
-            Ok(place) => {
-                let place = place - (self.is(SectorBefore) && place > 0) as usize;
-                accepted(self.in_sector(numbers, &scene.sectors[place], &scene.window))
-            }
+        let place = self.walk(numbers[AZIMUTH], &scene.sectors)?;
+        if reveal {
+            return Err(11);
+        }
+        let place = place - (self.is(SectorBefore) && place > 0) as usize;
+        Ok(self.in_sector(numbers, &scene.sectors[place], &scene.window))
+    }
+
+    fn answer(&self, call: &Call) -> FactorAnswer {
+        match self.factor(call) {
+            Ok(factor) => FactorAnswer { number: 0, factor },
+            Err(number) => FactorAnswer {
+                number,
+                factor: match self.is(FactorKeptWhereRefused) {
+                    true => 1.0,
+                    false => 0.0,
+                },
+            },
         }
     }
 }
@@ -543,8 +588,8 @@ pub fn without_flaw() -> FactorCall {
     sides[0].2
 }
 
-/// What the comparison has to find.
-pub fn factor() -> Vec<Wrong> {
+/// Flaws of the checks.
+fn wrong_checks() -> Vec<Wrong> {
     flawed! { "factor";
         AzimuthWithin180,
         MinusZeroOutOfRange,
@@ -571,6 +616,12 @@ pub fn factor() -> Vec<Wrong> {
         TransparencyUnchecked,
         FactorKeptWhereRefused,
         ListWrittenTo,
+    }
+}
+
+/// Flaws of the beam and the walk.
+fn wrong_walks() -> Vec<Wrong> {
+    flawed! { "factor";
         BeamEndOpen,
         BeamNotWrapped,
         BeamWithoutTilt,
@@ -585,11 +636,17 @@ pub fn factor() -> Vec<Wrong> {
         NoSectorWithoutWalk,
         RevealBeforeWalk,
         SectorBefore,
+    }
+}
+
+/// Flaws of the shade, with those that break a law.
+fn wrong_shades() -> Vec<Wrong> {
+    flawed! { "factor";
         BaseHeightLeftOut,
         DistantOverhangLeftOut,
         RightFinMended,
         FinDifferenceWrapped,
-            OverhangWithoutCosine,
+        OverhangWithoutCosine,
         NearObstaclesEarly,
         NearObstacleAgainstDistantOverhang,
         TransparencyLeftOut,
@@ -604,6 +661,11 @@ pub fn factor() -> Vec<Wrong> {
         NearObstacleReplaces,
         DarkBelowZero,
     }
+}
+
+/// What the comparison has to find.
+pub fn factor() -> Vec<Wrong> {
+    [wrong_checks(), wrong_walks(), wrong_shades()].concat()
 }
 
 /// What each law has to find, tried alone.
