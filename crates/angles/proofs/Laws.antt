@@ -1,23 +1,21 @@
 -- Laws for those who use the functions: where a result is NaN, that a sine or a cosine lies from −1 to 1, and that every result is a double.
 use mathlib.Core.Path.{_≡_, refl}
-use mathlib.Core.Bool.{Bool, true, false, cond, _&&_}
+use mathlib.Core.Bool.{Bool, true, false, cond}
 use Prim.Native.Nat.{ℕ, zero, suc, _+_, _-_, _*_, _^_, _≤_, _<_}
 use native.Mathlib.Nat.{le-trans, mul-pos, mul-le-mul, zero-lt-suc}
 use native.Mathlib.Omega.{arith}
 use lib.Dec.{T, lit≤}
 use lib.Ieee.{Float, nan, fin, binary64, neg, lt, le, eq, ofInt, toUnsigned, isNan, fits}
 use lib.Ieee.Fits.{cond-fits, nan-fits, neg-fits, sub-fits, mul-fits, div-fits}
-use Rattle.doubles.specs.Arithmetic.{_⊖_, _⊗_, _⊘_, whole, bits, decimal}
+use Rattle.doubles.specs.Arithmetic.{_⊖_, _⊗_, _⊘_, whole, bits}
 use Rattle.doubles.specs.Functions.{floorOf}
 use Rattle.doubles.specs.Order.{Number}
 use Rattle.doubles.proofs.Order.{le-of-not-lt}
 use Rattle.doubles.proofs.Bounds.{one-number}
-use Rattle.angles.specs.Series.{down}
+use Rattle.doubles.specs.Series.{down}
 use Rattle.angles.specs.Sine.{isAngle, quarters, turns, quadrant, remainder, sineStep, cosineStep, sineSum, cosineSum, sineSeries, cosineSeries, sineAt, cosineAt, clamp, ofAngle, sine, cosine, tangent}
-use Rattle.angles.specs.Arcsine.{isSine, arcsineSeries, arcsineUpward, arcsine, halfPi, arccosine}
-use Rattle.angles.specs.Power.{powerOf, powerBy, powMinus1253}
 use Rattle.angles.proofs.Small.{Small, more-small, neg-small, round-small, sub-small, mul-small, div-small, by-value}
-use Rattle.angles.proofs.Turns.{not-up-to, whole-value, part-le, cut, floor-up, floor-level, floor-down}
+use Rattle.angles.proofs.Turns.{whole-value, part-le, cut, floor-up, floor-level, floor-down}
 use Rattle.angles.proofs.Reduction.{angle-small, quarters-small, quarters-fits}
 
 -- ---- NaN
@@ -28,25 +26,6 @@ sine-no-angle a h = simp h
 pub cosine-no-angle : (a : Float) → isAngle a ≡ false → cosine a ≡ nan
 unfolding cosine
 cosine-no-angle a h = simp h
-
-pub arcsine-no-sine : (a : Float) → isSine a ≡ false → arcsine a ≡ nan
-unfolding arcsine
-arcsine-no-sine a h = simp h
-
-pub arcsine-nan : arcsine nan ≡ nan
-arcsine-nan = arcsine-no-sine nan (unfold isSine le in refl)
-
-last-false : (p q : Bool) → q ≡ false → p && q ≡ false
-last-false true q h = h
-last-false false q h = refl
-
-pub arcsine-above : (a : Float) → T (lt (whole 1) a) → arcsine a ≡ nan
-unfolding isSine
-arcsine-above a t = arcsine-no-sine a (last-false (le (neg (whole 1)) a) (le a (whole 1)) (not-up-to (record { holds = t })))
-
-pub arcsine-below : (a : Float) → T (lt a (neg (whole 1))) → arcsine a ≡ nan
-unfolding isSine
-arcsine-below a t = arcsine-no-sine a (simp (not-up-to {x = neg (whole 1)} {y = a} (record { holds = t })))
 
 -- ---- the reduced angle, and each series of it, is small
 floor-small : (v : Float) → T (fits binary64 v) → Small 7 v → Small 8 (floorOf v)
@@ -233,29 +212,3 @@ cosine-fits a = of-fits cosineAt cosineAt-fits a
 pub tangent-fits : (a : Float) → T (fits binary64 (tangent a))
 unfolding tangent
 tangent-fits a = div-fits binary64 (sine a) (cosine a)
-
-arcsine-upward-fits : (a : Float) → T (fits binary64 (arcsineUpward a))
-unfolding arcsineUpward arcsineSeries
-arcsine-upward-fits a = cond-fits binary64 (le a (decimal 5 1)) _ _ (mul-fits binary64 a _) (sub-fits binary64 halfPi _)
-
-pub arcsine-fits : (a : Float) → T (fits binary64 (arcsine a))
-unfolding arcsine
-arcsine-fits a =
-    cond-fits binary64 (isSine a) (cond (lt a (whole 0)) (neg (arcsineUpward (neg a))) (arcsineUpward a)) nan
-    (cond-fits binary64 (lt a (whole 0)) (neg (arcsineUpward (neg a))) (arcsineUpward a) (neg-fits binary64 (arcsineUpward (neg a)) (arcsine-upward-fits (neg a))) (arcsine-upward-fits a))
-    (nan-fits binary64)
-
-pub arccosine-fits : (a : Float) → T (fits binary64 (arccosine a))
-unfolding arccosine
-arccosine-fits a = sub-fits binary64 halfPi (arcsine a)
-
-power-by-fits : (m : ℕ) (u : Float) → T (fits binary64 (powerBy m u))
-unfolding powerBy powerOf
-power-by-fits m u = mul-fits binary64 _ _
-
-pub power-fits : (u : Float) → T (fits binary64 (powMinus1253 u))
-unfolding powMinus1253
-power-fits u =
-    cond-fits binary64 (le (whole 3) u && le u (whole 14)) _ nan
-    (cond-fits binary64 (lt u (decimal 56 1)) (powerBy 2 u) _ (power-by-fits 2 u) (cond-fits binary64 (lt u (decimal 112 1)) (powerBy 3 u) (powerBy 4 u) (power-by-fits 3 u) (power-by-fits 4 u)))
-    (nan-fits binary64)

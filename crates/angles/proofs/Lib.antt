@@ -3,5 +3,3 @@ pub mod Turns
 pub mod Reduction
 pub mod Values
 pub mod Laws
-pub mod Inner
-pub mod ArcsineParts

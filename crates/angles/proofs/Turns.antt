@@ -6,29 +6,22 @@ use Prim.Native.Nat.{ℕ, zero, suc, _+_, _-_, _*_, _/_, _%_, _^_, _≤_}
 use native.Mathlib.Nat.{le-trans, le-of-eq, mul-comm, mul-pos, zero-lt-suc, div-le-of-le-mul}
 use native.Mathlib.Omega.{arith}
 use lib.IntN.{pos}
-use lib.Dec.{T, lt→ltb, le→leb, not-T}
-use lib.Ieee.{Float, nan, inf, fin, binary64, up, down, neg, lt, le, eq, ofInt, toUnsigned, fits, inFloat}
+use lib.Dec.{T, lt→ltb, le→leb}
+use lib.Ieee.{Float, nan, inf, fin, binary64, up, down, neg, lt, eq, ofInt, toUnsigned, fits, inFloat}
 use lib.Ieee.Fits.{up-pos, down-pos}
-use lib.Ieee.Bits.{is-true, is-false}
+use lib.Ieee.Bits.{is-true}
 use lib.Ieee.Exact.{HasValue}
 use lib.Ieee.Order.{round-mono}
 use lib.Ieee.Back.{round-whole, unsigned-back}
 use Rattle.doubles.specs.Arithmetic.{whole}
 use Rattle.doubles.specs.Functions.{floorOf}
 use Rattle.doubles.specs.Order.{_≼_, _≺_}
-use Rattle.doubles.proofs.Order.{cross→lt, lt-excludes, le-lt-trans, neg-le, neg-neg}
+use Rattle.doubles.proofs.Order.{cross→lt, not-below, le-lt-trans, neg-le, neg-neg}
 use Rattle.doubles.proofs.Rounding.{round-nonneg}
 use Rattle.doubles.proofs.Exact.{same-value}
 use Rattle.doubles.proofs.WholePart.{castable, floor-positive, floor-even, floor-negative}
 use Rattle.angles.specs.Sine.{quadrant}
 use Rattle.angles.proofs.Small.{Small, neg-small}
-
--- ---- what an order refutes
-pub not-below : {x y : Float} → y ≼ x → lt x y ≡ false
-not-below {x} {y} h = is-false (lt x y) (not-T (lt x y) (λ (t : T (lt x y)). lt-excludes (record { holds = t }) h))
-
-pub not-up-to : {x y : Float} → y ≺ x → le x y ≡ false
-not-up-to {x} {y} h = is-false (le x y) (not-T (le x y) (λ (t : T (le x y)). lt-excludes h (record { holds = t })))
 
 -- ---- whole numbers as doubles, and modulo 4
 pub whole-value : (n : ℕ) → n ≤ 2 ^ 53 → HasValue (whole n) false n 1

@@ -4,7 +4,7 @@ use Prim.Native.Nat.{ℕ, zero, suc, _+_, _-_, _*_, _%_}
 use lib.Ieee.{Float, nan, neg, lt, le, toUnsigned}
 use Rattle.doubles.specs.Arithmetic.{_⊕_, _⊖_, _⊗_, _⊘_, decimal, whole, bits}
 use Rattle.doubles.specs.Functions.{floorOf}
-use Rattle.angles.specs.Series.{down}
+use Rattle.doubles.specs.Series.{down}
 
 -- |a| ≤ 64
 unfoldable pub isAngle : Float → Bool

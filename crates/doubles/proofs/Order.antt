@@ -8,8 +8,9 @@ use Prim.Native.Nat.{ℕ, _+_, _*_, _≤_, _<_}
 use native.Mathlib.Nat.{le-of-mul-le-mul-right, mul-le-mul-right, eq-or-lt-of-le}
 use native.Mathlib.Decide.{decLe}
 use native.Mathlib.Omega.{arith}
-use lib.Dec.{T, eqb, ltb→lt, lt→ltb, eqb→eq, eqb-refl}
+use lib.Dec.{T, eqb, ltb→lt, lt→ltb, eqb→eq, eqb-refl, not-T}
 use lib.Ieee.{Float, nan, inf, fin, up, down, lt, eq, le, neg, isNan}
+use lib.Ieee.Bits.{is-false}
 use lib.Ieee.Positive.{den, den-pos}
 use lib.Ieee.Scale.{finite}
 use Rattle.doubles.specs.Order.{_≼_, _≺_, Number, Finite}
@@ -352,6 +353,13 @@ pub lt-le-trans : {x y z : Float} → x ≺ y → y ≼ z → x ≺ z
 lt-le-trans {x} {y} {z} h k = record {
   holds = not-le-lt x z (left-number (lt→le h) .holds) (right-number k .holds) (λ l. lt-not-le x y (h .holds) (le-trans-test y z x (k .holds) l));
 }
+
+-- what an order refutes
+pub not-below : {x y : Float} → y ≼ x → lt x y ≡ false
+not-below {x} {y} h = is-false (lt x y) (not-T (lt x y) (λ (t : T (lt x y)). lt-excludes (record { holds = t }) h))
+
+pub not-up-to : {x y : Float} → y ≺ x → le x y ≡ false
+not-up-to {x} {y} h = is-false (le x y) (not-T (le x y) (λ (t : T (le x y)). lt-excludes h (record { holds = t })))
 
 -- ---- negation turns the order round
 

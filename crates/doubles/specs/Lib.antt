@@ -1,3 +1,4 @@
 pub mod Arithmetic
 pub mod Functions
 pub mod Order
+pub mod Series

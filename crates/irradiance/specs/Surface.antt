@@ -6,7 +6,7 @@ use Rattle.doubles.specs.Arithmetic.{_⊕_, _⊖_, _⊗_, _⊘_, whole}
 use Rattle.doubles.specs.Functions.{maxOf2, toRadians, toDegrees}
 use Rattle.angles.specs.declared.SinCos.{SinCos}
 use Rattle.angles.specs.Sine.{cosine}
-use Rattle.angles.specs.Arcsine.{arccosine}
+use Rattle.arcsines.specs.Arcsine.{arccosine}
 use Rattle.sun.specs.declared.hour.Hour.{Hour}
 use Rattle.irradiance.specs.declared.surface.Incidence.{Incidence}
 

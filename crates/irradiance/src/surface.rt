@@ -2,7 +2,7 @@
 ghost use mathlib.Core.Path.{_≡_};
 ghost use Rattle.doubles.specs.Arithmetic.{_⊖_};
 ghost use Rattle.doubles.specs.Functions.{toDegrees};
-ghost use Rattle.angles.specs.Arcsine.{halfPi};
+ghost use Rattle.arcsines.specs.Arcsine.{halfPi};
 ghost use Rattle.irradiance.specs.Surface.{incidenceArgument, cosineOfDegrees, aOverB, incidenceBy, incidenceOf};
 use angles::SinCos;
 use sun::hour::Hour;
@@ -21,7 +21,7 @@ pub fn incidence_argument(l: SinCos, d: SinCos, t: SinCos, o: SinCos, w: SinCos)
 fn solar_angle_of_incidence(arc_sine: f64) -> f64
     ensures { λ r. ⌜ r ≡ toDegrees (halfPi ⊖ «arc_sine») ⌝ }
 {
-    doubles::to_degrees(angles::acos_by(arc_sine))
+    doubles::to_degrees(arcsines::acos_by(arc_sine))
 }
 
 // The constant is the cosine of 85 degrees.
@@ -57,6 +57,6 @@ pub fn incidence_of(l: SinCos, d: SinCos, t: SinCos, o: SinCos, hour: Hour) -> I
     ensures { λ r. ⌜ r ≡ incidenceOf l d t o hour ⌝ }
 {
     let w = hour.hour_angle;
-    let cos_incidence = incidence_cosine(angles::asin(incidence_argument(l, d, t, o, w)));
+    let cos_incidence = incidence_cosine(arcsines::asin(incidence_argument(l, d, t, o, w)));
     incidence_by(cos_incidence, hour.cos_zenith)
 }

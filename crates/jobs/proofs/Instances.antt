@@ -15,8 +15,8 @@ use Rattle.doubles.specs.Arithmetic.{whole, decimal, bits}
 use Rattle.doubles.specs.Functions.{floorOf, toRadians, toDegrees, minOf2, maxOf2, floatMin, floatMax, largestOf}
 use Rattle.doubles.specs.Order.{_≼_, Number}
 use Rattle.angles.specs.Sine.{isAngle, quarters, turns, quadrant, remainder, sineSum, cosineSum, sineSeries, cosineSeries, sineAt, cosineAt, clamp, sine, cosine, tangent}
-use Rattle.angles.specs.Arcsine.{isSine, arcsineSeries, halfPi, arcsineUpward, arcsine}
-use Rattle.angles.specs.Power.{logarithmOf, powerOf, powerBy, powMinus1253}
+use Rattle.arcsines.specs.Arcsine.{isSine, arcsineSeries, halfPi, arcsineUpward, arcsine}
+use Rattle.powers.specs.Power.{logarithmOf, powerOf, powerBy, powMinus1253}
 use Rattle.words.specs.Words.{number, wordCount, wordAt, doubleAt}
 use Rattle.sun.specs.declared.hour.Hour.{Hour}
 use Rattle.sun.specs.Day.{orbitDeviation, solarDeclination, equationOfTime, extraTerrestrialRadiation, dayOf}

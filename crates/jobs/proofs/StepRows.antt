@@ -10,7 +10,7 @@ use Rattle.doubles.specs.Functions.{toDegrees, pi}
 use Rattle.doubles.specs.Order.{_≼_, Number, Fits}
 use Rattle.angles.specs.declared.SinCos.{SinCos}
 use Rattle.angles.specs.Sine.{cosine}
-use Rattle.angles.specs.Arcsine.{arcsine}
+use Rattle.arcsines.specs.Arcsine.{arcsine}
 use Rattle.sun.specs.declared.site.Site.{Site}
 use Rattle.sun.specs.declared.hour.Hour.{Hour}
 use Rattle.sun.specs.Hour.{altitudeBy, azimuthBranch, azimuthBy, hourBy, hourOf}

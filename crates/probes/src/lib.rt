@@ -3,8 +3,8 @@ ghost use mathlib.Core.Path.{_≡_};
 ghost use Rattle.doubles.specs.Functions.{minOf2, maxOf2, floatMin, floatMax, floorOf, cubeOf, toRadians, toDegrees};
 ghost use Rattle.roots.specs.Root.{squareRoot};
 ghost use Rattle.angles.specs.Sine.{sine, cosine, tangent};
-ghost use Rattle.angles.specs.Arcsine.{arcsine, arccosine};
-ghost use Rattle.angles.specs.Power.{powMinus1253};
+ghost use Rattle.arcsines.specs.Arcsine.{arcsine, arccosine};
+ghost use Rattle.powers.specs.Power.{powMinus1253};
 ghost use Rattle.words.specs.Words.{wordCount, wordAt, putWord, doubleAt, putDouble};
 ghost use Rattle.words.specs.Hexadecimal.{digitsAt, putDigits};
 ghost use Rattle.probes.specs.Answers.{digitsAnswer};
@@ -175,19 +175,19 @@ pub extern "C" fn probe_tan(a: f64) -> f64
 pub extern "C" fn probe_asin(a: f64) -> f64
     ensures { λ r. ⌜ r ≡ arcsine a ⌝ }
 {
-    angles::asin(a)
+    arcsines::asin(a)
 }
 
 #[no_mangle]
 pub extern "C" fn probe_acos(a: f64) -> f64
     ensures { λ r. ⌜ r ≡ arccosine a ⌝ }
 {
-    angles::acos(a)
+    arcsines::acos(a)
 }
 
 #[no_mangle]
 pub extern "C" fn probe_pow_minus_1_253(u: f64) -> f64
     ensures { λ r. ⌜ r ≡ powMinus1253 u ⌝ }
 {
-    angles::pow_minus_1_253(u)
+    powers::pow_minus_1_253(u)
 }

@@ -6,8 +6,8 @@ use lib.Ieee.{Float, nan}
 use Rattle.doubles.specs.Functions.{minOf2, maxOf2, floatMin, floatMax, floorOf, cubeOf, toRadians, toDegrees}
 use Rattle.roots.specs.Root.{squareRoot}
 use Rattle.angles.specs.Sine.{sine, cosine, tangent}
-use Rattle.angles.specs.Arcsine.{arcsine, arccosine}
-use Rattle.angles.specs.Power.{powMinus1253}
+use Rattle.arcsines.specs.Arcsine.{arcsine, arccosine}
+use Rattle.powers.specs.Power.{powMinus1253}
 use Rattle.sun.specs.Day.{solarDeclination, extraTerrestrialRadiation}
 use Rattle.sun.specs.Hour.{hourAngle, solarAltitude, solarZenith, airMass}
 use Rattle.irradiance.specs.Sky.{clearness, skyBrightness, circumsolarBrightness, horizontalBrightness}

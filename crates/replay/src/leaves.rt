@@ -16,9 +16,9 @@ fn angle(k: u64, x: f64) -> f64
         1 => angles::sin(x),
         2 => angles::cos(x),
         3 => angles::tan(x),
-        4 => angles::asin(x),
-        5 => angles::acos(x),
-        6 => angles::pow_minus_1_253(x),
+        4 => arcsines::asin(x),
+        5 => arcsines::acos(x),
+        6 => powers::pow_minus_1_253(x),
         7 => roots::sqrt(x),
         _ => 0.0 / 0.0,
     }

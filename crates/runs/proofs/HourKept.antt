@@ -5,7 +5,7 @@ use lib.Ieee.{Float}
 use Rattle.doubles.specs.Arithmetic.{_⊕_, _⊖_, _⊗_}
 use Rattle.doubles.specs.Functions.{toDegrees}
 use Rattle.angles.specs.declared.SinCos.{SinCos}
-use Rattle.angles.specs.Arcsine.{halfPi, arcsine, arccosine}
+use Rattle.arcsines.specs.Arcsine.{halfPi, arcsine, arccosine}
 use Rattle.sun.specs.declared.hour.Hour.{Hour}
 use Rattle.sun.specs.declared.hour.Turn.{Turn}
 use Rattle.sun.specs.Hour.{sinCosOf, hourBy}

@@ -102,7 +102,7 @@ pub fn kept_hour(
     let w = turn.hour_angle;
     let sine = sun::hour::altitude_sine(l, d, w.cos);
     let argument = irradiance::surface::incidence_argument(l, d, t, o, w);
-    let arcsines = angles::asin_both(sine, argument);
+    let arcsines = arcsines::asin_both(sine, argument);
     let cos_incidence = irradiance::surface::incidence_cosine(arcsines.second);
     let sun = sun::hour::hour_from(l, d, turn, arcsines.first);
     let incidence = irradiance::surface::incidence_by(cos_incidence, sun.cos_zenith);

@@ -4,7 +4,7 @@ use Prim.Native.Nat.{ℕ}
 use lib.Ieee.{Float}
 use Rattle.doubles.specs.Arithmetic.{_⊕_, _⊗_}
 use Rattle.angles.specs.declared.SinCos.{SinCos}
-use Rattle.angles.specs.Arcsine.{arcsine}
+use Rattle.arcsines.specs.Arcsine.{arcsine}
 use Rattle.sun.specs.Hour.{sinCosOf, altitudeBy, azimuthBy, hourBy}
 use Rattle.sun.specs.HourParts.{heightOf, turnBy, hourFrom}
 

@@ -9,8 +9,8 @@ use Rattle.doubles.specs.Arithmetic.{_⊕_, _⊖_, _⊗_, _⊘_, decimal, whole
 use Rattle.doubles.specs.Functions.{toRadians, toDegrees}
 use Rattle.angles.specs.declared.SinCos.{SinCos}
 use Rattle.angles.specs.Sine.{sine, cosine, tangent}
-use Rattle.angles.specs.Arcsine.{arcsine}
-use Rattle.angles.specs.Power.{powMinus1253}
+use Rattle.arcsines.specs.Arcsine.{arcsine}
+use Rattle.powers.specs.Power.{powMinus1253}
 use Rattle.sun.specs.Day.{dayOf}
 use Rattle.sun.specs.Orientation.{wrappedOnce}
 use Rattle.sun.specs.declared.site.Site.{Site}

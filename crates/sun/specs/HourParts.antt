@@ -7,7 +7,7 @@ use Rattle.doubles.specs.Arithmetic.{_⊕_, _⊖_, _⊗_, _⊘_, decimal, whole
 use Rattle.doubles.specs.Functions.{toRadians, toDegrees}
 use Rattle.angles.specs.declared.SinCos.{SinCos}
 use Rattle.angles.specs.Sine.{sine, cosine, tangent}
-use Rattle.angles.specs.Arcsine.{arcsine}
+use Rattle.arcsines.specs.Arcsine.{arcsine}
 use Rattle.sun.specs.Hour.{sinCosOf, solarTime, hourAngle, solarZenith, azimuthBranch, airMassBy}
 use Rattle.sun.specs.declared.hour.Height.{Height}
 use Rattle.sun.specs.declared.hour.Turn.{Turn}

@@ -5,7 +5,7 @@ ghost use lib.Ieee.{lt};
 ghost use Rattle.doubles.specs.Arithmetic.{_⊕_, _⊗_, _⊘_, decimal, whole};
 ghost use Rattle.doubles.specs.Functions.{toDegrees};
 ghost use Rattle.angles.specs.Sine.{cosine};
-ghost use Rattle.angles.specs.Arcsine.{arcsine};
+ghost use Rattle.arcsines.specs.Arcsine.{arcsine};
 ghost use Rattle.sun.specs.HourParts.{heightOf, turnBy, hourFrom};
 ghost use Rattle.sun.specs.Hour.{sinCosOf, timeShift, solarTime, hourAngle, altitudeBy, solarAltitude, solarZenith, azimuthBranch, solarAzimuth, airMassBy, airMass, hourBy, hourOf};
 use crate::day::day_of;
@@ -56,7 +56,7 @@ fn altitude_by(latitude: SinCos, declination: SinCos, cos_hour_angle: f64) -> f6
     ensures { λ r. ⌜ r ≡ altitudeBy latitude declination «cos_hour_angle» ⌝ }
 {
     let sine = altitude_sine(latitude, declination, cos_hour_angle);
-    let altitude = doubles::to_degrees(angles::asin(sine));
+    let altitude = doubles::to_degrees(arcsines::asin(sine));
     if is_night(altitude) { 0.0 } else { altitude }
 }
 
@@ -95,7 +95,7 @@ fn azimuth_branch(sin_aux1: f64, cos_aux1: f64, aux2: f64) -> f64
 fn azimuth_denominator(sin_altitude: f64) -> f64
     ensures { λ r. ⌜ r ≡ cosine (arcsine «sin_altitude») ⌝ }
 {
-    angles::cos(angles::asin(sin_altitude))
+    angles::cos(arcsines::asin(sin_altitude))
 }
 
 // w is 180 less the hour angle. The arcsine is that of d.cos * w.sin.
@@ -125,7 +125,7 @@ pub fn init_solar_azimuth_angle(
         sin_cos_of_degrees(latitude),
         d,
         w,
-        angles::asin(d.cos * w.sin),
+        arcsines::asin(d.cos * w.sin),
         azimuth_denominator(angles::sin(doubles::to_radians(solar_altitude))),
     )
 }
@@ -136,7 +136,7 @@ fn air_mass_by(altitude: f64, sin_altitude: f64) -> f64
     if altitude >= 10.0 {
         return 1.0 / sin_altitude;
     }
-    1.0 / (sin_altitude + 0.15 * angles::pow_minus_1_253(altitude + 3.885))
+    1.0 / (sin_altitude + 0.15 * powers::pow_minus_1_253(altitude + 3.885))
 }
 
 pub fn init_air_mass(solar_altitude: f64) -> f64
@@ -184,7 +184,7 @@ fn height_of(altitude: f64, numerator: f64) -> HeightAndArcsine
     ensures { λ r. ⌜ (r .height ≡ heightOf altitude) × (r .«azimuth_arcsine» ≡ arcsine numerator) ⌝ }
 {
     let a = sin_cos_of_degrees(altitude);
-    let arcsines = angles::asin_both(numerator, a.sin);
+    let arcsines = arcsines::asin_both(numerator, a.sin);
     let zenith = init_solar_zenith_angle(altitude);
     HeightAndArcsine {
         height: Height {
@@ -207,7 +207,7 @@ fn height_by(altitude: f64, numerator: f64) -> HeightAndArcsine
     if is_night(altitude) {
         HeightAndArcsine {
             height: height_at_night(),
-            azimuth_arcsine: angles::asin(numerator),
+            azimuth_arcsine: arcsines::asin(numerator),
         }
     } else {
         height_of(altitude, numerator)
@@ -287,7 +287,7 @@ pub fn hour_by(
     let turn = turn_by(equation_of_time, time_shift, hour_of_day);
     let hour_angle = turn.hour_angle;
     let sine = altitude_sine(latitude, declination, hour_angle.cos);
-    hour_from(latitude, declination, turn, angles::asin(sine))
+    hour_from(latitude, declination, turn, arcsines::asin(sine))
 }
 
 // The sun at a site in an hour of the year.

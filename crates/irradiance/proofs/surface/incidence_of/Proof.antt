@@ -1,4 +1,4 @@
-use Rattle.angles.specs.Arcsine.{arccosine}
+use Rattle.arcsines.specs.Arcsine.{arccosine}
 use Rattle.irradiance.specs.Surface.{incidenceAngle, incidenceOf}
 use Rattle.irradiance.proofs.surface.incidence_of.Statement.{statement}
 use Rattle.irradiance.proofs.surface.incidence_of.Tie as tie

@@ -4,13 +4,15 @@ use Rattle.doubles.specs.Arithmetic.{whole}
 use Rattle.doubles.specs.Functions.{toRadians}
 use Rattle.angles.specs.Sine.{tangent}
 use Rattle.angles.proofs.Values.{steps}
+use Rattle.arcsines.proofs.Values.{steps as steps·arcsine}
+use Rattle.powers.proofs.Values.{steps as steps·power}
 use Rattle.sun.specs.Hour.{solarZenith, airMassBy}
 use Rattle.sun.specs.HourParts.{heightOf}
 use Rattle.sun.proofs.hour.height_at_night.Statement.{statement}
 use Rattle.sun.proofs.hour.height_at_night.Tie as tie
 
 returns : tie.Need-returns
-unfolding heightOf ofBits whole toRadians tangent steps solarZenith airMassBy
+unfolding heightOf ofBits whole toRadians tangent steps steps·arcsine steps·power solarZenith airMassBy
 returns c = refl
 
 pub height-at-night-spec : {M : Type 1} → statement M

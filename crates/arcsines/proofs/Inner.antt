@@ -1,0 +1,192 @@
+-- The paper's lines for the arcsine, as theorems about the definition: the series from 0 to 0.5, above that PI/2 − 2·arcsine(root((1−a)/2)), and odd below 0.
+-- The root is at most 0.5, so that the inner arcsine is the series, which the definition takes at once. Assumes nothing.
+use mathlib.Core.Path.{_≡_, refl}
+use mathlib.Core.Bool.{Bool, true, false, cond, _&&_}
+use Prim.Native.Nat.{ℕ, zero, suc, _+_, _*_, _^_, _≤_, _<_}
+use native.Mathlib.Nat.{le-trans as ℕ·le-trans, le-of-lt, not-le-of-lt, mul-le-mul, mul-lt-mul-of-pos-right, mul-pos, zero-lt-suc}
+use native.Mathlib.Decide.{decLe}
+use native.Mathlib.Omega.{arith}
+use lib.Dec.{T, lit<, lit≤, lt→ltb}
+use lib.IntN.{ℤ}
+use lib.Pow.{pow-pos}
+use lib.Ieee.{Float, nan, inf, fin, binary64, sub, div, neg, lt, le, fits, isNan}
+use lib.Ieee.Bits.{is-true}
+use lib.Ieee.Fits.{up-pos, div-fits}
+use lib.Ieee.Exact.{HasValue}
+use lib.Ieee.Order.{le-of-values}
+use lib.Ieee.Positive.{positive, positive-of-value, values-of-le}
+use lib.Ieee.Scale.{finite}
+use Rattle.doubles.specs.Arithmetic.{_⊖_, _⊗_, _⊘_, decimal, whole}
+use Rattle.doubles.specs.Order.{_≼_, _≺_, Number, Finite}
+use Rattle.doubles.proofs.Order.{le→cross, le-refl, le-trans, lt→le, left-number, le-of-not-lt, not-below, not-up-to, neg-le, neg-neg}
+use Rattle.doubles.proofs.Monotone.{sub-mono, div-mono}
+use Rattle.doubles.proofs.Bounds.{sub-number, div-number, zero-number, one-number, sub-nonneg, div-nonneg, positive-nonzero}
+use Rattle.roots.specs.Root.{squareRoot}
+use Rattle.roots.proofs.Doubles.{double-scaled}
+use Rattle.roots.proofs.Theorems.{squareRoot-closest, squareRoot-nearest, squareRoot-fits, squareRoot-not-negative}
+use Rattle.arcsines.specs.Arcsine.{isSine, arcsineSeries, arcsineUpward, arcsine, halfPi}
+
+abbrev half : Float
+half = decimal 5 1
+
+abbrev quarter : Float
+quarter = decimal 25 2
+
+-- ---- (1 − a) / 2 lies from 0 to 0.25
+unit-finite : {x : Float} → whole 0 ≼ x → x ≼ whole 1 → Finite x
+unfolding whole le
+unit-finite {x} h k = record { holds = go x (h .holds) (k .holds) }
+  where
+    go : (x : Float) → T (le (whole 0) x) → T (le x (whole 1)) → T (finite x)
+    go nan h k = k
+    go (inf true) h k = absurd h
+    go (inf false) h k = absurd k
+    go (fin s m e) h k = tt
+
+-- what the checker computes of 0, 0.25, 0.5, 1 and 2
+record Constants : Type 0 where
+  zero-half : whole 0 ≼ half
+  quarter-half : quarter ≼ half
+  half-one : half ≼ whole 1
+  minus-one : neg (whole 1) ≼ whole 0
+  minus-zero : whole 0 ≼ neg (whole 0)
+  two : whole 0 ≺ whole 2
+  finite-one : Finite (whole 1)
+  finite-two : Finite (whole 2)
+  number-half : Number half
+  number-quarter : Number quarter
+  difference : whole 1 ⊖ half ≡ half
+  quotient : half ⊘ whole 2 ≡ quarter
+  half-fits : T (fits binary64 half)
+  half-value : HasValue half false 1 2
+  half-units : HasValue half false (2 ^ 1073) (2 ^ 1074)
+  quarter-positive : T (positive quarter)
+  quarter-value : HasValue quarter false 1 4
+
+constants : Constants
+unfolding whole decimal neg le lt isNan sub div fits
+constants = record {
+  zero-half = record { holds = tt };
+  quarter-half = record { holds = tt };
+  half-one = record { holds = tt };
+  minus-one = record { holds = tt };
+  minus-zero = record { holds = tt };
+  two = record { holds = tt };
+  finite-one = record { holds = tt };
+  finite-two = record { holds = tt };
+  number-half = record { holds = tt };
+  number-quarter = record { holds = tt };
+  difference = refl;
+  quotient = refl;
+  half-fits = tt;
+  half-value = (refl, refl);
+  half-units = (refl, refl);
+  quarter-positive = tt;
+  quarter-value = (refl, refl);
+}
+
+radicand-in : {a : Float} → half ≼ a → a ≼ whole 1 → (whole 0 ≼ (whole 1 ⊖ a) ⊘ whole 2) × ((whole 1 ⊖ a) ⊘ whole 2 ≼ quarter)
+radicand-in {a} h k =
+    let c = constants in
+    let n : Number (whole 1 ⊖ a) = sub-number (c .finite-one) (unit-finite (le-trans (c .zero-half) h) k) in
+    let low : whole 0 ≼ whole 1 ⊖ a = sub-nonneg k n in
+    let high : whole 1 ⊖ a ≼ half = rw (c .difference) at (sub-mono (le-refl one-number) h n (rw (c .difference) (c .number-half))) in
+    let m : Number ((whole 1 ⊖ a) ⊘ whole 2) = div-number (unit-finite low (le-trans high (c .half-one))) (c .finite-two) (positive-nonzero (c .two)) in
+    (div-nonneg low (c .two) m, rw (c .quotient) at (div-mono (c .two) high m (rw (c .quotient) (c .number-quarter))))
+
+-- ---- so its root lies from 0 to 0.5
+
+-- With u for 1, a for the radicand, b for its root and c for 0.5: a root above 0.5 would be too far from the exact one.
+not-above : (a b c u : ℕ) → u ≡ 2 * c → a * 4 ≤ 1 * u → (c < b → (c + b) * (c + b) ≤ 4 * a * u) → b * 2 ≤ 1 * u
+not-above a b c u e h near = elim (decLe b c) [ yes k ↦ omega arith | no k ↦ absurd (far (omega arith)) ]
+  where
+    far : c < b → ⊥
+    far k =
+        let l : u < c + b = omega arith in
+        let p : 0 < c + b = omega arith in
+        let q : 4 * a ≤ u = omega arith in
+        not-le-of-lt (mul-lt-mul-of-pos-right l p) (ℕ·le-trans (near k) (mul-le-mul q (le-of-lt l)))
+
+positive-root : (x : Float) → T (fits binary64 x) → T (positive x) → x ≼ quarter → squareRoot x ≼ half
+positive-root x f p h =
+    let c = constants in
+    let y = squareRoot x in
+    let n = squareRoot-nearest x f p in
+    let q : T (positive y) = positive-of-value y (n .r * 2 ^ n .k) (2 ^ 590) (n .root) (mul-pos (ℕ·le-trans (lit≤ tt) (n .digits .0)) (pow-pos (n .k))) in
+    let s = double-scaled x f p .scaled in
+    let t = double-scaled y (squareRoot-fits x f) q .scaled in
+    let room = not-above (s .a) (t .a) (2 ^ 1073) (2 ^ 1074) refl
+    (values-of-le x quarter (s .a) (2 ^ 1074) 1 4 p (c .quarter-positive) (s .value) (c .quarter-value) (h .holds))
+    (squareRoot-closest x f p .above half (s .a) (t .a) (2 ^ 1073) (c .half-fits) (s .value) (t .value) (c .half-units)) in
+    record { holds = le-of-values y half (t .a) (2 ^ 1074) 1 2 (pow-pos 1074) (lit< tt) (t .value) (c .half-value) room }
+
+root-in : (x : Float) → T (fits binary64 x) → whole 0 ≼ x → x ≼ quarter → squareRoot x ≼ half
+root-in nan f h k = unfold le in absurd (k .holds)
+root-in (inf true) f h k = unfold le whole in absurd (h .holds)
+root-in (inf false) f h k = unfold le decimal in absurd (k .holds)
+root-in (fin s zero e) f h k = unfold squareRoot in le-trans k (constants .quarter-half)
+root-in (fin false (suc m) e) f h k = positive-root (fin false (suc m) e) f (lt→ltb 0 (suc m) (zero-lt-suc m)) k
+root-in (fin true (suc m) e) f h k = absurd (none m e h)
+  where
+    none : (m : ℕ) (e : ℤ) → whole 0 ≼ fin true (suc m) e → ⊥
+    none m e h = unfold whole in (let c = le→cross {x = whole 0} {y = fin true (suc m) e} (record { holds = tt }) (record { holds = tt }) h in omega (arith, mul-pos (zero-lt-suc m) (up-pos e)))
+
+-- ---- the paper's lines
+
+-- from 0 to 0.5 the series
+pub arcsine-series : (a : Float) → T (le (whole 0) a) → T (le a (decimal 5 1)) → arcsine a ≡ arcsineSeries a
+unfolding arcsine isSine arcsineUpward
+arcsine-series a h k =
+    let c = constants in
+    let low : whole 0 ≼ a = record { holds = h } in
+    let high : a ≼ half = record { holds = k } in
+    simp (is-true (le (neg (whole 1)) a) (le-trans (c .minus-one) low .holds), is-true (le a (whole 1)) (le-trans high (c .half-one) .holds), is-true (le a half) k, not-below low)
+
+-- the inner arcsine is the series
+pub arcsine-inner : (a : Float) → T (lt (decimal 5 1) a) → T (le a (whole 1)) → arcsine (squareRoot ((whole 1 ⊖ a) ⊘ whole 2)) ≡ arcsineSeries (squareRoot ((whole 1 ⊖ a) ⊘ whole 2))
+arcsine-inner a h k =
+    let x = (whole 1 ⊖ a) ⊘ whole 2 in
+    let r = radicand-in (lt→le (record { holds = h })) (record { holds = k }) in
+    let q : squareRoot x ≼ half = root-in x (div-fits binary64 (whole 1 ⊖ a) (whole 2)) (r .0) (r .1) in
+    arcsine-series (squareRoot x) (le-of-not-lt (left-number q) zero-number (unfold whole in squareRoot-not-negative x) .holds) (q .holds)
+
+-- above 0.5: PI/2 − 2·arcsine(root((1−a)/2))
+pub arcsine-above-half : (a : Float) → T (lt (decimal 5 1) a) → T (le a (whole 1)) → arcsine a ≡ halfPi ⊖ whole 2 ⊗ arcsine (squareRoot ((whole 1 ⊖ a) ⊘ whole 2))
+arcsine-above-half a h k =
+    let c = constants in
+    let above : half ≺ a = record { holds = h } in
+    let low : whole 0 ≼ a = le-trans (c .zero-half) (lt→le above) in
+    rw (arcsine-inner a h k) (unfold arcsine isSine arcsineUpward in
+    simp (is-true (le (neg (whole 1)) a) (le-trans (c .minus-one) low .holds), is-true (le a (whole 1)) k, not-up-to above, not-below low))
+
+le-neg : (x y : Float) → le (neg y) (neg x) ≡ le x y
+le-neg x y = same (le (neg y) (neg x)) (le x y) (λ (t : T (le (neg y) (neg x))). rw (neg-neg x, neg-neg y) at (neg-le {x = neg y} {y = neg x} (record { holds = t }) .holds)) (λ (t : T (le x y)). neg-le (record { holds = t }) .holds)
+  where
+    same : (p q : Bool) → (T p → T q) → (T q → T p) → p ≡ q
+    same true true f g = refl
+    same true false f g = absurd (f tt)
+    same false true f g = absurd (g tt)
+    same false false f g = refl
+
+sine-neg : (a : Float) → isSine (neg a) ≡ isSine a
+unfolding isSine
+sine-neg a =
+    let fact : le (neg a) (whole 1) ≡ le (neg (whole 1)) a = rw (neg-neg (whole 1)) at (le-neg (neg (whole 1)) a) in
+    rw (le-neg a (whole 1), fact) (swap (le a (whole 1)) (le (neg (whole 1)) a))
+  where
+    swap : (p q : Bool) → p && q ≡ q && p
+    swap true true = refl
+    swap true false = refl
+    swap false true = refl
+    swap false false = refl
+
+-- odd for a below 0, where beyond −1 both are NaN
+pub arcsine-odd : (a : Float) → T (lt a (whole 0)) → arcsine a ≡ neg (arcsine (neg a))
+unfolding arcsine
+arcsine-odd a h =
+    let below : a ≼ whole 0 = lt→le (record { holds = h }) in
+    rw (is-true (lt a (whole 0)) h, sine-neg a, not-below (le-trans (constants .minus-zero) (neg-le below))) (go (isSine a))
+  where
+    go : (b : Bool) → cond b (neg (arcsineUpward (neg a))) nan ≡ neg (cond b (arcsineUpward (neg a)) nan)
+    go true = refl
+    go false = unfold neg in refl

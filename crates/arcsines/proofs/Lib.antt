@@ -1,0 +1,4 @@
+pub mod ArcsineParts
+pub mod Inner
+pub mod Values
+pub mod Laws

@@ -1,0 +1,2 @@
+pub mod Arcsine
+pub mod ArcsineParts
