@@ -33,10 +33,10 @@ use Rattle.objects.specs.declared.answers.FactorAnswer.the-variants as factor
 use Rattle.objects.specs.Checks.{within, aboveZero, surfaceFine, firstFine, recordsFine, windowValuesFine, windowRecordFine, windowFine, objectValuesFine, objectFine, objectUnused, tripleFine, boundsFine, sectorRecordFine, sectorsFine}
 use Rattle.objects.specs.Records.{recordsFrom, distantKind, objectAt, objectsFrom, segmentAt, sectorsOf, windowObjectsOf}
 use Rattle.shading.specs.Extents.{withinRight, outsideSolarBeam, obstacleHeight}
-use Rattle.shading.specs.Segments.{found, betweenEnds, holdsAzimuth, visit, walkFrom, segmentOf}
+use Rattle.segments.specs.Segments.{found, betweenEnds, holdsAzimuth, visit, walkFrom, segmentOf}
 use Rattle.objects.specs.Objects.{isObstacle, isOverhang, counted}
 use Rattle.shading.specs.Factor.{Sun, extents, sunOn, obstacleExtents, overhangExtents, windowOverhangExtents, rightFinExtents, leftFinExtents, overhangShade, sunlitBetween, sunlitHeight, sunlitWidth, sunlitPart, leastOf, reductionFactor, hasReveal, factorIn, shadingFactor}
-use Rattle.shading.specs.Comparison.{AllNumbers, NoNanExtent, Holds}
+use Rattle.shading_laws.specs.Comparison.{AllNumbers, NoNanExtent, Holds}
 use Rattle.jobs.specs.declared.answers.Checked.the-variants as check
 use Rattle.jobs.specs.Series.{inSeries, readSeries}
 use Rattle.jobs.specs.Job.{Job, indexAt, readingAt}
@@ -44,7 +44,7 @@ use Rattle.jobs.specs.Checks.{siteFine, hoursInYear, atAll, indexFine, r
 use Rattle.jobs.specs.Step.{sunAt, shadingAt, rowWith, stepWith, stepAt}
 use Rattle.jobs.specs.Run.{numberFor, onRow, runFrom, runChecked, runOf}
 use Rattle.jobs.specs.Comparison.{factorAt, countOf, SameSeries, Alike, sectorCount, BoundedAlike, triple, sectorObjects, windowObjects, HoldsAll, NoNan, Doubles, IsAccepted, Comparable}
-use Rattle.shading.proofs.Walks.{found-has}
+use Rattle.segments.proofs.SameWalks.{found-has}
 use Rattle.jobs.proofs.TwoJobs.{two-jobs-compared}
 
 -- ---- the jobs

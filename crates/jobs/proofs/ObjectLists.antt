@@ -18,7 +18,8 @@ use Rattle.objects.specs.declared.window.WindowShadingObject.{WindowShadingObje
 use Rattle.objects.specs.Checks.{within, firstFine, tripleFine, boundsFine, sectorRecordFine, sectorsFine}
 use Rattle.objects.specs.Objects.{counted}
 use Rattle.objects.specs.Records.{recordsFrom, distantKind, objectAt, objectsFrom, segmentAt, sectorsOf, windowKind, windowObjectAt, windowObjectsOf}
-use Rattle.shading.specs.Comparison.{Holds, SameBounds, PlaceByPlace, none, and-then, MoreInSector, SameInSector}
+use Rattle.segments.specs.SameSectors.{SameBounds, PlaceByPlace, none, and-then}
+use Rattle.shading_laws.specs.Comparison.{Holds, MoreInSector, SameInSector}
 use Rattle.objects.proofs.Accepted.{length-records, member-records}
 use Rattle.objects.proofs.AcceptedSectors.{counted-objects, sector-record}
 use Rattle.jobs.specs.Comparison.{sectorCount, BoundedAlike, triple, sectorObjects, windowObject, windowObjects}

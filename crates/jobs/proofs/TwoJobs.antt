@@ -19,8 +19,8 @@ use Rattle.objects.specs.declared.answers.FactorAnswer.the-variants.{Factor}
 use Rattle.objects.specs.Objects.{counted}
 use Rattle.shading.specs.Factor.{shadingFactor}
 use Rattle.objects.specs.Records.{sectorsOf, windowObjectsOf}
-use Rattle.shading.specs.Comparison.{NoNanAt}
-use Rattle.shading.proofs.Answers.{answer-nonneg, answer-le-one, answer-no-objects, answers-more-objects, answers-same-objects}
+use Rattle.shading_laws.specs.Comparison.{NoNanAt}
+use Rattle.shading_laws.proofs.Answers.{answer-nonneg, answer-le-one, answer-no-objects, answers-more-objects, answers-same-objects}
 use Rattle.jobs.specs.Series.{readSeries}
 use Rattle.jobs.specs.Job.{Job, indexAt, readingAt}
 use Rattle.jobs.specs.Step.{sunAt, irradianceAt, shadingAt}
@@ -32,7 +32,7 @@ use Rattle.jobs.proofs.RunLaws.{rowAt, sumTo, done, AcceptedRun, accept
 use Rattle.doubles.proofs.Exact.{one-times}
 use Rattle.jobs.proofs.Sums.{total, total-same, total-nonneg, total-mono, Part, Amount, part-nonneg, part-mono, part-le}
 use Rattle.jobs.proofs.ObjectLists.{more-in-sectors, same-in-sectors, window-holds, no-window, none-counted}
-use Rattle.shading.proofs.Walks.{found-has}
+use Rattle.segments.proofs.SameWalks.{found-has}
 
 -- ---- what an accepted run leaves
 

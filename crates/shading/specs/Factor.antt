@@ -15,7 +15,7 @@ use Rattle.objects.specs.declared.answers.FactorAnswer.the-variants.{Factor, Re
 use Rattle.objects.specs.Objects.{ofKind, obstacle, overhang, rightFin, leftFin, reveal, isObstacle, isOverhang, counted}
 use Rattle.sun.specs.Orientation.{orientation180}
 use Rattle.shading.specs.Extents.{outsideSolarBeam, obstacleHeight, overhangHeight, windowOverhangHeight, rightFinWidth, leftFinWidth}
-use Rattle.shading.specs.Segments.{Segment, found, gap, turned, noSector, segmentOf}
+use Rattle.segments.specs.Segments.{Segment, found, gap, turned, noSector, segmentOf}
 
 -- ---- the shade extents of a list of objects
 

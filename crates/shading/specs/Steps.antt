@@ -1,8 +1,6 @@
 -- What the loops over objects do at one object. Each step moves the largest extents so far past that object's.
-use mathlib.Core.Bool.{true, not, _&&_, cond}
-use Prim.Native.Nat.{ℕ, _+_}
-use lib.Dec.{eqb}
-use lib.Ieee.{Float, lt, ne}
+use mathlib.Core.Bool.{true, cond}
+use lib.Ieee.{Float}
 use Rattle.doubles.specs.Functions.{maxOf2}
 use Rattle.objects.specs.declared.surface.Surface.{Surface}
 use Rattle.objects.specs.declared.sectors.ShadingObject.{ShadingObject}
@@ -13,12 +11,6 @@ use Rattle.shading.specs.declared.window.WindowShades.{WindowShades}
 use Rattle.shading.specs.Extents.{obstacleHeight, overhangHeight, windowOverhangHeight, rightFinWidth, leftFinWidth}
 use Rattle.objects.specs.Objects.{isObstacle, isOverhang, ofKind, overhang, rightFin, leftFin, reveal}
 use Rattle.shading.specs.Factor.{Sun}
-use Rattle.doubles.specs.Arithmetic.{whole}
-use Rattle.objects.specs.declared.sectors.ShadingSegment.{ShadingSegment}
-use Rattle.shading.specs.declared.segments.Place.{Place}
-use Rattle.shading.specs.declared.segments.Place.the-variants as place
-use Rattle.shading.specs.declared.segments.Walk.{Walk}
-use Rattle.shading.specs.Segments.{holdsAzimuth}
 
 -- the sun as the definitions name it
 unfoldable pub sunOf : SunOnSurface → Sun
@@ -52,19 +44,3 @@ windowStep sun shades o = record {
   left = cond (ofKind leftFin o) (maxOf2 (shades .left) (leftFinWidth (o .size) (o .distance) (sun .difference) (sun .tanDifference))) (shades .left);
   reveal = cond (ofKind reveal o) true (shades .reveal);
 }
-
--- ---- the walk along n sectors: before the first, where it stops, and one sector on. It stops by going to the end
-
-unfoldable pub setOut : Walk
-setOut = record { next = 0; last = whole 0; place = place.NoSector }
-
-unfoldable pub stopAt : ℕ → Place → Walk
-stopAt n p = record { next = n; last = whole 0; place = p }
-
-unfoldable pub lookAt : Float → ℕ → Walk → ShadingSegment → Walk
-unfolding holdsAzimuth stopAt
-lookAt azimuth n walk s =
-    cond (not (eqb (walk .next) 0) && ne (walk .last) (s .start360)) (stopAt n place.Gap)
-    (cond (lt (s .end360) (s .start360)) (stopAt n place.Turned)
-    (cond (holdsAzimuth azimuth s) (stopAt n (place.At (walk .next)))
-    (record { next = walk .next + 1; last = s .end360; place = place.NoSector })))

@@ -4,7 +4,7 @@ ghost use mathlib.Core.Bool.{cond};
 ghost use Rattle.doubles.specs.Functions.{floatMin};
 ghost use Rattle.objects.specs.Objects.{ofKind, obstacle, placed};
 ghost use Rattle.shading.specs.Factor.{sunlitPart, sunlitBetween, nearFactor, leastOf, extents, factorIn, sunOn};
-ghost use Rattle.shading.specs.Segments.{found};
+ghost use Rattle.segments.specs.Segments.{found};
 ghost use Rattle.shading.specs.Steps.{sunOf};
 use crate::distant;
 use crate::extents;

@@ -3,6 +3,5 @@ pub mod beam;
 pub mod distant;
 pub mod extents;
 pub mod factor;
-pub mod segments;
 pub mod step;
 pub mod window;

@@ -9,8 +9,6 @@ ghost use Rattle.shading.specs.Call.{factorCall};
 ghost use Rattle.objects.specs.Records.{sectorsOf};
 use crate::beam;
 use crate::factor;
-use crate::segments;
-use crate::segments::Place;
 use objects::answers::FactorAnswer;
 use objects::answers::Refusal;
 use objects::checks;
@@ -18,6 +16,7 @@ use objects::records;
 use objects::sectors::Sectors;
 use objects::surface::Surface;
 use objects::window::WindowShading;
+use segments::Place;
 
 // The direct shading reduction factor at one step, or why there is none. The sectors are a checked list.
 pub fn direct_shading_reduction_factor(

@@ -4,7 +4,7 @@ use native.Mathlib.Omega.{arith}
 use lib.Ieee.{ofBits}
 use Rattle.words.specs.Words.{wordCount}
 use Rattle.shading.specs.Factor.{shadingFactor, factorIn}
-use Rattle.shading.specs.Walk.{segmentFor, InList}
+use Rattle.segments.specs.Walk.{segmentFor, InList}
 use borrow.Author.Needs.{needs}
 use Rattle.shading.proofs.step.direct_shading_reduction_factor.Statement.{statement}
 use Rattle.shading.proofs.step.direct_shading_reduction_factor.Tie as tie

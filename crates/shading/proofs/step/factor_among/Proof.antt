@@ -5,8 +5,8 @@ use lib.Ieee.{ofBits}
 use lib.ListN.{length, take}
 use Rattle.objects.specs.Objects.{listed, placed}
 use Rattle.shading.specs.Factor.{shadingFactor, factorIn, sunOn}
-use Rattle.shading.specs.Walk.{segmentIn, Within}
-use Rattle.shading.proofs.RecordWalks.{sector-taken, taken-within}
+use Rattle.segments.specs.Walk.{segmentIn, Within}
+use Rattle.segments.proofs.RecordWalks.{sector-taken, taken-within}
 use borrow.Author.Needs.{needs}
 use Rattle.shading.proofs.step.factor_among.Statement.{statement}
 use Rattle.shading.proofs.step.factor_among.Tie as tie

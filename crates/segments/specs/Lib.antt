@@ -1,0 +1,4 @@
+pub mod Segments
+pub mod Walk
+pub mod Steps
+pub mod SameSectors

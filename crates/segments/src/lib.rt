@@ -1,0 +1,120 @@
+// The walk along the sectors, after the Rust's `get_segment`: over records, and over the lent bytes.
+use objects::sectors::ShadingSegment;
+ghost use mathlib.Core.Path.{_≡_};
+ghost use Prim.Native.Nat.{_≤_, _<_};
+ghost use lib.ListN.{take};
+ghost use Rattle.segments.specs.Segments.{betweenEnds, segmentOf};
+ghost use Rattle.objects.specs.Records.{sectorsOf};
+ghost use Rattle.segments.specs.Walk.{segmentFor, InList, segmentIn, Within};
+ghost use Rattle.segments.specs.Steps.{setOut, stopAt, lookAt};
+
+// Where the walk ends: at the sector with the sun, or for one of three reasons at none.
+pub enum Place {
+    At(usize),
+    Gap,
+    Turned,
+    NoSector,
+}
+
+// Whether the azimuth is strictly between a sector's ends.
+fn between_ends(azimuth: f64, start360: f64, end360: f64) -> bool
+    ensures { λ r. ⌜ r ≡ betweenEnds azimuth start360 end360 ⌝ }
+{
+    (azimuth < sun::orientation::transform_to_180(start360))
+        & (sun::orientation::transform_to_180(end360) < azimuth)
+}
+
+// The walk so far: the next sector to look at (none, at the end of the list), the end of the one before, and where the walk ends.
+pub struct Walk {
+    pub next: usize,
+    pub last: f64,
+    pub place: Place,
+}
+
+// Before the first sector.
+fn set_out() -> Walk
+    ensures { λ r. ⌜ r ≡ setOut ⌝ }
+{
+    Walk {
+        next: 0,
+        last: 0.0,
+        place: Place::NoSector,
+    }
+}
+
+fn stop_at(n: usize, place: Place) -> Walk
+    ensures { λ r. ⌜ r ≡ stopAt n place ⌝ }
+{
+    Walk {
+        next: n,
+        last: 0.0,
+        place: place,
+    }
+}
+
+// Gap, then turned, then match, at one of n sectors; the walk stops at the match.
+fn look_at(azimuth: f64, n: usize, walk: Walk, sector: ShadingSegment) -> Walk
+    requires { ⌜ walk .next < n ⌝ }
+    ensures { λ r. ⌜ r ≡ lookAt azimuth n walk sector ⌝ }
+{
+    let i = walk.next;
+    if (i != 0) & (walk.last != sector.start360) {
+        return stop_at(n, Place::Gap);
+    }
+    if sector.end360 < sector.start360 {
+        return stop_at(n, Place::Turned);
+    }
+    if between_ends(azimuth, sector.start360, sector.end360) {
+        return stop_at(n, Place::At(i));
+    }
+    Walk {
+        next: i + 1,
+        last: sector.end360,
+        place: Place::NoSector,
+    }
+}
+
+// One sector after the other, until the walk stops.
+pub fn get_segment(azimuth: f64, sectors: &[ShadingSegment]) -> Place
+    ensures { λ r. ⌜ (segmentIn (now (sectors .entry)) r ≡ segmentOf azimuth (now (sectors .entry))) × Within (now (sectors .entry)) r ⌝ }
+{
+    let n = sectors.len();
+    let mut walk = set_out();
+    while walk.next < n {
+        walk = look_at(azimuth, n, walk, sectors[walk.next]);
+    }
+    walk.place
+}
+
+// The walk along the first n sectors of a table.
+pub fn segment_in(azimuth: f64, table: [ShadingSegment; 36], n: usize) -> Place
+    requires { ⌜ n ≤ 36 ⌝ }
+    ensures { λ r. ⌜ (segmentIn (take n table) r ≡ segmentOf azimuth (take n table)) × Within (take n table) r ⌝ }
+{
+    get_segment(azimuth, &table[..n])
+}
+
+// The same over the lent bytes, which reads two words of a sector and no more.
+pub fn get_segment_in_bytes(azimuth: f64, sectors: &[u8]) -> Place
+    ensures { λ r. ⌜ (segmentFor (now (sectors .entry)) r ≡ segmentOf azimuth (sectorsOf (now (sectors .entry)))) × InList (now (sectors .entry)) r ⌝ }
+{
+    let n = words::word_count(sectors) / 27;
+    let mut last: f64 = 0.0;
+    let mut i: usize = 0;
+    while i < n {
+        let start360 = words::double_at(sectors, 27 * i);
+        let end360 = words::double_at(sectors, 27 * i + 1);
+        if (i != 0) & (last != start360) {
+            return Place::Gap;
+        }
+        if end360 < start360 {
+            return Place::Turned;
+        }
+        if between_ends(azimuth, start360, end360) {
+            return Place::At(i);
+        }
+        last = end360;
+        i += 1;
+    }
+    Place::NoSector
+}
