@@ -11,7 +11,7 @@ use Rattle.objects.specs.declared.surface.Surface.{Surface}
 use Rattle.objects.specs.declared.answers.FactorAnswer.{FactorAnswer}
 use Rattle.shading.specs.Call.{factorCall}
 use Rattle.jobs.specs.Job.{Job, jobOf}
-use Rattle.listing.specs.Line.{wholeHorizon, oneObstacle}
+use Rattle.lines.specs.Line.{wholeHorizon, oneObstacle}
 
 -- base 0, height 2, width 1; upright, facing south
 unfoldable pub southWall : Surface

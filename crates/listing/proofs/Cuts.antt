@@ -11,8 +11,8 @@ use lib.ListN.{length, take}
 use lib.Seq.{take-all, length-take-le}
 use Rattle.objects.specs.declared.answers.FactorAnswer.the-variants.{Refused}
 use Rattle.objects.specs.declared.answers.Refusal.the-variants as refusal
-use Rattle.listing.specs.Text.{ascii, sameText}
-use Rattle.listing.specs.Line.{lineFine, lineAnswer}
+use Rattle.text.specs.Text.{ascii, sameText}
+use Rattle.lines.specs.Line.{lineFine, lineAnswer}
 use Rattle.listing.specs.Listing.{names}
 
 -- a front of a front

@@ -13,8 +13,8 @@ use Rattle.listing.specs.declared.reader.Stage.{Stage}
 use Rattle.listing.specs.declared.reader.Stage.the-variants.{Names, Values, Over}
 use Rattle.objects.specs.declared.answers.FactorAnswer.the-variants.{Refused}
 use Rattle.objects.specs.declared.answers.Refusal.the-variants as refusal
-use Rattle.listing.specs.Text.{ascii, sameText, lastLine, linesFrom, linesOf}
-use Rattle.listing.specs.Line.{outputLine}
+use Rattle.text.specs.Text.{ascii, sameText, lastLine, linesFrom, linesOf}
+use Rattle.lines.specs.Line.{outputLine}
 use Rattle.listing.specs.Listing.{names, header, answered, body, listingOf}
 use Rattle.listing.proofs.Cuts.{take-again, cut-answer, cut-names}
 use Rattle.listing.specs.Reading.{Reading, lineStart, withPart, printed, after, lineOver, lastPrinted, fromHere, readOn, printedOn}

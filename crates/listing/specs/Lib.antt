@@ -1,4 +1,2 @@
-pub mod Text
-pub mod Line
 pub mod Listing
 pub mod Reading

@@ -4,8 +4,8 @@ use mathlib.Core.List.{List, [], _∷_, _++_}
 use Prim.Native.Nat.{ℕ}
 use Rattle.objects.specs.declared.answers.FactorAnswer.the-variants.{Refused}
 use Rattle.objects.specs.declared.answers.Refusal.the-variants as refusal
-use Rattle.listing.specs.Text.{ascii, sameText, linesOf}
-use Rattle.listing.specs.Line.{lineAnswer, outputLine}
+use Rattle.text.specs.Text.{ascii, sameText, linesOf}
+use Rattle.lines.specs.Line.{lineAnswer, outputLine}
 
 unfoldable pub names : List ℕ
 names = ascii "altitude azimuth base height width tilt orientation shade distance transparency"

@@ -2,23 +2,17 @@
 -- that a line that is too long shows.
 use mathlib.Core.Bool.{cond}
 use mathlib.Core.List.{List, [], _∷_, _++_}
-use Prim.Native.Nat.{ℕ, zero, suc}
+use Prim.Native.Nat.{ℕ}
 use lib.Dec.{eqb}
-use lib.ListN.{getD, take}
+use lib.ListN.{take}
 use Rattle.objects.specs.declared.answers.FactorAnswer.the-variants.{Refused}
 use Rattle.objects.specs.declared.answers.Refusal.the-variants as refusal
 use Rattle.listing.specs.declared.reader.Stage.{Stage}
 use Rattle.listing.specs.declared.reader.Stage.the-variants.{Names, Values, Over}
 use Rattle.listing.specs.declared.reader.Reader.{Reader}
-use Rattle.listing.specs.declared.output.OutputLine.{OutputLine}
-use Rattle.listing.specs.Text.{sameText}
-use Rattle.listing.specs.Line.{lineAnswer, outputLine}
+use Rattle.text.specs.Text.{sameText}
+use Rattle.lines.specs.Line.{lineAnswer, outputLine}
 use Rattle.listing.specs.Listing.{names}
-
--- the place of the first line feed among n bytes from place i on, and i + n where there is none
-unfoldable pub lineEnd : List ℕ → ℕ → ℕ → ℕ
-lineEnd l i zero = i
-lineEnd l i (suc n) = cond (eqb (getD l i 0) 10) i (lineEnd l (suc i) n)
 
 -- how far the reading has come, and what is kept of the line
 pub record Reading : Type 0 where
@@ -69,11 +63,6 @@ unfoldable pub printedOn : Reading → List ℕ → List ℕ
 printedOn r [] = []
 printedOn r (b ∷ rest) = cond (eqb b 10) (printed (r .stage) (r .held) ++ printedOn (lineOver r) rest) (printedOn (withPart r (b ∷ [])) rest)
 
--- ---- the code's records
-
 -- a reader stands for a reading: the first `count` bytes of its line are kept
 unfoldable pub readingOf : Reader → Reading
 readingOf r = record { stage = r .stage; held = take (r .count) (r .line) }
-
-unfoldable pub bytesOf : OutputLine → List ℕ
-bytesOf o = take (o .count) (o .bytes)

@@ -1,5 +1,2 @@
 // The shade listing: lines of ten values in, lines with a number and a factor out.
-pub mod line;
-pub mod output;
-pub mod parts;
 pub mod reader;

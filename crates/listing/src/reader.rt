@@ -1,20 +1,21 @@
 // A listing read piece by piece. All that is kept of the input is a part of one line, so a line may have any length.
 ghost use mathlib.Core.Path.{_≡_};
 ghost use Rattle.listing.specs.declared.reader.Stage.the-variants.{Names};
-ghost use Rattle.listing.specs.Text.{sameText, linesOf, filled, usedAfter};
+ghost use Rattle.text.specs.Text.{sameText, linesOf, filled, usedAfter};
 ghost use Rattle.listing.specs.Listing.{names, body};
-ghost use Rattle.listing.specs.Reading.{lineStart, withPart, after, lineOver, printed, lastPrinted, readOn, printedOn, readingOf, bytesOf};
-use crate::line::line_answer;
-use crate::output::OutputLine;
-use crate::output::nothing;
-use crate::output::output_line;
-use crate::output::put;
-use crate::parts::append;
-use crate::parts::least;
-use crate::parts::line_end;
-use crate::parts::same_text;
+ghost use Rattle.lines.specs.Line.{bytesOf};
+ghost use Rattle.listing.specs.Reading.{lineStart, withPart, after, lineOver, printed, lastPrinted, readOn, printedOn, readingOf};
+use lines::line::line_answer;
+use lines::output::OutputLine;
+use lines::output::nothing;
+use lines::output::output_line;
+use lines::output::put;
 use objects::answers::FactorAnswer;
 use objects::answers::Refusal;
+use text::append;
+use text::least;
+use text::line_end;
+use text::same_text;
 
 // The names line is awaited, or a line with values, or the listing has ended.
 pub enum Stage {

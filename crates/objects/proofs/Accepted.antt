@@ -13,7 +13,8 @@ use Rattle.doubles.specs.Arithmetic.{whole, decimal}
 use Rattle.doubles.specs.Order.{_≼_, _≺_}
 use Rattle.doubles.proofs.Order.{right-number}
 use Rattle.objects.specs.declared.surface.Surface.{Surface}
-use Rattle.objects.specs.Checks.{within, aboveZero, surfaceFine, firstFine, recordsFine}
+use Rattle.words.specs.Lists.{firstFine}
+use Rattle.objects.specs.Checks.{within, aboveZero, surfaceFine, recordsFine}
 use Rattle.objects.specs.Records.{recordsFrom}
 
 -- ---- truth values

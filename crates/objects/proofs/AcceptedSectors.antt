@@ -13,7 +13,8 @@ use Rattle.words.specs.Words.{wordCount, wordAt, doubleAt}
 use Rattle.objects.specs.declared.sectors.ShadingObject.{ShadingObject}
 use Rattle.objects.specs.declared.sectors.ShadingSegment.{ShadingSegment}
 use Rattle.objects.specs.Objects.{counted}
-use Rattle.objects.specs.Checks.{within, aboveZero, firstFine, objectValuesFine, objectFine, tripleFine, boundsFine, sectorRecordFine, sectorsFine}
+use Rattle.words.specs.Lists.{firstFine}
+use Rattle.objects.specs.Checks.{within, aboveZero, objectValuesFine, objectFine, tripleFine, boundsFine, sectorRecordFine, sectorsFine}
 use Rattle.objects.specs.Records.{objectAt, objectsFrom, segmentAt, sectorsOf}
 use Rattle.objects.proofs.RecordLists.{counted-triple}
 use Rattle.objects.proofs.Accepted.{both-of, within-range, above-range, first-fine, few-records, record-fine, take-records, length-records, member-records}

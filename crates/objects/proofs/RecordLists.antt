@@ -7,11 +7,8 @@ use Prim.Native.Nat.{ℕ, _+_, _*_, _/_, _%_, _≤_, _<_}
 use native.Mathlib.Numerals.{add-one}
 use borrow.Author.Tests.{eq-eqb, ne-eqb, le-leb, lt-leb, lt-ltb, le-ltb}
 use lib.ListN.{length}
-use Rattle.objects.specs.Checks.{firstFine, recordsFine, objectFine, objectUnused, tripleFine}
-
-pub one-more : (fine : ℕ → Bool) (n : ℕ) → fine n && firstFine fine n ≡ firstFine fine (n + 1)
-unfolding firstFine
-one-more fine n = rw (add-one n)
+use Rattle.words.specs.Lists.{firstFine}
+use Rattle.objects.specs.Checks.{recordsFine, objectFine, objectUnused, tripleFine}
 
 module _ (size most : ℕ) (fine : List ℕ → ℕ → Bool) (l : List ℕ) where
   pub part-record : length l % size ≢ 0 → false ≡ recordsFine size most fine l

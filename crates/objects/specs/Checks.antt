@@ -1,13 +1,14 @@
 -- When a surface, a sector list or a window list is turned down (refusals 3 and 4). Ranges compare as numbers: −0.0 counts as 0, and
 -- NaN is in no range.
-use mathlib.Core.Bool.{Bool, true, cond, _&&_, _||_}
+use mathlib.Core.Bool.{Bool, cond, _&&_, _||_}
 use mathlib.Core.List.{List}
-use Prim.Native.Nat.{ℕ, zero, suc, _+_, _*_, _/_, _%_}
+use Prim.Native.Nat.{ℕ, _+_, _*_, _/_, _%_}
 use lib.Dec.{ltb, leb, eqb}
 use lib.ListN.{length}
 use lib.Ieee.{Float, lt, le}
 use Rattle.doubles.specs.Arithmetic.{whole, decimal}
 use Rattle.words.specs.Words.{wordAt, doubleAt}
+use Rattle.words.specs.Lists.{firstFine}
 use Rattle.objects.specs.declared.surface.Surface.{Surface}
 
 -- from lowest to highest
@@ -30,11 +31,6 @@ surfaceFine s =
     && within (decimal 1 3) (whole 1000) (s .width)
 
 -- ---- lists of records
-
--- the first n places are fine
-unfoldable pub firstFine : (ℕ → Bool) → ℕ → Bool
-firstFine fine zero = true
-firstFine fine (suc n) = fine n && firstFine fine n
 
 -- whole records of `size` bytes, at most `most` of them, and every one fine
 unfoldable pub recordsFine : ℕ → ℕ → (List ℕ → ℕ → Bool) → List ℕ → Bool

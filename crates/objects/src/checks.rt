@@ -4,7 +4,8 @@ use crate::surface::Surface;
 use words::double_at;
 use words::word_at;
 ghost use mathlib.Core.Path.{_≡_};
-ghost use Rattle.objects.specs.Checks.{surfaceFine, windowValuesFine, windowRecordFine, windowFine, objectValuesFine, objectFine, objectUnused, tripleFine, boundsFine, firstFine, sectorRecordFine, sectorsFine};
+ghost use Rattle.words.specs.Lists.{firstFine};
+ghost use Rattle.objects.specs.Checks.{surfaceFine, windowValuesFine, windowRecordFine, windowFine, objectValuesFine, objectFine, objectUnused, tripleFine, boundsFine, sectorRecordFine, sectorsFine};
 ghost use Prim.Native.Nat.{_<_};
 
 pub fn surface_fine(surface: Surface) -> bool

@@ -17,7 +17,7 @@ use Rattle.simulation_time.specs.declared.run.Run.{Run}
 use Rattle.jobs.specs.Job.{jobOf}
 use Rattle.jobs.specs.Run.{Ran, runOf, numberFor, stepFor, countFor, sumFor}
 use Rattle.jobs.specs.declared.answers.RunAnswer.{RunAnswer}
-use Rattle.listing.specs.Text.{sameText, linesOf}
+use Rattle.text.specs.Text.{sameText, linesOf}
 use Rattle.listing.specs.Listing.{body}
 use Rattle.replay.specs.Records.{listEnd, part, surfaceAt}
 use Rattle.replay.specs.Leaves.{leafOf}

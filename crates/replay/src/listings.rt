@@ -2,8 +2,8 @@
 ghost use mathlib.Core.Path.{_≡_};
 ghost use Rattle.replay.specs.Differs.{isAnsweredBy, listingDiffers};
 use crate::parts::list_end;
-use listing::parts::same_text;
 use listing::reader::answer_text;
+use text::same_text;
 use words::word_at;
 
 // Whether the lines that answer a listing are these.

@@ -13,12 +13,12 @@ ghost use Rattle.replay.specs.Differs.{wholeOf, siteOf, runAt, answerKep
 use crate::parts::list_end;
 use crate::parts::surface_at;
 use jobs::answers::RunAnswer;
-use listing::parts::least;
-use listing::parts::same_text;
 use objects::answers::number_of;
 use runs::run::run_job;
 use simulation_time::run::Run;
 use sun::site::Site;
+use text::least;
+use text::same_text;
 use words::bits_of_double;
 use words::double_at;
 use words::word_at;

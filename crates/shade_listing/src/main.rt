@@ -3,7 +3,7 @@ ghost use mathlib.Core.Path.{_≡_};
 ghost use mathlib.Core.Bool.{false};
 ghost use mathlib.Core.List.{[]};
 ghost use Rattle.listing.specs.Reading.{lastPrinted, readingOf};
-use listing::output::put;
+use lines::output::put;
 use listing::reader::Reader;
 use listing::reader::Stage;
 use listing::reader::answer_piece;

@@ -2,10 +2,10 @@
 -- whole list from 0. Assumes nothing.
 use mathlib.Core.Path.{_≡_, refl, sym, ap, _∙_}
 use mathlib.Core.Bool.{Bool, true, false, _||_, cond, or-false}
-use mathlib.Core.List.{List, [], _∷_, map}
+use mathlib.Core.List.{List, [], _∷_}
 use Prim.Native.Nat.{ℕ, suc, _+_, _<_, _≤_, min}
 use native.Mathlib.Numerals.{add-one}
-use lib.ListN.{length, getD, take, drop, length-map}
+use lib.ListN.{length, getD, take, drop}
 use lib.Seq.{drop-cons, drop-length, length-take-le, getD-take, take-all}
 use native.Mathlib.Decide.{decLe}
 use native.Mathlib.Nat.{min-eq-left}
@@ -82,10 +82,6 @@ counted-first l count k n e m = go (decLe count k)
 -- the loop's count has come to the end of the first n places
 pub at-end : {X : Type 0} (n i : ℕ) (l : List X) → i ≡ n → n ≤ length l → i ≡ length (take n l)
 at-end n i l e h = e ∙ sym (length-take-le n l h)
-
--- an array of structs is told of by what its elements are taken apart to
-pub unmapped : {X Y : Type 0} (f : X → Y) (l : List X) (n : ℕ) → length (map f l) ≡ n → length l ≡ n
-unmapped f l n e = sym (length-map l f) ∙ e
 
 pub obstacle-end : (surface : Surface) (sun : Sun) (first : Float) (l : List ShadingObject) (i : ℕ) → i ≡ length l → largestOf first (obstacleExtents surface sun (drop i l)) ≡ first
 unfolding obstacleExtents

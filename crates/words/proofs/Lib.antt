@@ -5,3 +5,4 @@ pub mod Patterns
 pub mod Laws
 pub mod DigitSteps
 pub mod HexadecimalLaws
+pub mod Lists

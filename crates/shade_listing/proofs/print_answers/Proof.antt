@@ -2,7 +2,7 @@
 use native.Mathlib.Omega.{arith}
 use denote.Ref.{now}
 use Rattle.listing.specs.Reading.{readingOf, printedOn}
-use Rattle.listing.proofs.Pieces.{used-length}
+use Rattle.text.proofs.Pieces.{used-length}
 use borrow.Author.Needs.{needs}
 use Rattle.shade_listing.proofs.print_answers.Statement.{statement}
 use Rattle.shade_listing.proofs.print_answers.Tie as tie

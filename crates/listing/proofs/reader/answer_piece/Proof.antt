@@ -4,9 +4,10 @@ use Prim.Native.Nat.{_-_}
 use native.Mathlib.Omega.{arith}
 use denote.Ref.{now}
 use lib.ListN.{length}
-use Rattle.shading.proofs.Loops.{unmapped}
-use Rattle.listing.specs.Reading.{readingOf, bytesOf}
-use Rattle.listing.proofs.Ends.{end-from, end-within}
+use Rattle.words.proofs.Lists.{unmapped}
+use Rattle.lines.specs.Line.{bytesOf}
+use Rattle.listing.specs.Reading.{readingOf}
+use Rattle.text.proofs.Ends.{end-from, end-within}
 use Rattle.listing.proofs.Lines.{Goes, held-few, starts, line-ends, line-goes-on, ends-reading, ends-count, ends-list, ends-long}
 use Rattle.listing.proofs.reader.answer_piece.Statement.{statement}
 use Rattle.listing.proofs.reader.answer_piece.Tie as tie

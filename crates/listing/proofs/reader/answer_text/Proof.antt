@@ -1,7 +1,8 @@
 -- `answer_text` meets its contract.
 use denote.Ref.{now}
-use Rattle.listing.specs.Reading.{readingOf, bytesOf, printedOn}
-use Rattle.listing.proofs.Pieces.{both-filled}
+use Rattle.lines.specs.Line.{bytesOf}
+use Rattle.listing.specs.Reading.{readingOf, printedOn}
+use Rattle.text.proofs.Pieces.{both-filled}
 use Rattle.listing.proofs.Readings.{text-answered}
 use borrow.Author.Needs.{needs}
 use Rattle.listing.proofs.reader.answer_text.Statement.{statement}

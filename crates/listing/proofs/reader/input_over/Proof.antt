@@ -1,7 +1,7 @@
 -- `input_over` meets its contract.
 use mathlib.Core.Path.{_≡_, _∙_}
 use lib.ListN.{length}
-use Rattle.shading.proofs.Loops.{unmapped}
+use Rattle.words.proofs.Lists.{unmapped}
 use Rattle.listing.specs.Reading.{readingOf, lastPrinted}
 use Rattle.listing.proofs.Readings.{names-last, values-last, some-kept}
 use borrow.Author.Needs.{needs}

@@ -1,5 +1,5 @@
 -- `is_names` meets its contract.
-use Rattle.listing.specs.Text.{ascii}
+use Rattle.text.specs.Text.{ascii}
 use Rattle.listing.specs.Listing.{names}
 use borrow.Author.Needs.{needs}
 use Rattle.listing.proofs.reader.is_names.Statement.{statement}

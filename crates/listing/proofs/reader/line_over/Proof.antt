@@ -2,10 +2,10 @@
 use mathlib.Core.Path.{_≡_, _∙_, ap, sym}
 use native.Mathlib.Omega.{arith}
 use lib.ListN.{length}
-use Rattle.shading.proofs.Loops.{unmapped}
+use Rattle.words.proofs.Lists.{unmapped}
 use lib.Seq.{length-take-le}
 use Rattle.listing.specs.Reading.{readingOf, lineStart, lineOver, after, printed}
-use Rattle.listing.proofs.Pieces.{front}
+use Rattle.text.proofs.Pieces.{front}
 use borrow.Author.Needs.{needs}
 use Rattle.listing.proofs.reader.line_over.Statement.{statement}
 use Rattle.listing.proofs.reader.line_over.Tie as tie

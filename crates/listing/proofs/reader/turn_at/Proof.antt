@@ -1,6 +1,6 @@
 -- `turn_at` meets its contract.
 use mathlib.Core.Path.{_∙_, ap}
-use Rattle.listing.specs.Line.{outputLine}
+use Rattle.lines.specs.Line.{outputLine}
 use Rattle.listing.specs.Reading.{after, printed}
 use borrow.Author.Needs.{needs}
 use Rattle.listing.proofs.reader.turn_at.Statement.{statement}

@@ -3,9 +3,9 @@ use mathlib.Core.Path.{_≡_, _∙_, ap, ap₂}
 use mathlib.Core.List.{_++_}
 use denote.Ref.{now}
 use lib.ListN.{length, take}
-use Rattle.shading.proofs.Loops.{unmapped}
+use Rattle.words.proofs.Lists.{unmapped}
 use Rattle.listing.specs.Reading.{readingOf, withPart}
-use Rattle.listing.proofs.Pieces.{kept}
+use Rattle.text.proofs.Pieces.{kept}
 use borrow.Author.Needs.{needs}
 use Rattle.listing.proofs.reader.with_part.Statement.{statement}
 use Rattle.listing.proofs.reader.with_part.Tie as tie

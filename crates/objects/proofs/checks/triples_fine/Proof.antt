@@ -5,8 +5,9 @@ use Prim.Native.Nat.{_-_, _≤_}
 use native.Mathlib.Omega.{arith}
 use denote.Ref.{now}
 use borrow.Author.Needs.{needs}
-use Rattle.objects.specs.Checks.{firstFine, tripleFine}
-use Rattle.objects.proofs.RecordLists.{one-more}
+use Rattle.words.specs.Lists.{firstFine}
+use Rattle.objects.specs.Checks.{tripleFine}
+use Rattle.words.proofs.Lists.{one-more}
 use Rattle.objects.proofs.checks.triples_fine.Statement.{statement}
 use Rattle.objects.proofs.checks.triples_fine.Tie as tie
 

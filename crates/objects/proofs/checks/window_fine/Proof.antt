@@ -5,8 +5,10 @@ use mathlib.Core.Bool.{_&&_}
 use Prim.Native.Nat.{_-_, _≤_}
 use borrow.Author.Needs.{needs}
 use denote.Ref.{now}
-use Rattle.objects.specs.Checks.{windowFine, windowRecordFine, firstFine}
-use Rattle.objects.proofs.RecordLists.{one-more, part-record, too-long, all-records}
+use Rattle.words.specs.Lists.{firstFine}
+use Rattle.objects.specs.Checks.{windowFine, windowRecordFine}
+use Rattle.words.proofs.Lists.{one-more}
+use Rattle.objects.proofs.RecordLists.{part-record, too-long, all-records}
 use Rattle.objects.proofs.checks.window_fine.Statement.{statement}
 use Rattle.objects.proofs.checks.window_fine.Tie as tie
 

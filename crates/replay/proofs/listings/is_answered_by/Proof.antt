@@ -3,9 +3,9 @@ use native.Mathlib.Omega.{arith}
 use mathlib.Core.Path.{_≡_, _∙_, ap, sym}
 use denote.Ref.{now}
 use lib.ListN.{take}
-use Rattle.listing.specs.Text.{sameText, linesOf}
+use Rattle.text.specs.Text.{sameText, linesOf}
 use Rattle.listing.specs.Listing.{body}
-use Rattle.listing.proofs.Pieces.{kept, used-length}
+use Rattle.text.proofs.Pieces.{kept, used-length}
 use Rattle.replay.specs.Differs.{isAnsweredBy}
 use borrow.Author.Needs.{needs}
 use Rattle.replay.proofs.listings.is_answered_by.Statement.{statement}

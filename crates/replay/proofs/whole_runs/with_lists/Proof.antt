@@ -4,7 +4,7 @@ use mathlib.Core.Path.{sym}
 use denote.Ref.{now}
 use lib.ListN.{length, replicate}
 use lib.Seq.{length-take-le}
-use Rattle.listing.proofs.Pieces.{front}
+use Rattle.text.proofs.Pieces.{front}
 use Rattle.replay.specs.Differs.{lent}
 use Rattle.replay.proofs.whole_runs.with_lists.Statement.{statement}
 use Rattle.replay.proofs.whole_runs.with_lists.Tie as tie

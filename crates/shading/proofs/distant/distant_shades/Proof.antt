@@ -8,7 +8,8 @@ use Rattle.doubles.specs.Functions.{largestOf}
 use Rattle.objects.specs.Objects.{counted}
 use Rattle.shading.specs.Factor.{obstacleExtents, overhangExtents}
 use Rattle.shading.specs.Steps.{sunOf}
-use Rattle.shading.proofs.Loops.{obstacle-end, overhang-end, obstacle-next, overhang-next, counted-first, at-end, unmapped}
+use Rattle.words.proofs.Lists.{unmapped}
+use Rattle.shading.proofs.Loops.{obstacle-end, overhang-end, obstacle-next, overhang-next, counted-first, at-end}
 use Rattle.shading.proofs.distant.distant_shades.Statement.{statement}
 use Rattle.shading.proofs.distant.distant_shades.Tie as tie
 

@@ -5,7 +5,8 @@ use lib.ListN.{length, take, drop}
 use Rattle.objects.specs.Objects.{ofKind, obstacle, placed}
 use Rattle.shading.specs.Factor.{leastOf, extents, nearFactor}
 use Rattle.shading.specs.Steps.{sunOf}
-use Rattle.shading.proofs.Loops.{counted-first, at-end, unmapped, near-next, near-end}
+use Rattle.words.proofs.Lists.{unmapped}
+use Rattle.shading.proofs.Loops.{counted-first, at-end, near-next, near-end}
 use Rattle.shading.proofs.factor.least_factor.Statement.{statement}
 use Rattle.shading.proofs.factor.least_factor.Tie as tie
 

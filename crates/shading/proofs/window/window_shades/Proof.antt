@@ -9,7 +9,8 @@ use Rattle.doubles.specs.Functions.{largestOf}
 use Rattle.objects.specs.Objects.{placed}
 use Rattle.shading.specs.Factor.{windowOverhangExtents, rightFinExtents, leftFinExtents, hasReveal}
 use Rattle.shading.specs.Steps.{sunOf}
-use Rattle.shading.proofs.Loops.{counted-first, at-end, unmapped, window-overhang-next, right-next, left-next, reveal-next, window-overhang-end, right-end, left-end, reveal-end}
+use Rattle.words.proofs.Lists.{unmapped}
+use Rattle.shading.proofs.Loops.{counted-first, at-end, window-overhang-next, right-next, left-next, reveal-next, window-overhang-end, right-end, left-end, reveal-end}
 use Rattle.shading.proofs.window.window_shades.Statement.{statement}
 use Rattle.shading.proofs.window.window_shades.Tie as tie
 
