@@ -123,12 +123,12 @@ fn sky() {
 fn orientations() {
     compare_double(
         b"orientation 0 becomes 180",
-        sun::orientation::transform_to_180(0.0),
+        orientation::transform_to_180(0.0),
         0x4066_8000_0000_0000,
     );
     compare_double(
         b"orientation 360 becomes -180",
-        sun::orientation::transform_to_180(360.0),
+        orientation::transform_to_180(360.0),
         0xC066_8000_0000_0000,
     );
 }

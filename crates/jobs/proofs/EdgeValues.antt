@@ -12,7 +12,7 @@ use Rattle.doubles.specs.Functions.{cubeOf, floorOf, toRadians, floatMax}
 use Rattle.angles.specs.Sine.{isAngle, quarters, turns, quadrant, remainder, sineSum, cosineSum, sineSeries, cosineSeries, sineAt, cosineAt, clamp, sine, cosine, tangent}
 use Rattle.sun.specs.Day.{equationOfTime}
 use Rattle.sun.specs.Hour.{timeShift, hourAngle}
-use Rattle.sun.specs.Orientation.{orientation180, wrappedOnce}
+use Rattle.orientation.specs.Orientation.{orientation180, wrappedOnce}
 use Rattle.irradiance.specs.Sky.{clearness, tableRow}
 use Rattle.objects.specs.declared.surface.Surface.{Surface}
 use Rattle.objects.specs.declared.sectors.ShadingObject.{ShadingObject}

@@ -21,7 +21,7 @@ use Rattle.words.specs.Words.{number, wordCount, wordAt, doubleAt}
 use Rattle.sun.specs.declared.hour.Hour.{Hour}
 use Rattle.sun.specs.Day.{orbitDeviation, solarDeclination, equationOfTime, extraTerrestrialRadiation, dayOf}
 use Rattle.sun.specs.Hour.{sinCosOf, timeShift, solarTime, hourAngle, altitudeBy, solarZenith, azimuthBranch, azimuthBy, airMassBy, hourBy, hourOf}
-use Rattle.sun.specs.Orientation.{orientation180, wrappedOnce}
+use Rattle.orientation.specs.Orientation.{orientation180, wrappedOnce}
 use Rattle.simulation_time.specs.Steps.{runFine, goesOn, stepsFrom, stepCount, timeAt, timesFrom, times}
 use Rattle.simulation_time.specs.Timestep.{currentHour, seriesIndex}
 use Rattle.simulation_time.specs.Checks.{hoursBelow, hoursFine, runAccepted}
@@ -31,7 +31,7 @@ use Rattle.objects.specs.declared.sectors.ShadingSegment.{ShadingSegment}
 use Rattle.objects.specs.declared.answers.FactorAnswer.{FactorAnswer}
 use Rattle.objects.specs.declared.answers.FactorAnswer.the-variants as factor
 use Rattle.words.specs.Lists.{firstFine}
-use Rattle.objects.specs.Checks.{within, aboveZero, surfaceFine, recordsFine, windowValuesFine, windowRecordFine, windowFine, objectValuesFine, objectFine, objectUnused, tripleFine, boundsFine, sectorRecordFine, sectorsFine}
+use Rattle.object_checks.specs.Checks.{within, aboveZero, surfaceFine, recordsFine, windowValuesFine, windowRecordFine, windowFine, objectValuesFine, objectFine, objectUnused, tripleFine, boundsFine, sectorRecordFine, sectorsFine}
 use Rattle.objects.specs.Records.{recordsFrom, distantKind, objectAt, objectsFrom, segmentAt, sectorsOf, windowObjectsOf}
 use Rattle.shading.specs.Extents.{withinRight, outsideSolarBeam, obstacleHeight}
 use Rattle.segments.specs.Segments.{found, betweenEnds, holdsAzimuth, visit, walkFrom, segmentOf}

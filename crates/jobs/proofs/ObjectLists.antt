@@ -16,13 +16,13 @@ use Rattle.objects.specs.declared.sectors.ShadingObject.{ShadingObject}
 use Rattle.objects.specs.declared.sectors.ShadingSegment.{ShadingSegment}
 use Rattle.objects.specs.declared.window.WindowShadingObject.{WindowShadingObject}
 use Rattle.words.specs.Lists.{firstFine}
-use Rattle.objects.specs.Checks.{within, tripleFine, boundsFine, sectorRecordFine, sectorsFine}
+use Rattle.object_checks.specs.Checks.{within, tripleFine, boundsFine, sectorRecordFine, sectorsFine}
 use Rattle.objects.specs.Objects.{counted}
 use Rattle.objects.specs.Records.{recordsFrom, distantKind, objectAt, objectsFrom, segmentAt, sectorsOf, windowKind, windowObjectAt, windowObjectsOf}
 use Rattle.segments.specs.SameSectors.{SameBounds, PlaceByPlace, none, and-then}
 use Rattle.shading_laws.specs.Comparison.{Holds, MoreInSector, SameInSector}
-use Rattle.objects.proofs.Accepted.{length-records, member-records}
-use Rattle.objects.proofs.AcceptedSectors.{counted-objects, sector-record}
+use Rattle.object_checks.proofs.Accepted.{length-records, member-records}
+use Rattle.object_checks.proofs.AcceptedSectors.{counted-objects, sector-record}
 use Rattle.jobs.specs.Comparison.{sectorCount, BoundedAlike, triple, sectorObjects, windowObject, windowObjects}
 
 -- ---- objects by their words

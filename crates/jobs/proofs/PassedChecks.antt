@@ -18,11 +18,11 @@ use Rattle.simulation_time.specs.Checks.{runAccepted}
 use Rattle.simulation_time.proofs.Times.{times-length, times-at}
 use Rattle.objects.specs.declared.answers.Refusal.{Refusal}
 use Rattle.objects.specs.declared.answers.Refusal.the-variants as refusal
-use Rattle.objects.specs.Checks.{within, surfaceFine, sectorsFine, windowFine}
+use Rattle.object_checks.specs.Checks.{within, surfaceFine, sectorsFine, windowFine}
 use Rattle.objects.specs.Records.{windowObjectsOf}
 use Rattle.shading_laws.specs.Comparison.{AcceptedSurface, AcceptedNear}
-use Rattle.objects.proofs.Accepted.{within-range, base-range, height-range, width-range}
-use Rattle.objects.proofs.AcceptedWindow.{window-in-range}
+use Rattle.object_checks.proofs.Accepted.{within-range, base-range, height-range, width-range}
+use Rattle.object_checks.proofs.AcceptedWindow.{window-in-range}
 use Rattle.jobs.specs.declared.answers.Checked.{Checked}
 use Rattle.jobs.specs.declared.answers.Checked.the-variants.{Steps, Refused}
 use Rattle.jobs.specs.Job.{Job, readingAt}

@@ -14,7 +14,7 @@ use Rattle.simulation_time.specs.Steps.{stepCount, times}
 use Rattle.simulation_time.specs.Checks.{runAccepted}
 use Rattle.objects.specs.declared.answers.Refusal.{Refusal}
 use Rattle.objects.specs.declared.answers.Refusal.the-variants as refusal
-use Rattle.objects.specs.Checks.{within, surfaceFine, sectorsFine, windowFine}
+use Rattle.object_checks.specs.Checks.{within, surfaceFine, sectorsFine, windowFine}
 use Rattle.jobs.specs.declared.answers.Reading.{Reading}
 use Rattle.jobs.specs.declared.answers.Checked.{Checked}
 use Rattle.jobs.specs.declared.answers.Checked.the-variants.{Steps, Refused}

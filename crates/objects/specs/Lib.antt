@@ -1,4 +1,3 @@
 pub mod Objects
 pub mod Records
-pub mod Checks
 pub mod Refusals

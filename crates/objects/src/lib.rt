@@ -1,9 +1,8 @@
-// The surface and what may shade it: as structs, as records of the lent lists, and the checks of both.
+// The surface and what may shade it: as structs, and as records of the lent lists.
 ghost use mathlib.Core.Path.{_≡_};
 ghost use Prim.Native.Nat.{min};
 
 pub mod answers;
-pub mod checks;
 pub mod records;
 pub mod sectors;
 pub mod surface;

@@ -8,7 +8,7 @@ use Rattle.sun.specs.declared.day.Day.{Day}
 use Rattle.sun.specs.Day.{dayOf}
 use Rattle.sun.specs.Hour.{sinCosOf, timeShift, hourBy}
 use Rattle.irradiance.specs.Sky.{skyOf}
-use Rattle.sun.specs.Orientation.{orientation180}
+use Rattle.orientation.specs.Orientation.{orientation180}
 use Rattle.irradiance.specs.Surface.{incidenceOf}
 use Rattle.irradiance.specs.Parts.{irradianceOf}
 use Rattle.probes.specs.declared.sky.ProbeHour.{ProbeHour}

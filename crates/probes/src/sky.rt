@@ -248,7 +248,7 @@ pub extern "C" fn probe_hour(
         sun::hour::sin_cos_of_degrees(latitude),
         sun::hour::sin_cos_of_degrees(day.declination),
         sun::hour::sin_cos_of_degrees(tilt),
-        sun::hour::sin_cos_of_degrees(sun::orientation::transform_to_180(orientation)),
+        sun::hour::sin_cos_of_degrees(orientation::transform_to_180(orientation)),
         day,
         sun::hour::init_time_shift(timezone, longitude),
         hour % 24,

@@ -15,7 +15,7 @@ use Rattle.words.specs.Words.{wordCount}
 use Rattle.simulation_time.specs.Steps.{stepCount, times}
 use Rattle.simulation_time.specs.Checks.{runAccepted}
 use Rattle.objects.specs.declared.answers.Refusal.the-variants as refusal
-use Rattle.objects.specs.Checks.{within, surfaceFine, sectorsFine, windowFine}
+use Rattle.object_checks.specs.Checks.{within, surfaceFine, sectorsFine, windowFine}
 use Rattle.jobs.specs.declared.answers.Checked.the-variants.{Steps, Refused}
 use Rattle.jobs.specs.Job.{Job, readingAt}
 use Rattle.jobs.specs.Checks.{siteFine, hoursInYear, atAll, indexFine, readingFine, resultsFine, tried, seriesChecked, checked}

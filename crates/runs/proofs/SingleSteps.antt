@@ -13,7 +13,7 @@ use Rattle.sun.specs.declared.site.Site.{Site}
 use Rattle.objects.specs.declared.surface.Surface.{Surface}
 use Rattle.objects.specs.declared.answers.Refusal.{Refusal}
 use Rattle.objects.specs.declared.answers.Refusal.the-variants as refusal
-use Rattle.objects.specs.Checks.{surfaceFine, sectorsFine, windowFine}
+use Rattle.object_checks.specs.Checks.{surfaceFine, sectorsFine, windowFine}
 use Rattle.jobs.specs.declared.answers.Reading.{Reading}
 use Rattle.runs.specs.declared.single.Single.{Single}
 use Rattle.runs.specs.declared.single.Single.the-variants.{Stored, Refused}

@@ -29,7 +29,7 @@ pub fn fixed_of(site: Site, surface: Surface) -> Fixed
 {
     let latitude = sin_cos_of_degrees(site.latitude);
     let tilt = sin_cos_of_degrees(surface.tilt);
-    let orientation = sin_cos_of_degrees(sun::orientation::transform_to_180(surface.orientation));
+    let orientation = sin_cos_of_degrees(orientation::transform_to_180(surface.orientation));
     let time_shift = sun::hour::init_time_shift(site.timezone, site.longitude);
     Fixed {
         latitude: latitude,

@@ -1,7 +1,7 @@
 // The calls for one step.
 ghost use mathlib.Core.Path.{_≡_};
 ghost use mathlib.Core.Bool.{true};
-ghost use Rattle.objects.specs.Checks.{sectorsFine, windowFine};
+ghost use Rattle.object_checks.specs.Checks.{sectorsFine, windowFine};
 ghost use Rattle.jobs.specs.Step.{sunAt, irradianceAt, stepWith};
 ghost use Rattle.runs.specs.Single.{singleNumber, timeFine, first, stepChecked, irradianceChecked, called, storedStep, stepCall, putBreakdown, irradianceCall};
 use crate::checks::hours_in_year;
@@ -15,11 +15,11 @@ use crate::series::reading_fine;
 use irradiance::parts::Irradiance;
 use jobs::answers::Reading;
 use jobs::answers::StepAnswer;
+use object_checks::sectors_fine;
+use object_checks::surface_fine;
+use object_checks::window_fine;
 use objects::answers::Refusal;
 use objects::answers::number_of;
-use objects::checks::sectors_fine;
-use objects::checks::surface_fine;
-use objects::checks::window_fine;
 use objects::records::window_of;
 use objects::surface::Surface;
 use simulation_time::timestep::current_hour;

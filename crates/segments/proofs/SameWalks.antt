@@ -4,7 +4,7 @@ use mathlib.Core.Path.{_≡_, refl, ap, _∙_, subst}
 use mathlib.Core.Bool.{Bool, true, false, _&&_, cond}
 use mathlib.Core.List.{List, [], _∷_, List·Memᴰ, List·Memᴰ·head, List·Memᴰ·tail}
 use lib.Ieee.{Float, lt, ne}
-use Rattle.sun.specs.Orientation.{orientation180}
+use Rattle.orientation.specs.Orientation.{orientation180}
 use Rattle.objects.specs.declared.sectors.ShadingSegment.{ShadingSegment}
 use Rattle.segments.specs.Segments.{Segment, found, gap, turned, noSector, betweenEnds, holdsAzimuth, visit, walkFrom, segmentOf}
 use Rattle.segments.specs.SameSectors.{SameBounds, PlaceByPlace, none, and-then}

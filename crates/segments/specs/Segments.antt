@@ -4,7 +4,7 @@ use mathlib.Core.Bool.{Bool, cond, _&&_}
 use mathlib.Core.List.{List, [], _∷_}
 use lib.Ieee.{Float, lt, ne}
 use Rattle.objects.specs.declared.sectors.ShadingSegment.{ShadingSegment}
-use Rattle.sun.specs.Orientation.{orientation180}
+use Rattle.orientation.specs.Orientation.{orientation180}
 
 -- what the walk comes to: the sector that has the sun, or why there is none
 pub data Segment : Type 0 where

@@ -20,8 +20,8 @@ pub enum Place {
 fn between_ends(azimuth: f64, start360: f64, end360: f64) -> bool
     ensures { λ r. ⌜ r ≡ betweenEnds azimuth start360 end360 ⌝ }
 {
-    (azimuth < sun::orientation::transform_to_180(start360))
-        & (sun::orientation::transform_to_180(end360) < azimuth)
+    (azimuth < orientation::transform_to_180(start360))
+        & (orientation::transform_to_180(end360) < azimuth)
 }
 
 // The walk so far: the next sector to look at (none, at the end of the list), the end of the one before, and where the walk ends.

@@ -8,7 +8,7 @@ use Rattle.objects.specs.declared.surface.Surface.{Surface}
 use Rattle.objects.specs.declared.answers.Refusal.the-variants as refusal
 use Rattle.objects.specs.declared.answers.FactorAnswer.{FactorAnswer}
 use Rattle.objects.specs.declared.answers.FactorAnswer.the-variants.{Refused}
-use Rattle.objects.specs.Checks.{within, surfaceFine, sectorsFine, windowFine}
+use Rattle.object_checks.specs.Checks.{within, surfaceFine, sectorsFine, windowFine}
 use Rattle.shading.specs.Factor.{shadingFactor}
 use Rattle.objects.specs.Records.{sectorsOf, windowObjectsOf}
 

@@ -5,7 +5,7 @@ use mathlib.Core.Bool.{Bool, cond, not, _&&_, _||_}
 use lib.Ieee.{Float, neg, lt, le}
 use Rattle.doubles.specs.Arithmetic.{_⊕_, _⊖_, _⊗_, _⊘_, whole}
 use Rattle.doubles.specs.Functions.{floatMax}
-use Rattle.sun.specs.Orientation.{orientation180, wrappedOnce}
+use Rattle.orientation.specs.Orientation.{orientation180, wrappedOnce}
 
 -- from −90 to 90; NaN is not
 unfoldable pub withinRight : Float → Bool

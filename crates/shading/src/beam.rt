@@ -1,6 +1,6 @@
 // The beam test.
-use sun::orientation::transform_to_180;
-use sun::orientation::wrap_once;
+use orientation::transform_to_180;
+use orientation::wrap_once;
 ghost use mathlib.Core.Path.{_≡_};
 ghost use Rattle.shading.specs.Extents.{withinRight, outsideSolarBeam};
 

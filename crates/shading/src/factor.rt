@@ -130,7 +130,7 @@ pub fn factor_in(
 pub fn sun_on(surface: Surface, altitude: f64, azimuth: f64) -> SunOnSurface
     ensures { λ r. ⌜ sunOf r ≡ sunOn surface altitude azimuth ⌝ }
 {
-    let difference = azimuth - sun::orientation::transform_to_180(surface.orientation);
+    let difference = azimuth - orientation::transform_to_180(surface.orientation);
     let radians = doubles::to_radians(difference);
     let both = angles::sin_cos(radians);
     SunOnSurface {

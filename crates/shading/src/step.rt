@@ -11,7 +11,6 @@ use crate::beam;
 use crate::factor;
 use objects::answers::FactorAnswer;
 use objects::answers::Refusal;
-use objects::checks;
 use objects::records;
 use objects::sectors::Sectors;
 use objects::surface::Surface;
@@ -88,8 +87,8 @@ pub fn factor_call(
 ) -> FactorAnswer
     ensures { λ r. ⌜ r ≡ factorCall altitude azimuth surface (now (sectors .entry)) (now (window .entry)) ⌝ }
 {
-    if sun_fine(altitude, azimuth) & checks::surface_fine(surface) {
-        if checks::sectors_fine(sectors) & checks::window_fine(window) {
+    if sun_fine(altitude, azimuth) & object_checks::surface_fine(surface) {
+        if object_checks::sectors_fine(sectors) & object_checks::window_fine(window) {
             let objects = records::window_of(window);
             return direct_shading_reduction_factor(surface, altitude, azimuth, sectors, objects);
         }
@@ -108,8 +107,8 @@ pub fn factor_call_by_records(
 ) -> FactorAnswer
     ensures { λ r. ⌜ r ≡ factorCall altitude azimuth surface (now (sectors .entry)) (now (window .entry)) ⌝ }
 {
-    if sun_fine(altitude, azimuth) & checks::surface_fine(surface) {
-        if checks::sectors_fine(sectors) & checks::window_fine(window) {
+    if sun_fine(altitude, azimuth) & object_checks::surface_fine(surface) {
+        if object_checks::sectors_fine(sectors) & object_checks::window_fine(window) {
             let table = records::sectors_of(sectors);
             let objects = records::window_of(window);
             return factor_among(surface, altitude, azimuth, table, objects);

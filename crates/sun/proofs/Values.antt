@@ -6,7 +6,7 @@ use lib.Ieee.{add, sub, mul, div, neg, lt, ofInt}
 use Rattle.doubles.specs.Arithmetic.{whole, decimal}
 use Rattle.sun.specs.Day.{equationOfTime}
 use Rattle.sun.specs.Hour.{timeShift, hourAngle}
-use Rattle.sun.specs.Orientation.{orientation180, wrappedOnce}
+use Rattle.orientation.specs.Orientation.{orientation180, wrappedOnce}
 
 -- day number 359 gives 0
 pub equation-359 : equationOfTime 359 ≡ whole 0

@@ -1,4 +1,3 @@
 pub mod Day
 pub mod Hour
 pub mod HourParts
-pub mod Orientation

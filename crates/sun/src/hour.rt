@@ -9,9 +9,9 @@ ghost use Rattle.arcsines.specs.Arcsine.{arcsine};
 ghost use Rattle.sun.specs.HourParts.{heightOf, turnBy, hourFrom};
 ghost use Rattle.sun.specs.Hour.{sinCosOf, timeShift, solarTime, hourAngle, altitudeBy, solarAltitude, solarZenith, azimuthBranch, solarAzimuth, airMassBy, airMass, hourBy, hourOf};
 use crate::day::day_of;
-use crate::orientation::wrap_once;
 use crate::site::Site;
 use angles::SinCos;
+use orientation::wrap_once;
 
 // The sine and the cosine of an angle in degrees.
 pub fn sin_cos_of_degrees(degrees: f64) -> SinCos

@@ -1,5 +1,4 @@
 // The sun's angles (ISO 52010-1), after the `init_` functions of the Rust: what depends on the day alone, and what on the hour.
 pub mod day;
 pub mod hour;
-pub mod orientation;
 pub mod site;

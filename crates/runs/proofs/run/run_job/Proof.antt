@@ -4,7 +4,7 @@ use native.Mathlib.Omega.{arith}
 use lib.Ieee.Bits.{is-true}
 use denote.Ref.{now}
 use Rattle.simulation_time.proofs.Times.{count-few}
-use Rattle.objects.specs.Checks.{sectorsFine, windowFine}
+use Rattle.object_checks.specs.Checks.{sectorsFine, windowFine}
 use Rattle.jobs.specs.Job.{Job, jobOf}
 use Rattle.jobs.specs.Run.{runOf, runChecked}
 use Rattle.jobs.proofs.PassedChecks.{passed}

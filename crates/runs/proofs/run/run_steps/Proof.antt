@@ -13,8 +13,8 @@ use lib.ListN.{length}
 use Rattle.doubles.specs.Arithmetic.{_⊕_, _⊗_, whole}
 use Rattle.objects.specs.Objects.{placed}
 use Rattle.objects.specs.Records.{windowObjectsOf}
-use Rattle.objects.proofs.AcceptedSectors.{sector-count}
-use Rattle.objects.proofs.AcceptedWindow.{window-places}
+use Rattle.object_checks.proofs.AcceptedSectors.{sector-count}
+use Rattle.object_checks.proofs.AcceptedWindow.{window-places}
 use Rattle.jobs.specs.Job.{Job, jobOf, indexAt, readingAt}
 use Rattle.jobs.specs.declared.answers.RunAnswer.{RunAnswer}
 use Rattle.jobs.specs.Run.{ran, runFrom}

@@ -4,8 +4,8 @@ use lib.Dec.{T}
 use denote.Ref.{now}
 use Rattle.objects.specs.Objects.{placed}
 use Rattle.runs.specs.Kept.{keptHour, stepKept}
-use Rattle.objects.proofs.AcceptedSectors.{sector-count}
-use Rattle.objects.proofs.AcceptedWindow.{window-places}
+use Rattle.object_checks.proofs.AcceptedSectors.{sector-count}
+use Rattle.object_checks.proofs.AcceptedWindow.{window-places}
 use Rattle.runs.proofs.StepByStep.{by-kept}
 use borrow.Author.Needs.{needs}
 use Rattle.runs.proofs.single.step_with.Statement.{statement}

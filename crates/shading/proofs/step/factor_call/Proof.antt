@@ -3,10 +3,10 @@ use mathlib.Core.Bool.{true, _&&_}
 use lib.Dec.{T}
 use lib.Ieee.Fits.{and-l, and-r}
 use Rattle.shading.specs.Call.{factorCall}
-use Rattle.objects.specs.Checks.{sectorsFine, windowFine}
+use Rattle.object_checks.specs.Checks.{sectorsFine, windowFine}
 use Rattle.objects.specs.Objects.{placed}
-use Rattle.objects.proofs.AcceptedSectors.{sector-count}
-use Rattle.objects.proofs.AcceptedWindow.{window-places}
+use Rattle.object_checks.proofs.AcceptedSectors.{sector-count}
+use Rattle.object_checks.proofs.AcceptedWindow.{window-places}
 use borrow.Author.Needs.{needs}
 use Rattle.shading.proofs.step.factor_call.Statement.{statement}
 use Rattle.shading.proofs.step.factor_call.Tie as tie

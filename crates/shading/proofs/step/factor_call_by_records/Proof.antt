@@ -6,11 +6,11 @@ use Rattle.words.specs.Words.{wordCount}
 use lib.Dec.{T}
 use lib.Ieee.Fits.{and-l, and-r}
 use Rattle.objects.specs.declared.sectors.Sectors.{Sectors}
-use Rattle.objects.specs.Checks.{sectorsFine, windowFine}
+use Rattle.object_checks.specs.Checks.{sectorsFine, windowFine}
 use Rattle.objects.specs.Objects.{placed}
 use Rattle.objects.specs.Records.{sectorTable}
-use Rattle.objects.proofs.AcceptedSectors.{sector-count}
-use Rattle.objects.proofs.AcceptedWindow.{window-places}
+use Rattle.object_checks.proofs.AcceptedSectors.{sector-count}
+use Rattle.object_checks.proofs.AcceptedWindow.{window-places}
 use Rattle.objects.proofs.SectorTables.{table-listed}
 use Rattle.shading.specs.Call.{factorCall}
 use borrow.Author.Needs.{needs}
