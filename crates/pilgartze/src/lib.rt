@@ -4,7 +4,7 @@ ghost use mathlib.Core.Path.{_≡_};
 ghost use Rattle.shading.specs.Call.{factorCall};
 ghost use Rattle.jobs.specs.Job.{jobOf};
 ghost use Rattle.jobs.specs.Run.{runOf};
-ghost use Rattle.runs.specs.Single.{singleNumber, stepCall, irradianceCall};
+ghost use Rattle.single_steps.specs.Single.{singleNumber, stepCall, irradianceCall};
 ghost use Rattle.pilgartze.specs.Answers.{answerFor, factorFor, siteOf, timesOf, surfaceOf, readingOf};
 ghost use Rattle.pilgartze.specs.Version.{version};
 use jobs::answers::Reading;
@@ -182,7 +182,7 @@ pub extern "C" fn pilgartze_step(
         direct: direct,
         reflectivity: reflectivity,
     };
-    runs::single::single_number(runs::single::step_call(
+    single_steps::single_number(single_steps::step_call(
         site,
         time,
         surface,
@@ -238,7 +238,7 @@ pub extern "C" fn pilgartze_irradiance(
         direct: direct,
         reflectivity: reflectivity,
     };
-    runs::single::single_number(runs::single::irradiance_call(
+    single_steps::single_number(single_steps::irradiance_call(
         site,
         time,
         surface,

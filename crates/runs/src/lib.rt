@@ -1,7 +1,3 @@
-// The run of a job and the calls for one step.
-pub mod checks;
-pub mod kept;
-pub mod rows;
+// The run of a job.
 pub mod run;
 pub mod series;
-pub mod single;

@@ -1,41 +1,19 @@
-// The three weather series: at one step, and at all steps (refusals 5 and 6).
+// The three weather series at all steps (refusals 5 and 6).
 ghost use mathlib.Core.Path.{_≡_};
 ghost use Rattle.simulation_time.specs.Steps.{timesFrom};
 ghost use Rattle.simulation_time.specs.Timestep.{seriesIndex};
 ghost use Rattle.jobs.specs.Series.{inSeries, readSeries};
 ghost use Rattle.jobs.specs.Checks.{atAll, readingFine};
-use jobs::answers::Reading;
 use simulation_time::run::Run;
 use simulation_time::timestep::time_series_idx;
-use words::double_at;
+use steps::series::read_series;
+use steps::series::reading_fine;
 use words::word_count;
 
 fn in_series(diffuse: &[u8], direct: &[u8], reflectivity: &[u8], i: usize) -> bool
     ensures { λ r. ⌜ r ≡ inSeries (now (diffuse .entry)) (now (direct .entry)) (now (reflectivity .entry)) i ⌝ }
 {
     (i < word_count(diffuse)) & (i < word_count(direct)) & (i < word_count(reflectivity))
-}
-
-pub fn read_series(diffuse: &[u8], direct: &[u8], reflectivity: &[u8], i: usize) -> Reading
-    ensures { λ r. ⌜ r ≡ readSeries (now (diffuse .entry)) (now (direct .entry)) (now (reflectivity .entry)) i ⌝ }
-{
-    let diffuse = double_at(diffuse, i);
-    let direct = double_at(direct, i);
-    let reflectivity = double_at(reflectivity, i);
-    Reading {
-        diffuse: diffuse,
-        direct: direct,
-        reflectivity: reflectivity,
-    }
-}
-
-pub fn reading_fine(reading: Reading) -> bool
-    ensures { λ r. ⌜ r ≡ readingFine reading ⌝ }
-{
-    let diffuse = (0.0 <= reading.diffuse) & (reading.diffuse <= 10000.0);
-    let direct = (0.0 <= reading.direct) & (reading.direct <= 10000.0);
-    let reflectivity = (0.0 <= reading.reflectivity) & (reading.reflectivity <= 1.0);
-    diffuse & direct & reflectivity
 }
 
 // Of all steps: whether every index is on all three series, and whether every value is in its range.

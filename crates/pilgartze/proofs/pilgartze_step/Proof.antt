@@ -1,7 +1,7 @@
 -- `pilgartze_step` meets its contract.
 use mathlib.Core.Path.{_∙_, ap}
 use mir.Facts.{toZ-ofZ}
-use Rattle.runs.specs.Single.{singleNumber}
+use Rattle.single_steps.specs.Single.{singleNumber}
 use borrow.Author.Needs.{needs}
 use Rattle.pilgartze.proofs.pilgartze_step.Statement.{statement}
 use Rattle.pilgartze.proofs.pilgartze_step.Tie as tie

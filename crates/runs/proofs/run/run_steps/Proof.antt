@@ -18,8 +18,9 @@ use Rattle.object_checks.proofs.AcceptedWindow.{window-places}
 use Rattle.jobs.specs.Job.{Job, jobOf, indexAt, readingAt}
 use Rattle.jobs.specs.declared.answers.RunAnswer.{RunAnswer}
 use Rattle.jobs.specs.Run.{ran, runFrom}
-use Rattle.runs.specs.Kept.{fixedOf, keptDay, keptHour}
-use Rattle.runs.proofs.StepByStep.{by-kept, job-step, of-its-hour, day-of-its-hour, of-its-day, row-next, refused-here, at-end, at-start}
+use Rattle.steps.specs.Kept.{fixedOf, keptDay, keptHour}
+use Rattle.steps.proofs.StepKept.{by-kept, of-its-hour, day-of-its-hour, of-its-day}
+use Rattle.runs.proofs.StepByStep.{job-step, row-next, refused-here, at-end, at-start}
 use Rattle.jobs.proofs.RowStores.{length-putRow}
 use Rattle.runs.proofs.run.run_steps.Statement.{statement}
 use Rattle.runs.proofs.run.run_steps.Tie as tie

@@ -1,0 +1,68 @@
+-- What a single-step call that passes its checks has.
+use mathlib.Core.Path.{_≡_, refl, sym, subst, ap}
+use mathlib.Core.Bool.{Bool, true, false, _&&_}
+use mathlib.Core.List.{List}
+use Prim.Native.Nat.{ℕ, _<_}
+use lib.Dec.{T, leb}
+use lib.Ieee.{Float}
+use lib.Ieee.Bits.{is-true}
+use lib.Ieee.Fits.{and-l, and-r}
+use Rattle.words.specs.Words.{wordCount}
+use Rattle.jobs.specs.Checks.{siteFine, readingFine}
+use Rattle.sun.specs.declared.site.Site.{Site}
+use Rattle.objects.specs.declared.surface.Surface.{Surface}
+use Rattle.objects.specs.declared.answers.Refusal.{Refusal}
+use Rattle.objects.specs.declared.answers.Refusal.the-variants as refusal
+use Rattle.object_checks.specs.Checks.{surfaceFine, sectorsFine, windowFine}
+use Rattle.jobs.specs.declared.answers.Reading.{Reading}
+use Rattle.single_steps.specs.declared.Single.{Single}
+use Rattle.single_steps.specs.declared.Single.the-variants.{Stored, Refused}
+use Rattle.single_steps.specs.Single.{timeFine, first, stepChecked, called, storedStep, unlessRefused, stepCall}
+use Rattle.jobs.specs.Job.{Job, readingAt}
+use Rattle.jobs.specs.Step.{stepAt}
+use Rattle.jobs.specs.Run.{putRow, runOf}
+use Rattle.simulation_time.specs.Steps.{timeAt}
+use Rattle.jobs.proofs.RowStores.{Holding}
+use Rattle.jobs.proofs.RunLaws.{rowAt, filled, run-rows}
+
+isStored : Single → Bool
+isStored Stored = true
+isStored (Refused r) = false
+
+after : (fine : Bool) (r : Refusal) (next : Single) → first fine r next ≡ Stored → next ≡ Stored
+unfolding first isStored
+after true r next e = e
+after false r next e = absurd (subst T (sym (ap isStored e)) tt)
+
+passes : (fine : Bool) (r : Refusal) (next : Single) → first fine r next ≡ Stored → fine ≡ true
+unfolding first isStored
+passes true r next e = refl
+passes false r next e = absurd (subst T (sym (ap isStored e)) tt)
+
+-- the lists are fine
+pub lists-passed : (site : Site) (time : Float) (surface : Surface) (reading : Reading) (sectors window results : List ℕ)
+    → stepChecked site time surface reading sectors window results ≡ Stored → (sectorsFine sectors ≡ true) × (windowFine window ≡ true)
+unfolding stepChecked
+lists-passed site time surface reading sectors window results e =
+    let read : Single = first (readingFine reading) refusal.Reading (first (leb 6 (wordCount results)) refusal.Results Stored) in
+    let shaded : Single = first (sectorsFine sectors && windowFine window) refusal.Object read in
+    let faced : Single = first (surfaceFine surface) refusal.Surface shaded in
+    let timed : Single = first (timeFine site time) refusal.Run faced in
+    let both =
+    passes (sectorsFine sectors && windowFine window) refusal.Object read
+    (after (surfaceFine surface) refusal.Surface shaded (after (timeFine site time) refusal.Run faced (after (siteFine site) refusal.Site timed e)))
+    in
+    let t : T (sectorsFine sectors && windowFine window) = subst T (sym both) tt in
+    (is-true (sectorsFine sectors) (and-l (sectorsFine sectors) (windowFine window) t), is-true (windowFine window) (and-r (sectorsFine sectors) (windowFine window) t))
+
+-- A single-step call that is given what a run reads at a step, and passes its checks, stores the row that the run holds there.
+pub record RunsRow (job : Job) (r s : List ℕ) (i : ℕ) : Type 0 where
+  pub held : Holding (runOf job r .results) i (rowAt job i)
+  pub stored : stepCall (job .site) (timeAt (job .run) i) (job .surface) (readingAt job (timeAt (job .run) i)) (job .sectors) (job .window) s
+      ≡ called Stored (putRow s 0 (rowAt job i))
+
+pub runs-row : (job : Job) (r s : List ℕ) (i : ℕ) → i < filled (runOf job r .answer)
+    → stepChecked (job .site) (timeAt (job .run) i) (job .surface) (readingAt job (timeAt (job .run) i)) (job .sectors) (job .window) s ≡ Stored
+    → RunsRow job r s i
+unfolding stepCall unlessRefused storedStep stepAt
+runs-row job r s i h e = let p = run-rows job r i h in record { held = p .held; stored = rw (e, p .has-row) refl }

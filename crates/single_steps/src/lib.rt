@@ -1,0 +1,237 @@
+// The calls for one step.
+ghost use mathlib.Core.Path.{_≡_};
+ghost use mathlib.Core.Bool.{true};
+ghost use Rattle.object_checks.specs.Checks.{sectorsFine, windowFine};
+ghost use Rattle.jobs.specs.Step.{sunAt, irradianceAt, stepWith};
+ghost use Rattle.single_steps.specs.Single.{singleNumber, timeFine, first, stepChecked, irradianceChecked, called, storedStep, stepCall, putBreakdown, irradianceCall};
+use irradiance::parts::Irradiance;
+use jobs::answers::Reading;
+use jobs::answers::StepAnswer;
+use object_checks::sectors_fine;
+use object_checks::surface_fine;
+use object_checks::window_fine;
+use objects::answers::Refusal;
+use objects::answers::number_of;
+use objects::records::window_of;
+use objects::surface::Surface;
+use simulation_time::timestep::current_hour;
+use steps::checks::hours_in_year;
+use steps::checks::site_fine;
+use steps::kept::fixed_of;
+use steps::kept::kept_day;
+use steps::kept::kept_hour;
+use steps::rows::step_row;
+use steps::rows::store_row;
+use steps::series::reading_fine;
+use sun::hour::Hour;
+use sun::site::Site;
+use words::store_double;
+use words::word_count;
+
+// Whether the results are stored, or why not.
+pub enum Single {
+    Stored,
+    Refused(Refusal),
+}
+
+pub fn single_number(answer: Single) -> u64
+    ensures { λ r. ⌜ r ≡ singleNumber answer ⌝ }
+{
+    match answer {
+        Single::Stored => 0,
+        Single::Refused(refusal) => number_of(refusal),
+    }
+}
+
+fn time_fine(site: Site, time: f64) -> bool
+    ensures { λ r. ⌜ r ≡ timeFine site time ⌝ }
+{
+    (0.0 <= time) & (time <= 8784.0) & (current_hour(time) < hours_in_year(site))
+}
+
+fn first(fine: bool, refusal: Refusal, next: Single) -> Single
+    ensures { λ r. ⌜ r ≡ first fine refusal next ⌝ }
+{
+    if fine {
+        return next;
+    }
+    Single::Refused(refusal)
+}
+
+fn check_step(
+    site: Site,
+    time: f64,
+    surface: Surface,
+    reading: Reading,
+    sectors: &[u8],
+    window: &[u8],
+    results: &[u8],
+) -> Single
+    ensures { λ r. ⌜ r ≡ stepChecked site time surface reading (now (sectors .entry)) (now (window .entry)) (now (results .entry)) ⌝ }
+{
+    let room = first(6 <= word_count(results), Refusal::Results, Single::Stored);
+    let read = first(reading_fine(reading), Refusal::Reading, room);
+    let objects_fine = sectors_fine(sectors) & window_fine(window);
+    let shaded = first(objects_fine, Refusal::Object, read);
+    let faced = first(surface_fine(surface), Refusal::Surface, shaded);
+    let timed = first(time_fine(site, time), Refusal::Run, faced);
+    first(site_fine(site), Refusal::Site, timed)
+}
+
+fn check_irradiance(
+    site: Site,
+    time: f64,
+    surface: Surface,
+    reading: Reading,
+    results: &[u8],
+) -> Single
+    ensures { λ r. ⌜ r ≡ irradianceChecked site time surface reading (now (results .entry)) ⌝ }
+{
+    let room = first(9 <= word_count(results), Refusal::Results, Single::Stored);
+    let read = first(reading_fine(reading), Refusal::Reading, room);
+    let faced = first(surface_fine(surface), Refusal::Surface, read);
+    let timed = first(time_fine(site, time), Refusal::Run, faced);
+    first(site_fine(site), Refusal::Site, timed)
+}
+
+// The step at a time, from lists that are checked.
+fn step_with(
+    site: Site,
+    time: f64,
+    surface: Surface,
+    reading: Reading,
+    sectors: &[u8],
+    window: &[u8],
+) -> StepAnswer
+    requires { ⌜ sectorsFine (now sectors) ≡ true ⌝ }
+    requires { ⌜ windowFine (now window) ≡ true ⌝ }
+    ensures { λ r. ⌜ r ≡ stepWith site surface (now (sectors .entry)) (now (window .entry)) time reading ⌝ }
+{
+    let objects = window_of(window);
+    let fixed = fixed_of(site, surface);
+    let hour = current_hour(time);
+    let day = kept_day(hour / 24);
+    let kept = kept_hour(site, surface, fixed, day, hour, sectors, objects);
+    step_row(fixed, site.direct_beam_conversion, kept, reading)
+}
+
+fn store_step(answer: StepAnswer, results: &mut [u8]) -> Single
+    ensures { λ r. ⌜ called r (now (results .exit)) ≡ storedStep answer (now (results .entry)) ⌝ }
+{
+    match answer {
+        StepAnswer::Refused(refusal) => Single::Refused(refusal),
+        StepAnswer::Row(row) => {
+            store_row(results, 0, row);
+            Single::Stored
+        }
+    }
+}
+
+// The row of one step, in the first six words of the results.
+pub fn step_call(
+    site: Site,
+    time: f64,
+    surface: Surface,
+    reading: Reading,
+    sectors: &[u8],
+    window: &[u8],
+    results: &mut [u8],
+) -> Single
+    ensures { λ r. ⌜ called r (now (results .exit)) ≡ stepCall site time surface reading (now (sectors .entry)) (now (window .entry)) (now (results .entry)) ⌝ }
+{
+    let tested = check_step(site, time, surface, reading, sectors, window, results);
+    match tested {
+        Single::Refused(refusal) => Single::Refused(refusal),
+        Single::Stored => store_step(
+            step_with(site, time, surface, reading, sectors, window),
+            results,
+        ),
+    }
+}
+
+// The sun in an hour, and the irradiance at a step of it.
+struct SunAndIrradiance {
+    sun: Hour,
+    parts: Irradiance,
+}
+
+fn irradiance_with(site: Site, time: f64, surface: Surface, reading: Reading) -> SunAndIrradiance
+    ensures { λ r. ⌜ (r .sun ≡ sunAt site time) × (r .parts ≡ irradianceAt site surface time reading) ⌝ }
+{
+    let fixed = fixed_of(site, surface);
+    let hour = current_hour(time);
+    let day = kept_day(hour / 24);
+    let latitude = fixed.latitude;
+    let tilt = fixed.tilt;
+    let declination = day.declination;
+    let sun = sun::hour::hour_by(
+        latitude,
+        declination,
+        day.values.equation_of_time,
+        fixed.time_shift,
+        hour % 24,
+    );
+    let orientation = fixed.orientation;
+    let incidence = irradiance::surface::incidence_of(
+        latitude,
+        declination,
+        tilt,
+        orientation,
+        sun,
+    );
+    let sky = irradiance::sky::sky_of(
+        site.direct_beam_conversion == 1,
+        sun,
+        day.values.extra_terrestrial_radiation,
+        reading.diffuse,
+        reading.direct,
+    );
+    let parts = irradiance::parts::calculated_direct_diffuse_total_irradiance(
+        tilt,
+        incidence,
+        sky,
+        sun.sin_altitude,
+        reading.reflectivity,
+    );
+    SunAndIrradiance {
+        sun: sun,
+        parts: parts,
+    }
+}
+
+fn store_breakdown(results: &mut [u8], sun: Hour, parts: Irradiance)
+    ensures { λ _. ⌜ now (results .exit) ≡ putBreakdown (now (results .entry)) sun parts ⌝ }
+{
+    store_double(results, 0, sun.altitude);
+    store_double(results, 1, sun.azimuth);
+    store_double(results, 2, parts.direct);
+    store_double(results, 3, parts.diffuse);
+    store_double(results, 4, parts.total);
+    store_double(results, 5, parts.sky);
+    store_double(results, 6, parts.circumsolar);
+    store_double(results, 7, parts.horizontal);
+    store_double(results, 8, parts.ground);
+}
+
+// The sun and the irradiance of one step with its breakdown, in the first nine words of the results.
+pub fn irradiance_call(
+    site: Site,
+    time: f64,
+    surface: Surface,
+    reading: Reading,
+    results: &mut [u8],
+) -> Single
+    ensures { λ r. ⌜ called r (now (results .exit)) ≡ irradianceCall site time surface reading (now (results .entry)) ⌝ }
+{
+    let tested = check_irradiance(site, time, surface, reading, results);
+    match tested {
+        Single::Refused(refusal) => Single::Refused(refusal),
+        Single::Stored => {
+            let both = irradiance_with(site, time, surface, reading);
+            let sun = both.sun;
+            let parts = both.parts;
+            store_breakdown(results, sun, parts);
+            Single::Stored
+        }
+    }
+}

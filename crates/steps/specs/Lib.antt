@@ -1,0 +1,2 @@
+-- What is kept from step to step.
+pub mod Kept

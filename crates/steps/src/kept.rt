@@ -1,0 +1,151 @@
+// What a run keeps from step to step, so that each thing is worked out once: what depends on the site and the surface alone, on the day,
+// and on the hour.
+ghost use mathlib.Core.Path.{_≡_};
+ghost use Prim.Native.Nat.{_/_, _≤_};
+ghost use Rattle.words.specs.Words.{wordCount};
+ghost use Rattle.objects.specs.Objects.{placed};
+ghost use Rattle.steps.specs.Kept.{fixedOf, keptDay, keptHour, irradianceKept};
+use angles::SinCos;
+use irradiance::parts::Irradiance;
+use irradiance::surface::Incidence;
+use jobs::answers::Reading;
+use objects::answers::FactorAnswer;
+use objects::surface::Surface;
+use objects::window::WindowShading;
+use sun::day::Day;
+use sun::hour::Hour;
+use sun::hour::sin_cos_of_degrees;
+use sun::site::Site;
+
+pub struct Fixed {
+    pub latitude: SinCos,
+    pub tilt: SinCos,
+    pub orientation: SinCos,
+    pub time_shift: f64,
+}
+
+pub fn fixed_of(site: Site, surface: Surface) -> Fixed
+    ensures { λ r. ⌜ r ≡ fixedOf site surface ⌝ }
+{
+    let latitude = sin_cos_of_degrees(site.latitude);
+    let tilt = sin_cos_of_degrees(surface.tilt);
+    let orientation = sin_cos_of_degrees(orientation::transform_to_180(surface.orientation));
+    let time_shift = sun::hour::init_time_shift(site.timezone, site.longitude);
+    Fixed {
+        latitude: latitude,
+        tilt: tilt,
+        orientation: orientation,
+        time_shift: time_shift,
+    }
+}
+
+// A day of the year, from 0.
+pub struct KeptDay {
+    pub index: u32,
+    pub values: Day,
+    pub declination: SinCos,
+}
+
+pub fn kept_day(index: u32) -> KeptDay
+    ensures { λ r. ⌜ r ≡ keptDay index ⌝ }
+{
+    let values = sun::day::day_of(index);
+    let declination = sin_cos_of_degrees(values.declination);
+    KeptDay {
+        index: index,
+        values: values,
+        declination: declination,
+    }
+}
+
+// The same day where it is still that day.
+pub fn day_for(index: u32, kept: KeptDay) -> KeptDay
+    requires { ⌜ kept ≡ keptDay (kept .index) ⌝ }
+    ensures { λ r. ⌜ r ≡ keptDay index ⌝ }
+{
+    if index == kept.index {
+        return kept;
+    }
+    kept_day(index)
+}
+
+// An hour of the year, from 0.
+pub struct KeptHour {
+    pub hour: u32,
+    pub extra_terrestrial_radiation: f64,
+    pub sun: Hour,
+    pub incidence: Incidence,
+    pub factor: FactorAnswer,
+}
+
+// Arcsines that do not wait for each other are worked out two at a time: those of the altitude and the incidence here.
+pub fn kept_hour(
+    site: Site,
+    surface: Surface,
+    fixed: Fixed,
+    day: KeptDay,
+    hour: u32,
+    sectors: &[u8],
+    window: WindowShading,
+) -> KeptHour
+    requires { ⌜ fixed ≡ fixedOf site surface ⌝ }
+    requires { ⌜ day ≡ keptDay (hour / 24) ⌝ }
+    requires { ⌜ wordCount (now sectors) / 27 ≤ 36 ⌝ }
+    ensures { λ r. ⌜ r ≡ keptHour site surface (now (sectors .entry)) (placed window) hour ⌝ }
+{
+    let l = fixed.latitude;
+    let t = fixed.tilt;
+    let o = fixed.orientation;
+    let d = day.declination;
+    let equation_of_time = day.values.equation_of_time;
+    let turn = sun::hour::turn_by(equation_of_time, fixed.time_shift, hour % 24);
+    let w = turn.hour_angle;
+    let sine = sun::hour::altitude_sine(l, d, w.cos);
+    let argument = irradiance::surface::incidence_argument(l, d, t, o, w);
+    let arcsines = arcsines::asin_both(sine, argument);
+    let cos_incidence = irradiance::surface::incidence_cosine(arcsines.second);
+    let sun = sun::hour::hour_from(l, d, turn, arcsines.first);
+    let incidence = irradiance::surface::incidence_by(cos_incidence, sun.cos_zenith);
+    let factor = shading::step::direct_shading_reduction_factor(
+        surface,
+        sun.altitude,
+        sun.azimuth,
+        sectors,
+        window,
+    );
+    KeptHour {
+        hour: hour,
+        extra_terrestrial_radiation: day.values.extra_terrestrial_radiation,
+        sun: sun,
+        incidence: incidence,
+        factor: factor,
+    }
+}
+
+// The irradiance at a step, by what is kept and the series' values.
+pub fn irradiance_kept(
+    fixed: Fixed,
+    conversion: u64,
+    kept: KeptHour,
+    reading: Reading,
+) -> Irradiance
+    ensures { λ r. ⌜ r ≡ irradianceKept fixed conversion kept reading ⌝ }
+{
+    let tilt = fixed.tilt;
+    let sun = kept.sun;
+    let incidence = kept.incidence;
+    let sky = irradiance::sky::sky_of(
+        conversion == 1,
+        sun,
+        kept.extra_terrestrial_radiation,
+        reading.diffuse,
+        reading.direct,
+    );
+    irradiance::parts::calculated_direct_diffuse_total_irradiance(
+        tilt,
+        incidence,
+        sky,
+        sun.sin_altitude,
+        reading.reflectivity,
+    )
+}

@@ -1,0 +1,5 @@
+// What one step needs, for a run and for the calls for one step.
+pub mod checks;
+pub mod kept;
+pub mod rows;
+pub mod series;
