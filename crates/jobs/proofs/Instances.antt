@@ -33,7 +33,7 @@ use Rattle.objects.specs.declared.answers.FactorAnswer.the-variants as factor
 use Rattle.words.specs.Lists.{firstFine}
 use Rattle.object_checks.specs.Checks.{within, aboveZero, surfaceFine, recordsFine, windowValuesFine, windowRecordFine, windowFine, objectValuesFine, objectFine, objectUnused, tripleFine, boundsFine, sectorRecordFine, sectorsFine}
 use Rattle.objects.specs.Records.{recordsFrom, distantKind, objectAt, objectsFrom, segmentAt, sectorsOf, windowObjectsOf}
-use Rattle.shading.specs.Extents.{withinRight, outsideSolarBeam, obstacleHeight}
+use Rattle.extents.specs.Extents.{withinRight, outsideSolarBeam, obstacleHeight}
 use Rattle.segments.specs.Segments.{found, betweenEnds, holdsAzimuth, visit, walkFrom, segmentOf}
 use Rattle.objects.specs.Objects.{isObstacle, isOverhang, counted}
 use Rattle.shading.specs.Factor.{Sun, extents, sunOn, obstacleExtents, overhangExtents, windowOverhangExtents, rightFinExtents, leftFinExtents, overhangShade, sunlitBetween, sunlitHeight, sunlitWidth, sunlitPart, leastOf, reductionFactor, hasReveal, factorIn, shadingFactor}

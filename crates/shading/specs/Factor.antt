@@ -14,7 +14,7 @@ use Rattle.objects.specs.declared.answers.FactorAnswer.{FactorAnswer}
 use Rattle.objects.specs.declared.answers.FactorAnswer.the-variants.{Factor, Refused}
 use Rattle.objects.specs.Objects.{ofKind, obstacle, overhang, rightFin, leftFin, reveal, isObstacle, isOverhang, counted}
 use Rattle.orientation.specs.Orientation.{orientation180}
-use Rattle.shading.specs.Extents.{outsideSolarBeam, obstacleHeight, overhangHeight, windowOverhangHeight, rightFinWidth, leftFinWidth}
+use Rattle.extents.specs.Extents.{outsideSolarBeam, obstacleHeight, overhangHeight, windowOverhangHeight, rightFinWidth, leftFinWidth}
 use Rattle.segments.specs.Segments.{Segment, found, gap, turned, noSector, segmentOf}
 
 -- ---- the shade extents of a list of objects

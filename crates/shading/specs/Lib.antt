@@ -1,4 +1,3 @@
-pub mod Extents
 pub mod Factor
 pub mod Steps
 pub mod Call

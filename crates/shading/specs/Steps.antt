@@ -4,11 +4,11 @@ use lib.Ieee.{Float}
 use Rattle.doubles.specs.Functions.{maxOf2}
 use Rattle.objects.specs.declared.surface.Surface.{Surface}
 use Rattle.objects.specs.declared.sectors.ShadingObject.{ShadingObject}
-use Rattle.shading.specs.declared.extents.SunOnSurface.{SunOnSurface}
+use Rattle.shading.specs.declared.sun_on_surface.SunOnSurface.{SunOnSurface}
 use Rattle.shading.specs.declared.distant.DistantShades.{DistantShades}
 use Rattle.objects.specs.declared.window.WindowShadingObject.{WindowShadingObject}
 use Rattle.shading.specs.declared.window.WindowShades.{WindowShades}
-use Rattle.shading.specs.Extents.{obstacleHeight, overhangHeight, windowOverhangHeight, rightFinWidth, leftFinWidth}
+use Rattle.extents.specs.Extents.{obstacleHeight, overhangHeight, windowOverhangHeight, rightFinWidth, leftFinWidth}
 use Rattle.objects.specs.Objects.{isObstacle, isOverhang, ofKind, overhang, rightFin, leftFin, reveal}
 use Rattle.shading.specs.Factor.{Sun}
 

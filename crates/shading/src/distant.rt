@@ -5,8 +5,7 @@ ghost use Rattle.doubles.specs.Functions.{largestOf};
 ghost use Rattle.objects.specs.Objects.{counted};
 ghost use Rattle.shading.specs.Factor.{obstacleExtents, overhangExtents};
 ghost use Rattle.shading.specs.Steps.{distantStep, sunOf};
-use crate::extents;
-use crate::extents::SunOnSurface;
+use crate::sun_on_surface::SunOnSurface;
 use objects::sectors::ShadingObject;
 use objects::sectors::ShadingObjectType;
 use objects::sectors::ShadingSegment;
@@ -29,7 +28,7 @@ fn with_object(
     let object_type = object.object_type;
     match object_type {
         ShadingObjectType::Obstacle => {
-            let height = extents::obstacle_shading_height(
+            let height = extents::extents::obstacle_shading_height(
                 surface.base_height,
                 object.height,
                 object.distance,
@@ -41,7 +40,7 @@ fn with_object(
             }
         }
         ShadingObjectType::Overhang => {
-            let height = extents::overhang_shading_height(
+            let height = extents::extents::overhang_shading_height(
                 surface.height,
                 surface.base_height,
                 object.height,

@@ -3,12 +3,11 @@ ghost use mathlib.Core.Path.{_≡_};
 ghost use mathlib.Core.Bool.{cond};
 ghost use Rattle.doubles.specs.Functions.{floatMin};
 ghost use Rattle.objects.specs.Objects.{ofKind, obstacle, placed};
-ghost use Rattle.shading.specs.Factor.{sunlitPart, sunlitBetween, nearFactor, leastOf, extents, factorIn, sunOn};
+ghost use Rattle.shading.specs.Factor.{sunlitPart, sunlitBetween, nearFactor, leastOf, extents, factorIn};
 ghost use Rattle.segments.specs.Segments.{found};
 ghost use Rattle.shading.specs.Steps.{sunOf};
 use crate::distant;
-use crate::extents;
-use crate::extents::SunOnSurface;
+use crate::sun_on_surface::SunOnSurface;
 use crate::window;
 use objects::answers::FactorAnswer;
 use objects::answers::Refusal;
@@ -35,7 +34,7 @@ fn near_factor(
 ) -> f64
     ensures { λ r. ⌜ r ≡ nearFactor surface (sunOf sun) «hk_ovh» «wk_sun» object ⌝ }
 {
-    let new_shade_height = extents::obstacle_shading_height(
+    let new_shade_height = extents::extents::obstacle_shading_height(
         surface.base_height,
         object.size,
         object.distance,
@@ -124,19 +123,4 @@ pub fn factor_in(
     let first = sunlit_part(surface, hk_sun, wk_sun);
     let factor = least_factor(first, surface, sun, hk_ovh, wk_sun, window);
     FactorAnswer::Factor(factor)
-}
-
-// The sun as it stands to the surface.
-pub fn sun_on(surface: Surface, altitude: f64, azimuth: f64) -> SunOnSurface
-    ensures { λ r. ⌜ sunOf r ≡ sunOn surface altitude azimuth ⌝ }
-{
-    let difference = azimuth - orientation::transform_to_180(surface.orientation);
-    let radians = doubles::to_radians(difference);
-    let both = angles::sin_cos(radians);
-    SunOnSurface {
-        tan_altitude: angles::tan(doubles::to_radians(altitude)),
-        difference: difference,
-        cos_difference: both.cos,
-        tan_difference: both.sin / both.cos,
-    }
 }

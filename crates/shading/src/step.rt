@@ -4,11 +4,11 @@ ghost use Prim.Native.Nat.{_/_, _≤_};
 ghost use Rattle.words.specs.Words.{wordCount};
 ghost use Rattle.objects.specs.Objects.{listed, placed};
 ghost use Rattle.shading.specs.Factor.{shadingFactor};
-ghost use Rattle.shading.specs.Call.{sunFine};
-ghost use Rattle.shading.specs.Call.{factorCall};
+ghost use Rattle.shading.specs.Call.{sunFine, factorCall};
 ghost use Rattle.objects.specs.Records.{sectorsOf};
-use crate::beam;
 use crate::factor;
+use crate::sun_on_surface;
+use extents::beam;
 use objects::answers::FactorAnswer;
 use objects::answers::Refusal;
 use objects::records;
@@ -33,7 +33,7 @@ pub fn direct_shading_reduction_factor(
     }
     match segments::get_segment_in_bytes(azimuth, sectors) {
         Place::At(i) => {
-            let sun = factor::sun_on(surface, altitude, azimuth);
+            let sun = sun_on_surface::sun_on(surface, altitude, azimuth);
             let segment = records::segment_at(sectors, i);
             factor::factor_in(surface, sun, segment, window)
         }
@@ -61,7 +61,7 @@ pub fn factor_among(
     let n = sectors.count as usize;
     match segments::segment_in(azimuth, places, n) {
         Place::At(i) => {
-            let sun = factor::sun_on(surface, altitude, azimuth);
+            let sun = sun_on_surface::sun_on(surface, altitude, azimuth);
             let segment = places[i];
             factor::factor_in(surface, sun, segment, window)
         }

@@ -5,8 +5,7 @@ ghost use Rattle.doubles.specs.Functions.{largestOf};
 ghost use Rattle.objects.specs.Objects.{placed};
 ghost use Rattle.shading.specs.Factor.{windowOverhangExtents, rightFinExtents, leftFinExtents, hasReveal};
 ghost use Rattle.shading.specs.Steps.{sunOf, withOverhang, withRightFin, withLeftFin, windowStep};
-use crate::extents;
-use crate::extents::SunOnSurface;
+use crate::sun_on_surface::SunOnSurface;
 use objects::window::WindowShading;
 use objects::window::WindowShadingObject;
 use objects::window::WindowShadingType;
@@ -62,15 +61,20 @@ fn with_object(shades: WindowShades, sun: SunOnSurface, object: WindowShadingObj
         WindowShadingType::Obstacle => shades,
         WindowShadingType::Overhang => with_overhang(
             shades,
-            extents::window_overhang_height(size, away, sun.tan_altitude, sun.cos_difference),
+            extents::extents::window_overhang_height(
+                size,
+                away,
+                sun.tan_altitude,
+                sun.cos_difference,
+            ),
         ),
         WindowShadingType::SideFinRight => with_right_fin(
             shades,
-            extents::right_fin_width(size, away, sun.difference, sun.tan_difference),
+            extents::extents::right_fin_width(size, away, sun.difference, sun.tan_difference),
         ),
         WindowShadingType::SideFinLeft => with_left_fin(
             shades,
-            extents::left_fin_width(size, away, sun.difference, sun.tan_difference),
+            extents::extents::left_fin_width(size, away, sun.difference, sun.tan_difference),
         ),
         WindowShadingType::Reveal => WindowShades {
             overhang: shades.overhang,

@@ -16,7 +16,7 @@ use Rattle.doubles.proofs.Ranges.{Between}
 use Rattle.objects.specs.declared.surface.Surface.{Surface}
 use Rattle.objects.specs.declared.sectors.ShadingObject.{ShadingObject}
 use Rattle.objects.specs.declared.window.WindowShadingObject.{WindowShadingObject}
-use Rattle.shading.specs.Extents.{obstacleHeight}
+use Rattle.extents.specs.Extents.{obstacleHeight}
 use Rattle.objects.specs.Objects.{ofKind, obstacle}
 use Rattle.shading.specs.Factor.{Sun, extents, obstacleExtents, overhangExtents, windowOverhangExtents, rightFinExtents, leftFinExtents, overhangShade, sunlitBetween, sunlitHeight, sunlitWidth, sunlitPart, nearFactor, reductionFactor}
 use Rattle.shading.specs.Factor.{nearObstacleHeight}

@@ -14,7 +14,7 @@ use Rattle.doubles.proofs.MinMax.{min-mono}
 use Rattle.objects.specs.declared.surface.Surface.{Surface}
 use Rattle.objects.specs.declared.sectors.ShadingObject.{ShadingObject}
 use Rattle.objects.specs.declared.window.WindowShadingObject.{WindowShadingObject}
-use Rattle.shading.specs.Extents.{obstacleHeight, overhangHeight, windowOverhangHeight, rightFinWidth, leftFinWidth}
+use Rattle.extents.specs.Extents.{obstacleHeight, overhangHeight, windowOverhangHeight, rightFinWidth, leftFinWidth}
 use Rattle.objects.specs.Objects.{ofKind, isObstacle, isOverhang, obstacle, overhang, rightFin, leftFin}
 use Rattle.shading.specs.Factor.{Sun, obstacleExtents, overhangExtents, windowOverhangExtents, rightFinExtents, leftFinExtents, overhangShade, sunlitBetween, sunlitHeight, sunlitWidth, sunlitPart, reductionFactor}
 use Rattle.shading_laws.specs.Comparison.{AcceptedSurface, NoNanExtent, AcceptedNear, Holds}

@@ -11,7 +11,7 @@ use Rattle.objects.specs.declared.surface.Surface.{Surface}
 use Rattle.objects.specs.declared.sectors.ShadingObject.{ShadingObject}
 use Rattle.objects.specs.declared.sectors.ShadingSegment.{ShadingSegment}
 use Rattle.objects.specs.declared.window.WindowShadingObject.{WindowShadingObject}
-use Rattle.shading.specs.Extents.{outsideSolarBeam}
+use Rattle.extents.specs.Extents.{outsideSolarBeam}
 use Rattle.segments.specs.Segments.{found, segmentOf}
 use Rattle.segments.specs.SameSectors.{SameBounds}
 use Rattle.objects.specs.Objects.{counted, ofKind, obstacle}

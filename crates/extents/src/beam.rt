@@ -2,7 +2,7 @@
 use orientation::transform_to_180;
 use orientation::wrap_once;
 ghost use mathlib.Core.Path.{_≡_};
-ghost use Rattle.shading.specs.Extents.{withinRight, outsideSolarBeam};
+ghost use Rattle.extents.specs.Extents.{withinRight, outsideSolarBeam};
 
 fn within_right(x: f64) -> bool
     ensures { λ r. ⌜ r ≡ withinRight x ⌝ }

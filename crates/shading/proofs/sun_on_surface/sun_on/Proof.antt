@@ -1,8 +1,8 @@
 use Rattle.angles.specs.Sine.{tangent}
 use Rattle.shading.specs.Factor.{sunOn}
 use Rattle.shading.specs.Steps.{sunOf}
-use Rattle.shading.proofs.factor.sun_on.Statement.{statement}
-use Rattle.shading.proofs.factor.sun_on.Tie as tie
+use Rattle.shading.proofs.sun_on_surface.sun_on.Statement.{statement}
+use Rattle.shading.proofs.sun_on_surface.sun_on.Tie as tie
 
 transform-to-180-requires : tie.Need-transform-to-180-requires
 transform-to-180-requires c κs = tt

@@ -1,6 +1,6 @@
-use Rattle.shading.specs.Extents.{outsideSolarBeam}
-use Rattle.shading.proofs.beam.outside_solar_beam.Statement.{statement}
-use Rattle.shading.proofs.beam.outside_solar_beam.Tie as tie
+use Rattle.extents.specs.Extents.{outsideSolarBeam}
+use Rattle.extents.proofs.beam.outside_solar_beam.Statement.{statement}
+use Rattle.extents.proofs.beam.outside_solar_beam.Tie as tie
 
 transform-to-180-requires : tie.Need-transform-to-180-requires
 transform-to-180-requires c κs = tt

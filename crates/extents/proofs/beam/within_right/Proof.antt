@@ -1,8 +1,8 @@
 use mathlib.Core.Path.{refl}
 use lib.Ieee.{ofBits, neg}
-use Rattle.shading.specs.Extents.{withinRight}
-use Rattle.shading.proofs.beam.within_right.Statement.{statement}
-use Rattle.shading.proofs.beam.within_right.Tie as tie
+use Rattle.extents.specs.Extents.{withinRight}
+use Rattle.extents.proofs.beam.within_right.Statement.{statement}
+use Rattle.extents.proofs.beam.within_right.Tie as tie
 
 returns : tie.Need-returns
 unfolding withinRight ofBits neg
