@@ -1,4 +1,4 @@
--- Two jobs compared: the claim, proved. The laws at one step (`Answers` of `shading`) go through the rows that an accepted run leaves
+-- Two jobs compared: the claim, proved. The laws at one step (`Answers` of `shading_laws`) go through the rows that an accepted run leaves
 -- to the factors in its results list, and by the order of sums to its sum. Assumes nothing.
 use mathlib.Core.Path.{_≡_, refl, sym, ap, ap₂, _∙_, subst, subst₂, subst₃}
 use mathlib.Core.List.{List, []}
