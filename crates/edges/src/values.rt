@@ -1,8 +1,7 @@
 // What an example comes to.
 ghost use mathlib.Core.Path.{_≡_};
 ghost use lib.Ieee.{binary64, toBits};
-ghost use Rattle.edges.specs.Values.{factorValue, runValue, sameValue};
-ghost use Rattle.edges.specs.Values.{accepted as accepted-value, refused as refused-value};
+ghost use Rattle.edges.specs.Values.{factorValue, runValue, sameValue, accepted as accepted-value, refused as refused-value};
 use jobs::answers::RunAnswer;
 use objects::answers::FactorAnswer;
 use objects::answers::number_of;

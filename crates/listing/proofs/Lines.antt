@@ -9,9 +9,8 @@ use borrow.Author.Tests.{eqb-true, eqb-false}
 use lib.Dec.{eqb}
 use lib.ListN.{length, getD, take, drop, take-append-drop, drop-of-length-le, length-take}
 use lib.Seq.{drop-cons, drop-drop}
-use Rattle.text.specs.Text.{filled, usedAfter}
+use Rattle.text.specs.Text.{filled, usedAfter, lineEnd}
 use Rattle.listing.specs.declared.reader.Reader.{Reader}
-use Rattle.text.specs.Text.{lineEnd}
 use Rattle.listing.specs.Reading.{Reading, readingOf, withPart, lineOver, lineStart, printed, readOn, printedOn}
 use Rattle.text.proofs.Ends.{from-on, end-from, end-within}
 use Rattle.text.proofs.Pieces.{length-filled, nothing-filled, used-twice, filled-twice}

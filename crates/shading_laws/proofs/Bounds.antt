@@ -18,8 +18,7 @@ use Rattle.objects.specs.declared.sectors.ShadingObject.{ShadingObject}
 use Rattle.objects.specs.declared.window.WindowShadingObject.{WindowShadingObject}
 use Rattle.extents.specs.Extents.{obstacleHeight}
 use Rattle.objects.specs.Objects.{ofKind, obstacle}
-use Rattle.shading.specs.Factor.{Sun, extents, obstacleExtents, overhangExtents, windowOverhangExtents, rightFinExtents, leftFinExtents, overhangShade, sunlitBetween, sunlitHeight, sunlitWidth, sunlitPart, nearFactor, reductionFactor}
-use Rattle.shading.specs.Factor.{nearObstacleHeight}
+use Rattle.shading.specs.Factor.{Sun, extents, obstacleExtents, overhangExtents, windowOverhangExtents, rightFinExtents, leftFinExtents, overhangShade, sunlitBetween, sunlitHeight, sunlitWidth, sunlitPart, nearFactor, reductionFactor, nearObstacleHeight}
 use Rattle.shading_laws.specs.Comparison.{AcceptedSurface, NoNanExtent, AcceptedNear}
 use Rattle.shading_laws.proofs.Steps.{Side, cut-between, remains-between, part, part-nonneg, part-le-one, nearHeight, near-between, side-number, high}
 use Rattle.shading_laws.proofs.Members.{Extent, extents-from, least-is}

@@ -4,10 +4,9 @@ use mathlib.Core.Bool.{Bool, true, false, not}
 use mathlib.Core.List.{List, _∷_, map}
 use Prim.Native.Nat.{ℕ, zero, suc, _+_, _≤_}
 use native.Mathlib.Nat.{le-of-eq}
-use lib.Dec.{T}
+use lib.Dec.{T, not-T}
 use lib.Ieee.{Float, lt, eq, ne}
 use lib.Ieee.Bits.{is-false}
-use lib.Dec.{not-T}
 use Rattle.doubles.specs.Arithmetic.{_⊕_, _⊖_}
 use Rattle.doubles.specs.Order.{_≼_}
 use Rattle.doubles.proofs.Order.{eq→cross, cross→le, le-trans, lt-excludes}

@@ -2,8 +2,7 @@
 ghost use mathlib.Core.Path.{_≡_};
 ghost use Prim.Native.Nat.{_-_, min};
 ghost use lib.ListN.{length};
-ghost use Rattle.text.specs.Text.{sameText, filled, usedAfter};
-ghost use Rattle.text.specs.Text.{lineEnd};
+ghost use Rattle.text.specs.Text.{sameText, filled, usedAfter, lineEnd};
 
 // The place of the first line feed from place `from` on, and the piece's length where there is none.
 pub fn line_end(piece: &[u8], from: usize) -> usize

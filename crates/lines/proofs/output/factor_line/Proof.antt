@@ -3,8 +3,7 @@ use mathlib.Core.Path.{refl}
 use borrow.Author.Needs.{needs}
 use Rattle.words.specs.Hexadecimal.{putDigits, digitsOf, digits}
 use Rattle.text.specs.Text.{ascii}
-use Rattle.lines.specs.Line.{outputLine}
-use Rattle.lines.specs.Line.{bytesOf}
+use Rattle.lines.specs.Line.{outputLine, bytesOf}
 use Rattle.lines.proofs.output.factor_line.Statement.{statement}
 use Rattle.lines.proofs.output.factor_line.Tie as tie
 

@@ -4,8 +4,7 @@ use mathlib.Core.List.{_++_}
 use native.Mathlib.Omega.{arith}
 use borrow.Author.Needs.{needs}
 use Rattle.text.specs.Text.{ascii}
-use Rattle.lines.specs.Line.{numeral, outputLine}
-use Rattle.lines.specs.Line.{bytesOf}
+use Rattle.lines.specs.Line.{numeral, outputLine, bytesOf}
 use Rattle.lines.proofs.Numerals.{below-hundred, one-digit, two-digits}
 use Rattle.lines.proofs.output.refused_line.Statement.{statement}
 use Rattle.lines.proofs.output.refused_line.Tie as tie
