@@ -57,7 +57,7 @@ fn sun_angles() {
     // The code counts days from 0.
     compare_double(
         b"equation of time n = 359 gives 0",
-        sun::day::init_equation_of_time(358),
+        days::init_equation_of_time(358),
         0,
     );
     compare_double(

@@ -10,7 +10,7 @@ use lib.Ieee.{Float, binary64, add, sub, mul, div, neg, lt, le, eq, isNan, toUns
 use Rattle.doubles.specs.Arithmetic.{whole, decimal}
 use Rattle.doubles.specs.Functions.{cubeOf, floorOf, toRadians, floatMax}
 use Rattle.angles.specs.Sine.{isAngle, quarters, turns, quadrant, remainder, sineSum, cosineSum, sineSeries, cosineSeries, sineAt, cosineAt, clamp, sine, cosine, tangent}
-use Rattle.sun.specs.Day.{equationOfTime}
+use Rattle.days.specs.Day.{equationOfTime}
 use Rattle.sun.specs.Hour.{timeShift, hourAngle}
 use Rattle.orientation.specs.Orientation.{orientation180, wrappedOnce}
 use Rattle.irradiance.specs.Sky.{clearness, tableRow}

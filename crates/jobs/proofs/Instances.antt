@@ -19,7 +19,7 @@ use Rattle.arcsines.specs.Arcsine.{isSine, arcsineSeries, halfPi, arcsineUpward
 use Rattle.powers.specs.Power.{logarithmOf, powerOf, powerBy, powMinus1253}
 use Rattle.words.specs.Words.{number, wordCount, wordAt, doubleAt}
 use Rattle.sun.specs.declared.hour.Hour.{Hour}
-use Rattle.sun.specs.Day.{orbitDeviation, solarDeclination, equationOfTime, extraTerrestrialRadiation, dayOf}
+use Rattle.days.specs.Day.{orbitDeviation, solarDeclination, equationOfTime, extraTerrestrialRadiation, dayOf}
 use Rattle.sun.specs.Hour.{sinCosOf, timeShift, solarTime, hourAngle, altitudeBy, solarZenith, azimuthBranch, azimuthBy, airMassBy, hourBy, hourOf}
 use Rattle.orientation.specs.Orientation.{orientation180, wrappedOnce}
 use Rattle.simulation_time.specs.Steps.{runFine, goesOn, stepsFrom, stepCount, timeAt, timesFrom, times}

@@ -5,7 +5,7 @@ use lib.Dec.{eqb}
 use lib.Ieee.{Float}
 use Rattle.sun.specs.declared.site.Site.{Site}
 use Rattle.sun.specs.declared.hour.Hour.{Hour}
-use Rattle.sun.specs.Day.{dayOf}
+use Rattle.days.specs.Day.{dayOf}
 use Rattle.sun.specs.Hour.{sinCosOf, hourOf}
 use Rattle.orientation.specs.Orientation.{orientation180}
 use Rattle.irradiance.specs.declared.parts.Irradiance.{Irradiance}

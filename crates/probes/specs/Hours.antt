@@ -4,8 +4,8 @@ use lib.Dec.{eqb}
 use lib.IntN.{ℤ}
 use lib.Ieee.{Float}
 use Rattle.angles.specs.declared.SinCos.{SinCos}
-use Rattle.sun.specs.declared.day.Day.{Day}
-use Rattle.sun.specs.Day.{dayOf}
+use Rattle.days.specs.declared.Day.{Day}
+use Rattle.days.specs.Day.{dayOf}
 use Rattle.sun.specs.Hour.{sinCosOf, timeShift, hourBy}
 use Rattle.irradiance.specs.Sky.{skyOf}
 use Rattle.orientation.specs.Orientation.{orientation180}

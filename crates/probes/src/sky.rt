@@ -4,39 +4,39 @@ ghost use Prim.Native.Nat.{_+_, _/_, _%_};
 ghost use lib.Dec.{eqb};
 ghost use Rattle.doubles.specs.Functions.{toRadians};
 ghost use Rattle.angles.specs.Sine.{sine};
-ghost use Rattle.sun.specs.Day.{orbitDeviation, solarDeclination, equationOfTime, extraTerrestrialRadiation, dayOf};
+ghost use Rattle.days.specs.Day.{orbitDeviation, solarDeclination, equationOfTime, extraTerrestrialRadiation, dayOf};
 ghost use Rattle.sun.specs.Hour.{timeShift, solarTime, hourAngle, solarAltitude, solarZenith, solarAzimuth, airMass};
 ghost use Rattle.irradiance.specs.Sky.{directBeam, clearness, skyBrightness, circumsolarBrightness, horizontalBrightness};
 ghost use Rattle.probes.specs.Hours.{hourWith, hourAt, dayAnswer, dayGiven, pair};
 use angles::SinCos;
-use sun::day::Day;
+use days::Day;
 
 #[no_mangle]
 pub extern "C" fn probe_init_earth_orbit_deviation(current_day: u32) -> f64
     ensures { λ r. ⌜ r ≡ orbitDeviation («current_day» + 1) ⌝ }
 {
-    sun::day::init_earth_orbit_deviation(current_day)
+    days::init_earth_orbit_deviation(current_day)
 }
 
 #[no_mangle]
 pub extern "C" fn probe_init_solar_declination(earth_orbit_deviation: f64) -> f64
     ensures { λ r. ⌜ r ≡ solarDeclination «earth_orbit_deviation» ⌝ }
 {
-    sun::day::init_solar_declination(earth_orbit_deviation)
+    days::init_solar_declination(earth_orbit_deviation)
 }
 
 #[no_mangle]
 pub extern "C" fn probe_init_equation_of_time(current_day: u32) -> f64
     ensures { λ r. ⌜ r ≡ equationOfTime («current_day» + 1) ⌝ }
 {
-    sun::day::init_equation_of_time(current_day)
+    days::init_equation_of_time(current_day)
 }
 
 #[no_mangle]
 pub extern "C" fn probe_init_extra_terrestrial_radiation(earth_orbit_deviation: f64) -> f64
     ensures { λ r. ⌜ r ≡ extraTerrestrialRadiation «earth_orbit_deviation» ⌝ }
 {
-    sun::day::init_extra_terrestrial_radiation(earth_orbit_deviation)
+    days::init_extra_terrestrial_radiation(earth_orbit_deviation)
 }
 
 #[no_mangle]
@@ -243,7 +243,7 @@ pub extern "C" fn probe_hour(
 ) -> ProbeHour
     ensures { λ r. ⌜ r ≡ hourAt latitude longitude timezone hour «conversion_needed» tilt orientation diffuse direct reflectivity ⌝ }
 {
-    let day = sun::day::day_of(hour / 24);
+    let day = days::day_of(hour / 24);
     hour_with(
         sun::hour::sin_cos_of_degrees(latitude),
         sun::hour::sin_cos_of_degrees(day.declination),
@@ -270,7 +270,7 @@ pub struct ProbeDay {
 pub extern "C" fn probe_day_of(current_day: u32) -> ProbeDay
     ensures { λ r. ⌜ r ≡ dayAnswer (dayOf («current_day» + 1)) ⌝ }
 {
-    let day = sun::day::day_of(current_day);
+    let day = days::day_of(current_day);
     ProbeDay {
         declination: day.declination,
         equation_of_time: day.equation_of_time,

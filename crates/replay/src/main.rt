@@ -1,14 +1,6 @@
 // Replays answers of the published Rust: calls the code with what is in four files and compares. Prints for each file how many
 // records it has and how many of them come out otherwise. `oracle/README.md` has the files' format.
-ghost use mathlib.Core.Path.{_≡_};
-ghost use Rattle.replay.specs.Differs.{recordDiffers};
-
-mod factors;
-mod leaves;
-mod listings;
-mod parts;
-mod whole_runs;
-
+use kept_answers::parts::record_end;
 use words::word_at;
 
 // How many records there were, and how many came out otherwise.
@@ -23,36 +15,13 @@ struct Progress {
     going: bool,
 }
 
-// Whether a record's call answers otherwise. A record of no kind does too, and one that is cut short.
-fn differs(kept: &[u8]) -> bool
-    ensures { λ r. ⌜ r ≡ recordDiffers (now (kept .entry)) ⌝ }
-{
-    if word_at(kept, 1) != kept.len() as u64 {
-        return true;
-    }
-    let kind = word_at(kept, 0);
-    if kind == 1 {
-        return whole_runs::differs(kept);
-    }
-    if kind == 2 {
-        return factors::differs(kept);
-    }
-    if kind == 3 {
-        return leaves::differs(kept);
-    }
-    if kind == 4 {
-        return listings::differs(kept);
-    }
-    true
-}
-
 // The tally with one record more. The zeros behind a block's last record are none.
 fn with_record(tally: Tally, kept: &[u8]) -> Tally {
     if word_at(kept, 0) == 0 {
         return tally;
     }
     let count = std::num::wrapping_add_u64(tally.count, 1);
-    if differs(kept) {
+    if kept_answers::differs(kept) {
         return Tally {
             count: count,
             different: std::num::wrapping_add_u64(tally.different, 1),
@@ -69,7 +38,7 @@ fn with_block(first: Tally, block: &[u8]) -> Tally {
     let mut tally = first;
     let mut at = 0;
     while at < block.len() {
-        let end = parts::record_end(block, at);
+        let end = record_end(block, at);
         tally = with_record(tally, &block[at..end]);
         at = end;
     }

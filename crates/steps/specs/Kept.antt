@@ -3,7 +3,7 @@ use mathlib.Core.List.{List}
 use Prim.Native.Nat.{ℕ, _+_, _/_}
 use lib.Dec.{eqb}
 use Rattle.sun.specs.declared.site.Site.{Site}
-use Rattle.sun.specs.Day.{dayOf}
+use Rattle.days.specs.Day.{dayOf}
 use Rattle.sun.specs.Hour.{sinCosOf, timeShift, hourOf}
 use Rattle.orientation.specs.Orientation.{orientation180}
 use Rattle.irradiance.specs.declared.parts.Irradiance.{Irradiance}

@@ -6,13 +6,13 @@ ghost use Rattle.words.specs.Words.{wordCount};
 ghost use Rattle.objects.specs.Objects.{placed};
 ghost use Rattle.steps.specs.Kept.{fixedOf, keptDay, keptHour, irradianceKept};
 use angles::SinCos;
+use days::Day;
 use irradiance::parts::Irradiance;
 use irradiance::surface::Incidence;
 use jobs::answers::Reading;
 use objects::answers::FactorAnswer;
 use objects::surface::Surface;
 use objects::window::WindowShading;
-use sun::day::Day;
 use sun::hour::Hour;
 use sun::hour::sin_cos_of_degrees;
 use sun::site::Site;
@@ -49,7 +49,7 @@ pub struct KeptDay {
 pub fn kept_day(index: u32) -> KeptDay
     ensures { λ r. ⌜ r ≡ keptDay index ⌝ }
 {
-    let values = sun::day::day_of(index);
+    let values = days::day_of(index);
     let declination = sin_cos_of_degrees(values.declination);
     KeptDay {
         index: index,

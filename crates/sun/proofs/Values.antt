@@ -4,14 +4,8 @@ use mathlib.Core.Bool.{true}
 use lib.IntN.{pos}
 use lib.Ieee.{add, sub, mul, div, neg, lt, ofInt}
 use Rattle.doubles.specs.Arithmetic.{whole, decimal}
-use Rattle.sun.specs.Day.{equationOfTime}
 use Rattle.sun.specs.Hour.{timeShift, hourAngle}
-use Rattle.orientation.specs.Orientation.{orientation180, wrappedOnce}
-
--- day number 359 gives 0
-pub equation-359 : equationOfTime 359 ≡ whole 0
-unfolding equationOfTime mul
-equation-359 = refl
+use Rattle.orientation.specs.Orientation.{wrappedOnce}
 
 -- solar time 0.5 gives hour angle 180, 0 gives −172.5, 24.5 gives −180
 pub hour-angle-half : hourAngle (decimal 5 1) ≡ whole 180
@@ -34,12 +28,3 @@ shift-0 = refl
 pub shift-west : lt (whole 0) (timeShift (pos 0) (neg (decimal 5 1))) ≡ true
 unfolding timeShift sub div ofInt lt neg decimal
 shift-west = refl
-
--- orientation 0 becomes 180, 360 becomes −180
-pub from-north : orientation180 (whole 0) ≡ whole 180
-unfolding orientation180 sub add neg
-from-north = refl
-
-pub all-round : orientation180 (whole 360) ≡ neg (whole 180)
-unfolding orientation180 sub add neg
-all-round = refl

@@ -11,7 +11,7 @@ use Rattle.angles.specs.declared.SinCos.{SinCos}
 use Rattle.angles.specs.Sine.{sine, cosine, tangent}
 use Rattle.arcsines.specs.Arcsine.{arcsine}
 use Rattle.powers.specs.Power.{powMinus1253}
-use Rattle.sun.specs.Day.{dayOf}
+use Rattle.days.specs.Day.{dayOf}
 use Rattle.orientation.specs.Orientation.{wrappedOnce}
 use Rattle.sun.specs.declared.site.Site.{Site}
 use Rattle.sun.specs.declared.hour.Hour.{Hour}

@@ -1,3 +1,2 @@
-pub mod Day
 pub mod Hour
 pub mod HourParts

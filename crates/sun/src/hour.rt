@@ -8,9 +8,9 @@ ghost use Rattle.angles.specs.Sine.{cosine};
 ghost use Rattle.arcsines.specs.Arcsine.{arcsine};
 ghost use Rattle.sun.specs.HourParts.{heightOf, turnBy, hourFrom};
 ghost use Rattle.sun.specs.Hour.{sinCosOf, timeShift, solarTime, hourAngle, altitudeBy, solarAltitude, solarZenith, azimuthBranch, solarAzimuth, airMassBy, airMass, hourBy, hourOf};
-use crate::day::day_of;
 use crate::site::Site;
 use angles::SinCos;
+use days::day_of;
 use orientation::wrap_once;
 
 // The sine and the cosine of an angle in degrees.

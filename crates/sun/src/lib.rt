@@ -1,4 +1,3 @@
-// The sun's angles (ISO 52010-1), after the `init_` functions of the Rust: what depends on the day alone, and what on the hour.
-pub mod day;
+// The sun's angles (ISO 52010-1), after the `init_` functions of the Rust.
 pub mod hour;
 pub mod site;

@@ -1,0 +1,112 @@
+-- When a kept answer differs from what the definitions say. A record that is cut short differs too.
+use mathlib.Core.Bool.{Bool, true, cond, not, _&&_, _||_}
+use mathlib.Core.List.{List}
+use Prim.Native.Nat.{ℕ, _^_}
+use lib.Dec.{eqb, ltb}
+use lib.ListN.{length, take, replicate}
+use lib.IntN.{ℤ, pos}
+use lib.Ieee.{Float, binary64, toBits, toSigned, le, lt, neg}
+use Rattle.doubles.specs.Arithmetic.{whole}
+use Rattle.words.specs.Words.{wordAt, doubleAt}
+use Rattle.objects.specs.declared.answers.FactorAnswer.{FactorAnswer}
+use Rattle.objects.specs.declared.answers.FactorAnswer.the-variants.{Factor, Refused}
+use Rattle.objects.specs.Refusals.{numberOf}
+use Rattle.shading.specs.Call.{factorCall}
+use Rattle.sun.specs.declared.site.Site.{Site}
+use Rattle.simulation_time.specs.declared.run.Run.{Run}
+use Rattle.jobs.specs.Job.{jobOf}
+use Rattle.jobs.specs.Run.{Ran, runOf, numberFor, stepFor, countFor, sumFor}
+use Rattle.jobs.specs.declared.answers.RunAnswer.{RunAnswer}
+use Rattle.text.specs.Text.{sameText, linesOf}
+use Rattle.listing.specs.Listing.{body}
+use Rattle.kept_answers.specs.Records.{listEnd, part, surfaceAt}
+use Rattle.kept_answers.specs.Leaves.{leafOf}
+
+-- ---- functions of one to three doubles
+
+unfoldable pub leafDiffers : List ℕ → Bool
+leafDiffers l = not (eqb (toBits binary64 (leafOf (wordAt l 2) (doubleAt l 3) (doubleAt l 4) (doubleAt l 5))) (wordAt l 6))
+
+-- ---- factor calls
+
+unfoldable pub isFactor : List ℕ → ℕ → Float → Bool
+isFactor l number factor = eqb (wordAt l 11) number && eqb (wordAt l 12) (toBits binary64 factor)
+
+-- the factor is 0 where refused
+unfoldable pub factorKept : List ℕ → FactorAnswer → Bool
+factorKept l (Factor factor) = isFactor l 0 factor
+factorKept l (Refused refusal) = isFactor l (numberOf refusal) (whole 0)
+
+unfoldable pub factorDiffers : List ℕ → Bool
+factorDiffers l =
+    let a = listEnd l 104 (wordAt l 9) in
+    let b = listEnd l a (wordAt l 10) in
+    ltb (length l) 104 || not (factorKept l (factorCall (doubleAt l 2) (doubleAt l 3) (surfaceAt l 4) (part l 104 a) (part l a b)))
+
+-- ---- shade listings: as much of the lines as a block can hold
+
+unfoldable pub isAnsweredBy : List ℕ → List ℕ → Bool
+isAnsweredBy text lines = sameText (take 65536 (body (linesOf text))) lines
+
+unfoldable pub listingDiffers : List ℕ → Bool
+listingDiffers l =
+    let a = listEnd l 32 (wordAt l 2) in
+    let b = listEnd l a (wordAt l 3) in
+    ltb (length l) 32 || not (isAnsweredBy (part l 32 a) (part l a b))
+
+-- ---- whole runs
+
+-- the whole number that a double is, without its fraction; 0 where it is none of 64 bits
+unfoldable pub wholeOf : Float → ℤ
+wholeOf x = cond (le (neg (whole (2 ^ 63))) x) (cond (lt x (whole (2 ^ 63))) (toSigned 63 x) (pos 0)) (pos 0)
+
+unfoldable pub siteOf : List ℕ → Site
+siteOf l = record {
+  latitude = doubleAt l 2;
+  longitude = doubleAt l 3;
+  timezone = wholeOf (doubleAt l 4);
+  «start_day» = wordAt l 5;
+  «time_series_step» = doubleAt l 6;
+  «leap_year» = wordAt l 7;
+  «direct_beam_conversion» = wordAt l 8;
+}
+
+unfoldable pub runAt : List ℕ → Run
+runAt l = record { start = doubleAt l 9; end = doubleAt l 10; step = doubleAt l 11 }
+
+unfoldable pub answerKept : List ℕ → RunAnswer → Bool
+answerKept l answer =
+    eqb (wordAt l 23) (numberFor answer) && eqb (wordAt l 24) (stepFor answer)
+    && (eqb (wordAt l 25) (countFor answer) && eqb (wordAt l 26) (toBits binary64 (sumFor answer)))
+
+unfoldable pub runKept : List ℕ → List ℕ → Ran → Bool
+runKept l left ran = sameText (ran .results) left && answerKept l (ran .answer)
+
+-- before the run every byte of the results is A5; as many are lent as there are afterwards, at most 1,024
+unfoldable pub lent : List ℕ → List ℕ
+lent left = take (length left) (replicate 1024 0xA5)
+
+-- with the first three lists, behind which the other three follow from place `at` on
+unfoldable pub seriesKept : List ℕ → ℕ → List ℕ → List ℕ → List ℕ → Bool
+seriesKept l at diffuse direct reflectivity =
+    let a = listEnd l at (wordAt l 20) in
+    let b = listEnd l a (wordAt l 21) in
+    let left = part l b (listEnd l b (wordAt l 22)) in
+    runKept l left (runOf (jobOf (siteOf l) (runAt l) (surfaceAt l 12) diffuse direct reflectivity (part l at a) (part l a b)) (lent left))
+
+unfoldable pub runDiffers : List ℕ → Bool
+runDiffers l =
+    let a = listEnd l 216 (wordAt l 17) in
+    let b = listEnd l a (wordAt l 18) in
+    let c = listEnd l b (wordAt l 19) in
+    ltb (length l) 216 || not (seriesKept l c (part l 216 a) (part l a b) (part l b c))
+
+-- ---- any record
+
+-- one of no kind differs, and one that has not the size that it names
+unfoldable pub kindDiffers : ℕ → List ℕ → Bool
+kindDiffers kind l =
+    cond (eqb kind 1) (runDiffers l) (cond (eqb kind 2) (factorDiffers l) (cond (eqb kind 3) (leafDiffers l) (cond (eqb kind 4) (listingDiffers l) true)))
+
+unfoldable pub recordDiffers : List ℕ → Bool
+recordDiffers l = cond (eqb (wordAt l 1) (length l)) (kindDiffers (wordAt l 0) l) true

@@ -1,0 +1,44 @@
+// Factor calls: 13 words, then both lists.
+ghost use mathlib.Core.Path.{_≡_};
+ghost use Rattle.kept_answers.specs.Differs.{isFactor, factorKept, factorDiffers};
+use crate::parts::list_end;
+use crate::parts::surface_at;
+use objects::answers::FactorAnswer;
+use objects::answers::number_of;
+use shading::step::factor_call;
+use words::bits_of_double;
+use words::double_at;
+use words::word_at;
+
+fn is_answer(kept: &[u8], number: u64, factor: f64) -> bool
+    ensures { λ r. ⌜ r ≡ isFactor (now (kept .entry)) number factor ⌝ }
+{
+    (word_at(kept, 11) == number) & (word_at(kept, 12) == bits_of_double(factor))
+}
+
+fn answers(kept: &[u8], answer: FactorAnswer) -> bool
+    ensures { λ r. ⌜ r ≡ factorKept (now (kept .entry)) answer ⌝ }
+{
+    match answer {
+        FactorAnswer::Factor(factor) => is_answer(kept, 0, factor),
+        FactorAnswer::Refused(refusal) => is_answer(kept, number_of(refusal), 0.0),
+    }
+}
+
+pub fn differs(kept: &[u8]) -> bool
+    ensures { λ r. ⌜ r ≡ factorDiffers (now (kept .entry)) ⌝ }
+{
+    if kept.len() < 104 {
+        return true;
+    }
+    let a = list_end(kept, 104, word_at(kept, 9));
+    let b = list_end(kept, a, word_at(kept, 10));
+    let answer = factor_call(
+        double_at(kept, 2),
+        double_at(kept, 3),
+        surface_at(kept, 4),
+        &kept[104..a],
+        &kept[a..b],
+    );
+    !answers(kept, answer)
+}

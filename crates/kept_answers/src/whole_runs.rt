@@ -1,0 +1,164 @@
+// Runs: 27 words, then the six lists, the results as they are afterwards.
+ghost use mathlib.Core.Path.{_≡_};
+ghost use mathlib.Core.Bool.{_&&_};
+ghost use Prim.Native.Nat.{_≤_};
+ghost use lib.Dec.{eqb};
+ghost use lib.ListN.{length};
+ghost use lib.Ieee.{binary64, toBits};
+ghost use Rattle.words.specs.Words.{wordAt};
+ghost use Rattle.jobs.specs.Job.{jobOf};
+ghost use Rattle.jobs.specs.Run.{runOf};
+ghost use Rattle.kept_answers.specs.Records.{surfaceAt};
+ghost use Rattle.kept_answers.specs.Differs.{wholeOf, siteOf, runAt, answerKept, runKept, lent, seriesKept, runDiffers};
+use crate::parts::list_end;
+use crate::parts::surface_at;
+use jobs::answers::RunAnswer;
+use objects::answers::number_of;
+use runs::run::run_job;
+use simulation_time::run::Run;
+use sun::site::Site;
+use text::least;
+use text::same_text;
+use words::bits_of_double;
+use words::double_at;
+use words::word_at;
+
+// The whole number that a double is; 0 where it is none of 64 bits.
+fn whole_of(x: f64) -> i64
+    ensures { λ r. ⌜ r ≡ wholeOf x ⌝ }
+{
+    if x >= -9223372036854775808.0 {
+        if x < 9223372036854775808.0 {
+            return std::num::truncating_f64_to_i64(x);
+        }
+    }
+    0
+}
+
+fn site_of(kept: &[u8]) -> Site
+    ensures { λ r. ⌜ r ≡ siteOf (now (kept .entry)) ⌝ }
+{
+    Site {
+        latitude: double_at(kept, 2),
+        longitude: double_at(kept, 3),
+        timezone: whole_of(double_at(kept, 4)),
+        start_day: word_at(kept, 5),
+        time_series_step: double_at(kept, 6),
+        leap_year: word_at(kept, 7),
+        direct_beam_conversion: word_at(kept, 8),
+    }
+}
+
+fn run_of(kept: &[u8]) -> Run
+    ensures { λ r. ⌜ r ≡ runAt (now (kept .entry)) ⌝ }
+{
+    Run {
+        start: double_at(kept, 9),
+        end: double_at(kept, 10),
+        step: double_at(kept, 11),
+    }
+}
+
+// Whether number, step, count and sum are the record's.
+fn is_answer(kept: &[u8], number: u64, step: u64, count: u64, sum: f64) -> bool
+    ensures { λ r. ⌜ r ≡ (eqb (wordAt (now (kept .entry)) 23) number && eqb (wordAt (now (kept .entry)) 24) step && (eqb (wordAt (now (kept .entry)) 25) count && eqb (wordAt (now (kept .entry)) 26) (toBits binary64 sum))) ⌝ }
+{
+    let numbers = (word_at(kept, 23) == number) & (word_at(kept, 24) == step);
+    let sums = (word_at(kept, 25) == count) & (word_at(kept, 26) == bits_of_double(sum));
+    numbers & sums
+}
+
+fn answers(kept: &[u8], answer: RunAnswer) -> bool
+    ensures { λ r. ⌜ r ≡ answerKept (now (kept .entry)) answer ⌝ }
+{
+    match answer {
+        RunAnswer::Accepted { count, sum } => is_answer(kept, 0, 0, count, sum),
+        RunAnswer::Refused { refusal, step } => {
+            is_answer(kept, number_of(refusal), step, 0, 0.0)
+        }
+    }
+}
+
+// Whether a run with these lists answers as the record says, and leaves that in its results.
+fn is_answered(
+    kept: &[u8],
+    diffuse: &[u8],
+    direct: &[u8],
+    reflectivity: &[u8],
+    sectors: &[u8],
+    window: &[u8],
+    left: &[u8],
+    results: &mut [u8],
+) -> bool
+    ensures { λ r. ⌜ r ≡ runKept (now (kept .entry)) (now (left .entry)) (runOf (jobOf (siteOf (now (kept .entry))) (runAt (now (kept .entry))) (surfaceAt (now (kept .entry)) 12) (now (diffuse .entry)) (now (direct .entry)) (now (reflectivity .entry)) (now (sectors .entry)) (now (window .entry))) (now (results .entry))) ⌝ }
+{
+    let answer = run_job(
+        site_of(kept),
+        run_of(kept),
+        surface_at(kept, 12),
+        diffuse,
+        direct,
+        reflectivity,
+        sectors,
+        window,
+        results,
+    );
+    same_text(results, left) & answers(kept, answer)
+}
+
+// As many bytes of results are lent as there are afterwards; at most 1,024.
+fn with_lists(
+    kept: &[u8],
+    diffuse: &[u8],
+    direct: &[u8],
+    reflectivity: &[u8],
+    sectors: &[u8],
+    window: &[u8],
+    left: &[u8],
+) -> bool
+    ensures { λ r. ⌜ r ≡ runKept (now (kept .entry)) (now (left .entry)) (runOf (jobOf (siteOf (now (kept .entry))) (runAt (now (kept .entry))) (surfaceAt (now (kept .entry)) 12) (now (diffuse .entry)) (now (direct .entry)) (now (reflectivity .entry)) (now (sectors .entry)) (now (window .entry))) (lent (now (left .entry)))) ⌝ }
+{
+    let mut results = [0xA5u8; 1024];
+    let n = least(left.len(), 1024);
+    is_answered(
+        kept,
+        diffuse,
+        direct,
+        reflectivity,
+        sectors,
+        window,
+        left,
+        &mut results[..n],
+    )
+}
+
+// The lists of objects and the results begin where the series end.
+fn with_series(bytes: &[u8], at: usize, diffuse: &[u8], direct: &[u8], reflectivity: &[u8]) -> bool
+    requires { ⌜ at ≤ length (now bytes) ⌝ }
+    ensures { λ r. ⌜ r ≡ seriesKept (now (bytes .entry)) at (now (diffuse .entry)) (now (direct .entry)) (now (reflectivity .entry)) ⌝ }
+{
+    let a = list_end(bytes, at, word_at(bytes, 20));
+    let b = list_end(bytes, a, word_at(bytes, 21));
+    let c = list_end(bytes, b, word_at(bytes, 22));
+    with_lists(
+        bytes,
+        diffuse,
+        direct,
+        reflectivity,
+        &bytes[at..a],
+        &bytes[a..b],
+        &bytes[b..c],
+    )
+}
+
+pub fn differs(kept: &[u8]) -> bool
+    ensures { λ r. ⌜ r ≡ runDiffers (now (kept .entry)) ⌝ }
+{
+    if kept.len() < 216 {
+        return true;
+    }
+    let a = list_end(kept, 216, word_at(kept, 17));
+    let b = list_end(kept, a, word_at(kept, 18));
+    let c = list_end(kept, b, word_at(kept, 19));
+    !with_series(kept, c, &kept[216..a], &kept[a..b], &kept[b..c])
+}
