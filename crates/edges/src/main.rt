@@ -22,7 +22,7 @@ fn write_out(text: &[u8]) {
 fn write_value(value: Value) {
     if value.number == 0 {
         let mut digits = [0u8; 16];
-        words::store_digits(&mut digits, 0, value.word);
+        hexadecimal::store_digits(&mut digits, 0, value.word);
         write_out(&digits);
     } else {
         write_out(b"refused ");

@@ -4,7 +4,7 @@ use mathlib.Core.List.{[], _∷_, _++_}
 use Prim.Native.Nat.{ℕ, _+_, _/_, _%_, _≤_, _<_}
 use native.Mathlib.Omega.{arith}
 use borrow.Author.Tests.{lt-ltb, le-ltb}
-use Rattle.words.specs.Hexadecimal.{digit}
+use Rattle.hexadecimal.specs.Hexadecimal.{digit}
 use Rattle.objects.specs.declared.answers.Refusal.{Refusal}
 use Rattle.objects.specs.declared.answers.Refusal.the-variants as refusal
 use Rattle.objects.specs.Refusals.{numberOf}

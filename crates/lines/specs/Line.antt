@@ -6,10 +6,10 @@ use lib.Dec.{eqb, ltb}
 use lib.ListN.{length, getD, take, replicate}
 use lib.Ieee.{Float, binary64, ofBits, toBits}
 use Rattle.doubles.specs.Arithmetic.{whole}
-use Rattle.words.specs.declared.Digits.{Digits}
-use Rattle.words.specs.declared.Digits.the-variants.{Word, NotDigits}
+use Rattle.hexadecimal.specs.declared.Digits.{Digits}
+use Rattle.hexadecimal.specs.declared.Digits.the-variants.{Word, NotDigits}
 use Rattle.words.specs.Words.{putDouble}
-use Rattle.words.specs.Hexadecimal.{digit, digitsOf, digitsAt}
+use Rattle.hexadecimal.specs.Hexadecimal.{digit, digitsOf, digitsAt}
 use Rattle.objects.specs.declared.answers.FactorAnswer.{FactorAnswer}
 use Rattle.objects.specs.declared.answers.FactorAnswer.the-variants.{Factor, Refused}
 use Rattle.objects.specs.declared.answers.Refusal.the-variants as refusal

@@ -5,17 +5,17 @@ ghost use lib.ListN.{length};
 ghost use Rattle.words.specs.Lists.{firstFine};
 ghost use Rattle.shading.specs.Call.{factorCall};
 ghost use Rattle.lines.specs.Line.{valueFine, parted, lineFine, valueAt, wholeHorizon, oneObstacle, lineAnswer};
+use hexadecimal::Digits;
 use objects::answers::FactorAnswer;
 use objects::answers::Refusal;
 use objects::surface::Surface;
-use words::Digits;
 
 // Whether sixteen digits stand in the k-th value's place.
 fn value_fine(line: &[u8], k: usize) -> bool
     requires { ⌜ k < 10 ⌝ }
     ensures { λ r. ⌜ r ≡ valueFine (now (line .entry)) k ⌝ }
 {
-    match words::digits_at(line, 17 * k) {
+    match hexadecimal::digits_at(line, 17 * k) {
         Digits::Word(_w) => true,
         Digits::NotDigits => false,
     }
@@ -61,7 +61,7 @@ fn value_at(line: &[u8], k: usize) -> f64
     requires { ⌜ k < 10 ⌝ }
     ensures { λ r. ⌜ r ≡ valueAt (now (line .entry)) k ⌝ }
 {
-    match words::digits_at(line, 17 * k) {
+    match hexadecimal::digits_at(line, 17 * k) {
         Digits::Word(w) => words::double_of_bits(w),
         Digits::NotDigits => 0.0,
     }

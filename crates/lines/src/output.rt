@@ -29,7 +29,7 @@ fn factor_line(x: f64) -> OutputLine
     ensures { λ r. ⌜ bytesOf r ≡ outputLine (Factor x) ⌝ }
 {
     let mut bytes = *b"0                 \n";
-    words::store_digits(&mut bytes, 2, words::bits_of_double(x));
+    hexadecimal::store_digits(&mut bytes, 2, words::bits_of_double(x));
     OutputLine {
         count: 19,
         bytes: bytes,

@@ -1,6 +1,6 @@
 -- An enum that a function answers, as the numbers that cross to C.
-use Rattle.words.specs.declared.Digits.{Digits}
-use Rattle.words.specs.declared.Digits.the-variants.{Word, NotDigits}
+use Rattle.hexadecimal.specs.declared.Digits.{Digits}
+use Rattle.hexadecimal.specs.declared.Digits.the-variants.{Word, NotDigits}
 use Rattle.probes.specs.declared.ProbeDigits.{ProbeDigits}
 
 -- found is 1 with the word, or 0 with 0

@@ -6,9 +6,9 @@ ghost use Rattle.angles.specs.Sine.{sine, cosine, tangent};
 ghost use Rattle.arcsines.specs.Arcsine.{arcsine, arccosine};
 ghost use Rattle.powers.specs.Power.{powMinus1253};
 ghost use Rattle.words.specs.Words.{wordCount, wordAt, putWord, doubleAt, putDouble};
-ghost use Rattle.words.specs.Hexadecimal.{digitsAt, putDigits};
+ghost use Rattle.hexadecimal.specs.Hexadecimal.{digitsAt, putDigits};
 ghost use Rattle.probes.specs.Answers.{digitsAnswer};
-use words::Digits;
+use hexadecimal::Digits;
 
 pub mod sky;
 
@@ -113,7 +113,7 @@ pub struct ProbeDigits {
 pub extern "C" fn probe_digits_at(text: &[u8], at: usize) -> ProbeDigits
     ensures { λ r. ⌜ r ≡ digitsAnswer (digitsAt (now (text .entry)) at) ⌝ }
 {
-    match words::digits_at(text, at) {
+    match hexadecimal::digits_at(text, at) {
         Digits::Word(word) => ProbeDigits { found: 1, word },
         Digits::NotDigits => ProbeDigits { found: 0, word: 0 },
     }
@@ -123,7 +123,7 @@ pub extern "C" fn probe_digits_at(text: &[u8], at: usize) -> ProbeDigits
 pub extern "C" fn probe_store_digits(text: &mut [u8], at: usize, w: u64)
     ensures { λ _. ⌜ now (text .exit) ≡ putDigits (now (text .entry)) at w ⌝ }
 {
-    words::store_digits(text, at, w);
+    hexadecimal::store_digits(text, at, w);
 }
 
 #[no_mangle]

@@ -3,6 +3,4 @@ pub mod Bases
 pub mod Stores
 pub mod Patterns
 pub mod Laws
-pub mod DigitSteps
-pub mod HexadecimalLaws
 pub mod Lists

@@ -1,4 +1,3 @@
 -- The definitions that the contracts of `words` cite.
 pub mod Words
-pub mod Hexadecimal
 pub mod Lists

@@ -1,7 +1,7 @@
 -- `factor_line` meets its contract.
 use mathlib.Core.Path.{refl}
 use borrow.Author.Needs.{needs}
-use Rattle.words.specs.Hexadecimal.{putDigits, digitsOf, digits}
+use Rattle.hexadecimal.specs.Hexadecimal.{putDigits, digitsOf, digits}
 use Rattle.text.specs.Text.{ascii}
 use Rattle.lines.specs.Line.{outputLine, bytesOf}
 use Rattle.lines.proofs.output.factor_line.Statement.{statement}

@@ -5,8 +5,8 @@ use Prim.Native.Nat.{ℕ, zero, suc, _+_, _-_, _*_, _/_, _%_, _^_}
 use lib.Dec.{leb, ltb}
 use lib.ListN.{length, getD}
 use lib.Seq.{sets}
-use Rattle.words.specs.declared.Digits.{Digits}
-use Rattle.words.specs.declared.Digits.the-variants.{Word, NotDigits}
+use Rattle.hexadecimal.specs.declared.Digits.{Digits}
+use Rattle.hexadecimal.specs.declared.Digits.the-variants.{Word, NotDigits}
 
 -- the ASCII byte of a digit below 16: '0' is 48, 'A' is 65
 unfoldable pub digit : ℕ → ℕ

@@ -2,9 +2,9 @@
 use mathlib.Core.Path.{sym}
 use native.Mathlib.Omega.{arith}
 use borrow.Author.Needs.{needs}
-use Rattle.words.proofs.DigitSteps.{value-below, value-decimal, value-between, value-letter, value-above}
-use Rattle.words.proofs.digit_value.Statement.{statement}
-use Rattle.words.proofs.digit_value.Tie as tie
+use Rattle.hexadecimal.proofs.DigitSteps.{value-below, value-decimal, value-between, value-letter, value-above}
+use Rattle.hexadecimal.proofs.digit_value.Statement.{statement}
+use Rattle.hexadecimal.proofs.digit_value.Tie as tie
 
 returns : tie.Need-returns
 returns c = sym (value-below (c .before .args .b) (omega arith))

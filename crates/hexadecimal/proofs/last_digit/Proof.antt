@@ -1,9 +1,9 @@
 -- `words::last_digit` meets its contract.
 use borrow.Author.Needs.{needs}
 use borrow.Author.Tests.{lt-ltb, le-ltb}
-use Rattle.words.specs.Hexadecimal.{digit}
-use Rattle.words.proofs.last_digit.Statement.{statement}
-use Rattle.words.proofs.last_digit.Tie as tie
+use Rattle.hexadecimal.specs.Hexadecimal.{digit}
+use Rattle.hexadecimal.proofs.last_digit.Statement.{statement}
+use Rattle.hexadecimal.proofs.last_digit.Tie as tie
 
 add-result : tie.Need-add-result
 add-result c = search needs

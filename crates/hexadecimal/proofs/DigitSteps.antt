@@ -9,9 +9,9 @@ use borrow.Author.Tests.{lt-ltb, le-ltb, le-leb, lt-leb}
 use lib.Dec.{lit<}
 use lib.ListN.{length, getD, set}
 use lib.Seq.{sets}
-use Rattle.words.specs.declared.Digits.the-variants.{Word, NotDigits}
-use Rattle.words.specs.Hexadecimal.{digit, digits, digitsOf, digitValue, readDigits, digitsAt, putDigits}
+use Rattle.hexadecimal.specs.declared.Digits.the-variants.{Word, NotDigits}
+use Rattle.hexadecimal.specs.Hexadecimal.{digit, digits, digitsOf, digitValue, readDigits, digitsAt, putDigits}
 use Rattle.words.proofs.Stores.{set-sets}
 
 -- ---- whether sixteen bytes stand there
 

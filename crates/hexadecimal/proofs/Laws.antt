@@ -9,11 +9,11 @@ use borrow.Author.Tests.{lt-ltb, le-ltb}
 use lib.Dec.{leb, lit<}
 use lib.ListN.{length, getD, set, take, drop, length-set}
 use lib.Seq.{sets, getD-set-same, drop-cons}
-use Rattle.words.specs.declared.Digits.the-variants.{Word, NotDigits}
-use Rattle.words.specs.Hexadecimal.{digit, digits, digitsOf, putDigits, digitValue, readDigits, digitsAt}
+use Rattle.hexadecimal.specs.declared.Digits.the-variants.{Word, NotDigits}
+use Rattle.hexadecimal.specs.Hexadecimal.{digit, digits, digitsOf, putDigits, digitValue, readDigits, digitsAt}
 use Rattle.words.proofs.Bases.{cut-highest}
 use Rattle.words.proofs.Stores.{getD-sets-before, length-tested, before-tested, behind-tested}
-use Rattle.words.proofs.DigitSteps.{digits-in, digits-out, put-in, more, no-more, value-below, value-decimal, value-between, value-letter, value-above}
+use Rattle.hexadecimal.proofs.DigitSteps.{digits-in, digits-out, put-in, more, no-more, value-below, value-decimal, value-between, value-letter, value-above}
 
 -- ---- a digit and what it counts
 

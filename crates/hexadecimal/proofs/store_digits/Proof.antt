@@ -8,10 +8,10 @@ use denote.Ref.{now}
 use borrow.Author.Needs.{needs}
 use lib.ListN.{length, set, length-set}
 use lib.Seq.{sets}
-use Rattle.words.specs.Hexadecimal.{digit, digits}
-use Rattle.words.proofs.DigitSteps.{put-in, put-out, one-written, one-less, all-written}
-use Rattle.words.proofs.store_digits.Statement.{statement}
-use Rattle.words.proofs.store_digits.Tie as tie
+use Rattle.hexadecimal.specs.Hexadecimal.{digit, digits}
+use Rattle.hexadecimal.proofs.DigitSteps.{put-in, put-out, one-written, one-less, all-written}
+use Rattle.hexadecimal.proofs.store_digits.Statement.{statement}
+use Rattle.hexadecimal.proofs.store_digits.Tie as tie
 
 abbrev Inv-loop : tie.InvT-loop
 Inv-loop text₀ at w rest₀ n₀ text rest n =

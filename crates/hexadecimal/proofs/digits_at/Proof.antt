@@ -6,10 +6,10 @@ use native.Mathlib.Omega.{arith}
 use denote.Ref.{now}
 use borrow.Author.Needs.{needs}
 use lib.Dec.{lit<}
-use Rattle.words.specs.Hexadecimal.{readDigits}
-use Rattle.words.proofs.DigitSteps.{digits-in, digits-out, one-read, none-read, all-read, counts-below, counts-fit}
-use Rattle.words.proofs.digits_at.Statement.{statement}
-use Rattle.words.proofs.digits_at.Tie as tie
+use Rattle.hexadecimal.specs.Hexadecimal.{readDigits}
+use Rattle.hexadecimal.proofs.DigitSteps.{digits-in, digits-out, one-read, none-read, all-read, counts-below, counts-fit}
+use Rattle.hexadecimal.proofs.digits_at.Statement.{statement}
+use Rattle.hexadecimal.proofs.digits_at.Tie as tie
 
 abbrev Inv-loop : tie.InvT-loop
 Inv-loop text at v₀ n₀ v n =
