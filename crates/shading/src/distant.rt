@@ -28,7 +28,7 @@ fn with_object(
     let object_type = object.object_type;
     match object_type {
         ShadingObjectType::Obstacle => {
-            let height = extents::extents::obstacle_shading_height(
+            let height = extents::obstacle_shading_height(
                 surface.base_height,
                 object.height,
                 object.distance,
@@ -40,7 +40,7 @@ fn with_object(
             }
         }
         ShadingObjectType::Overhang => {
-            let height = extents::extents::overhang_shading_height(
+            let height = extents::overhang_shading_height(
                 surface.height,
                 surface.base_height,
                 object.height,

@@ -34,7 +34,7 @@ fn near_factor(
 ) -> f64
     ensures { λ r. ⌜ r ≡ nearFactor surface (sunOf sun) «hk_ovh» «wk_sun» object ⌝ }
 {
-    let new_shade_height = extents::extents::obstacle_shading_height(
+    let new_shade_height = extents::obstacle_shading_height(
         surface.base_height,
         object.size,
         object.distance,

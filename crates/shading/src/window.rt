@@ -61,20 +61,15 @@ fn with_object(shades: WindowShades, sun: SunOnSurface, object: WindowShadingObj
         WindowShadingType::Obstacle => shades,
         WindowShadingType::Overhang => with_overhang(
             shades,
-            extents::extents::window_overhang_height(
-                size,
-                away,
-                sun.tan_altitude,
-                sun.cos_difference,
-            ),
+            extents::window_overhang_height(size, away, sun.tan_altitude, sun.cos_difference),
         ),
         WindowShadingType::SideFinRight => with_right_fin(
             shades,
-            extents::extents::right_fin_width(size, away, sun.difference, sun.tan_difference),
+            extents::right_fin_width(size, away, sun.difference, sun.tan_difference),
         ),
         WindowShadingType::SideFinLeft => with_left_fin(
             shades,
-            extents::extents::left_fin_width(size, away, sun.difference, sun.tan_difference),
+            extents::left_fin_width(size, away, sun.difference, sun.tan_difference),
         ),
         WindowShadingType::Reveal => WindowShades {
             overhang: shades.overhang,

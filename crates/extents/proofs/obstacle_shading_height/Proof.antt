@@ -1,7 +1,7 @@
 use lib.Ieee.{ofBits}
 use Rattle.extents.specs.Extents.{obstacleHeight}
-use Rattle.extents.proofs.extents.obstacle_shading_height.Statement.{statement}
-use Rattle.extents.proofs.extents.obstacle_shading_height.Tie as tie
+use Rattle.extents.proofs.obstacle_shading_height.Statement.{statement}
+use Rattle.extents.proofs.obstacle_shading_height.Tie as tie
 
 returns : tie.Need-returns
 unfolding obstacleHeight ofBits

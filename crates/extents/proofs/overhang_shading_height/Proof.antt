@@ -1,7 +1,7 @@
 use lib.Ieee.{ofBits}
 use Rattle.extents.specs.Extents.{overhangHeight}
-use Rattle.extents.proofs.extents.overhang_shading_height.Statement.{statement}
-use Rattle.extents.proofs.extents.overhang_shading_height.Tie as tie
+use Rattle.extents.proofs.overhang_shading_height.Statement.{statement}
+use Rattle.extents.proofs.overhang_shading_height.Tie as tie
 
 float-max-requires : tie.Need-float-max-requires
 float-max-requires c κs = tt

@@ -1,7 +1,7 @@
 use lib.Ieee.{ofBits}
 use Rattle.extents.specs.Extents.{leftFinWidth}
-use Rattle.extents.proofs.extents.left_fin_width.Statement.{statement}
-use Rattle.extents.proofs.extents.left_fin_width.Tie as tie
+use Rattle.extents.proofs.left_fin_width.Statement.{statement}
+use Rattle.extents.proofs.left_fin_width.Tie as tie
 
 returns : tie.Need-returns
 unfolding leftFinWidth ofBits

@@ -1,7 +1,7 @@
 use lib.Ieee.{ofBits}
 use Rattle.extents.specs.Extents.{rightFinWidth}
-use Rattle.extents.proofs.extents.right_fin_width.Statement.{statement}
-use Rattle.extents.proofs.extents.right_fin_width.Tie as tie
+use Rattle.extents.proofs.right_fin_width.Statement.{statement}
+use Rattle.extents.proofs.right_fin_width.Tie as tie
 
 returns : tie.Need-returns
 unfolding rightFinWidth ofBits

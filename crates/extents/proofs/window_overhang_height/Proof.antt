@@ -1,7 +1,7 @@
 use mathlib.Core.Path.{refl}
 use Rattle.extents.specs.Extents.{windowOverhangHeight}
-use Rattle.extents.proofs.extents.window_overhang_height.Statement.{statement}
-use Rattle.extents.proofs.extents.window_overhang_height.Tie as tie
+use Rattle.extents.proofs.window_overhang_height.Statement.{statement}
+use Rattle.extents.proofs.window_overhang_height.Tie as tie
 
 returns : tie.Need-returns
 unfolding windowOverhangHeight
