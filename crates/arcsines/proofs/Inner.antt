@@ -23,7 +23,7 @@ use Rattle.doubles.proofs.Monotone.{sub-mono, div-mono}
 use Rattle.doubles.proofs.Bounds.{sub-number, div-number, zero-number, one-number, sub-nonneg, div-nonneg, positive-nonzero}
 use Rattle.roots.specs.Root.{squareRoot}
 use Rattle.roots.proofs.Theorems.{squareRoot-is-root, squareRoot-not-negative}
-use Rattle.arcsines.specs.Arcsine.{isSine, arcsineSeries, arcsineUpward, arcsine, halfPi}
+use Rattle.arcsines.specs.Arcsine.{isSine, arcsineSeries, halfAngleSine, arcsineUpward, arcsine, halfPi}
 
 abbrev half : Float
 half = decimal 5 1
@@ -137,7 +137,8 @@ arcsine-series a h k =
     simp (is-true (le (neg (whole 1)) a) (le-trans (c .minus-one) low .holds), is-true (le a (whole 1)) (le-trans high (c .half-one) .holds), is-true (le a half) k, not-below low)
 
 -- the inner arcsine is the series
-pub arcsine-inner : (a : Float) → T (lt (decimal 5 1) a) → T (le a (whole 1)) → arcsine (squareRoot ((whole 1 ⊖ a) ⊘ whole 2)) ≡ arcsineSeries (squareRoot ((whole 1 ⊖ a) ⊘ whole 2))
+pub arcsine-inner : (a : Float) → T (lt (decimal 5 1) a) → T (le a (whole 1)) → arcsine (halfAngleSine a) ≡ arcsineSeries (halfAngleSine a)
+unfolding halfAngleSine
 arcsine-inner a h k =
     let x = (whole 1 ⊖ a) ⊘ whole 2 in
     let r = radicand-in (lt→le (record { holds = h })) (record { holds = k }) in
@@ -146,6 +147,7 @@ arcsine-inner a h k =
 
 -- above 0.5: PI/2 − 2·arcsine(root((1−a)/2))
 pub arcsine-above-half : (a : Float) → T (lt (decimal 5 1) a) → T (le a (whole 1)) → arcsine a ≡ halfPi ⊖ whole 2 ⊗ arcsine (squareRoot ((whole 1 ⊖ a) ⊘ whole 2))
+unfolding halfAngleSine
 arcsine-above-half a h k =
     let c = constants in
     let above : half ≺ a = record { holds = h } in
