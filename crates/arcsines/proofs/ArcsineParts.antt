@@ -3,7 +3,7 @@ use mathlib.Core.Bool.{Bool, true, false, cond}
 use mathlib.Core.Path.{_≡_, refl}
 use lib.Ieee.{Float, nan, neg, lt}
 use Rattle.doubles.specs.Arithmetic.{_⊗_, whole}
-use Rattle.arcsines.specs.Arcsine.{isSine, complement, upToHalf, halfAngleSine, arcsineSeries, upwardBy, arcsineUpward, oddOnSines, arcsine}
+use Rattle.arcsines.specs.Arcsine.{isSine, complement, upToHalf, halfAngleSine, arcsineSeries, upwardBy, arcsineUpward, arcsine}
 use Rattle.arcsines.specs.ArcsineParts.{magnitude, seriesArgument, arcsineBy}
 
 upward-by : (m : Float) → (let s = arcsineSeries (seriesArgument m) in upwardBy m s s) ≡ arcsineUpward m

@@ -137,7 +137,7 @@ fn arcsine_by(a: f64, series: f64) -> f64
     }
 }
 
-// The arcsine of a, in radians, from −PI/2 to PI/2; NaN beyond ±1. The series of two cost no more than that of one, so there is no other.
+// The arcsine of a, in radians; NaN beyond ±1. The series of two cost no more than that of one, so there is no other.
 pub fn asin(a: f64) -> f64
     ensures { λ r. ⌜ r ≡ arcsine a ⌝ }
 {
@@ -166,7 +166,7 @@ pub fn acos_by(arc_sine: f64) -> f64
     doubles::PI / 2.0 - arc_sine
 }
 
-// The arccosine of a, in radians, from 0 to PI; NaN beyond ±1.
+// The arccosine of a, in radians; NaN beyond ±1.
 pub fn acos(a: f64) -> f64
     ensures { λ r. ⌜ r ≡ arccosine a ⌝ }
 {

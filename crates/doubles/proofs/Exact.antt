@@ -150,10 +150,7 @@ neg-zero nan h = absurd (unfold eq in h)
 neg-zero (inf s) h = absurd (unfold eq whole in h)
 neg-zero (fin s m e) h = rw (digits-zero s m e h) (zero-digits (not s) e)
 
--- adding or taking away a zero leaves a double that is not zero as it is, bit for bit
-pub add-zero-same : {x z : Float} → Fits x → NonZero x → Zero z → x ⊕ z ≡ x
-add-zero-same {x} {z} f n h = add-zero-all x z (f .holds) (n .holds) (h .holds)
-
+-- taking away a zero leaves a double that is not zero as it is, bit for bit
 pub sub-zero-same : {x z : Float} → Fits x → NonZero x → Zero z → x ⊖ z ≡ x
 unfolding sub
 sub-zero-same {x} {z} f n h = add-zero-all x (neg z) (f .holds) (n .holds) (neg-zero z (h .holds))

@@ -1,14 +1,13 @@
 -- The largest and the smallest of a list without NaN, as `max_of_2` and `min_of_2` find them from the left: the result bounds every
--- member and is one of them, lists with the same members give level results, and a list with more members gives no smaller a
--- largest and no larger a smallest. Proved once, of any operation that gives one of its two arguments, the one further along an order.
--- Assumes nothing.
+-- member and is one of them, and a list with more members gives no smaller a largest. Proved once, of any operation that gives one of
+-- its two arguments, the one further along an order. Assumes nothing.
 use mathlib.Core.Path.{_≡_, refl, _∙_}
 use mathlib.Core.Logic.{_⊎_, inl, inr}
 use mathlib.Core.Bool.{Bool, true, false, cond}
 use mathlib.Core.List.{List, [], _∷_, List·Memᴰ, List·Memᴰ·head, List·Memᴰ·tail, List·Memᴰ·cases-cons, Memᴰ·cast}
 use lib.Ieee.{Float, lt}
 use Rattle.doubles.specs.Functions.{minOf2, maxOf2, largestOf, smallestOf}
-use Rattle.doubles.specs.Order.{_≼_, _≈_, Number}
+use Rattle.doubles.specs.Order.{_≼_, Number}
 use Rattle.doubles.proofs.Order.{le-refl, le-trans, lt→le, le-of-not-lt}
 
 infix 4 _≽_
@@ -160,18 +159,6 @@ largest-bound first xs n x m = rw (largest-is first xs) (fold-bound _≼_ maxOf2
 pub smallest-bound : (first : Float) (xs : List Float) → Numbers (first ∷ xs) → (x : Float) → List·Memᴰ x (first ∷ xs) → smallestOf first xs ≼ x
 smallest-bound first xs n x m = rw (smallest-is first xs) (fold-bound _≽_ minOf2 minimum first xs n x m)
 
--- more values: no smaller a largest, no larger a smallest
+-- more values: no smaller a largest
 pub largest-more : (first : Float) (xs ys : List Float) → Numbers (first ∷ ys) → Within (first ∷ xs) (first ∷ ys) → largestOf first xs ≼ largestOf first ys
 largest-more first xs ys n h = largest-bound first ys n (largestOf first xs) (h (largestOf first xs) (largest-member first xs))
-
-pub smallest-more : (first : Float) (xs ys : List Float) → Numbers (first ∷ ys) → Within (first ∷ xs) (first ∷ ys) → smallestOf first ys ≼ smallestOf first xs
-smallest-more first xs ys n h = smallest-bound first ys n (smallestOf first xs) (h (smallestOf first xs) (smallest-member first xs))
-
--- the same values in any order and number: level results
-pub largest-same : (first : Float) (xs ys : List Float) → Numbers (first ∷ xs) → Numbers (first ∷ ys)
-    → Within (first ∷ xs) (first ∷ ys) → Within (first ∷ ys) (first ∷ xs) → largestOf first xs ≈ largestOf first ys
-largest-same first xs ys m n h k = record { below = largest-more first xs ys n h; above = largest-more first ys xs m k }
-
-pub smallest-same : (first : Float) (xs ys : List Float) → Numbers (first ∷ xs) → Numbers (first ∷ ys)
-    → Within (first ∷ xs) (first ∷ ys) → Within (first ∷ ys) (first ∷ xs) → smallestOf first xs ≈ smallestOf first ys
-smallest-same first xs ys m n h k = record { below = smallest-more first ys xs m k; above = smallest-more first xs ys n h }

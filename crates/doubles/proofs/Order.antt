@@ -1,4 +1,4 @@
--- The order of doubles: reflexive, transitive and total off NaN, `lt` against `le`, and what negation does to it.
+-- The order of doubles: reflexive and transitive off NaN, `lt` against `le`, and what negation does to it.
 -- A finite x is (positivePart x − negativePart x) / den x, one of the two parts 0, so an order of two is an inequality of natural
 -- numbers, cross-multiplied. Assumes nothing.
 use mathlib.Core.Path.{_≡_, refl, sym, _∙_, subst}
@@ -253,29 +253,6 @@ le-trans-test (fin s m e) (fin t n d) (fin u o b) h k =
 pub le-trans : {x y z : Float} → x ≼ y → y ≼ z → x ≼ z
 le-trans {x} {y} {z} h k = record { holds = le-trans-test x y z (h .holds) (k .holds) }
 
-pub le-total : {x y : Float} → Number x → Number y → (x ≼ y) ⊎ (y ≼ x)
-unfolding le isNan
-le-total {x} {y} m n = go x y (m .holds) (n .holds)
-  where
-    by-sides : (x y : Float) → T (finite x) → T (finite y) → Dec (leftSide x y ≤ rightSide x y) → (x ≼ y) ⊎ (y ≼ x)
-    by-sides x y f g (yes h) = inl (record { holds = sides→le x y f g h })
-    by-sides x y f g (no h) = inr (record { holds = sides→le y x g f (omega arith) })
-
-    go : (x y : Float) → T (not (isNan x)) → T (not (isNan y)) → (x ≼ y) ⊎ (y ≼ x)
-    go nan y m n = absurd m
-    go (inf s) nan m n = absurd n
-    go (fin s o e) nan m n = absurd n
-    go (inf true) (inf true) m n = inl (record { holds = tt })
-    go (inf true) (inf false) m n = inl (record { holds = tt })
-    go (inf false) (inf true) m n = inr (record { holds = tt })
-    go (inf false) (inf false) m n = inl (record { holds = tt })
-    go (inf true) (fin t p d) m n = inl (record { holds = tt })
-    go (inf false) (fin t p d) m n = inr (record { holds = tt })
-    go (fin s o e) (inf true) m n = inr (record { holds = tt })
-    go (fin s o e) (inf false) m n = inl (record { holds = tt })
-    go (fin s o e) (fin t p d) m n =
-        by-sides (fin s o e) (fin t p d) tt tt (decLe (leftSide (fin s o e) (fin t p d)) (rightSide (fin s o e) (fin t p d)))
-
 -- ---- `lt` against `le`
 
 pub lt→le : {x y : Float} → x ≺ y → x ≼ y
@@ -371,15 +348,6 @@ neg-finite {x} f = record { holds = go x (f .holds) }
     go nan f = f
     go (inf s) f = f
     go (fin s m e) f = tt
-
-pub neg-number : {x : Float} → Number x → Number (neg x)
-unfolding neg isNan
-neg-number {x} f = record { holds = go x (f .holds) }
-  where
-    go : (x : Float) → T (not (isNan x)) → T (not (isNan (neg x)))
-    go nan f = f
-    go (inf s) f = f
-    go (fin s m e) f = f
 
 pub neg-neg : (x : Float) → neg (neg x) ≡ x
 unfolding neg
