@@ -1,8 +1,8 @@
 use Rattle.angles.specs.Sine.{tangent}
-use Rattle.sun.specs.Hour.{sinCosOf}
-use Rattle.sun.specs.HourParts.{heightOf}
-use Rattle.sun.proofs.hour.height_of.Statement.{statement}
-use Rattle.sun.proofs.hour.height_of.Tie as tie
+use Rattle.sun.specs.Hour.{sinCosOf, azimuthDenominator, airMass}
+use Rattle.sun.specs.HourParts.{altitudeTerms}
+use Rattle.sun.proofs.hour.terms_by_day.Statement.{statement}
+use Rattle.sun.proofs.hour.terms_by_day.Tie as tie
 
 sin-cos-of-degrees-requires : tie.Need-sin-cos-of-degrees-requires
 sin-cos-of-degrees-requires c κs = tt
@@ -26,7 +26,7 @@ air-mass-by-requires : tie.Need-air-mass-by-requires
 air-mass-by-requires c κs = tt
 
 returns : tie.Need-returns
-unfolding heightOf sinCosOf tangent
+unfolding altitudeTerms sinCosOf tangent azimuthDenominator airMass
 returns c = (
   rw (
     c .air-mass-by .ensures,
@@ -40,8 +40,8 @@ returns c = (
   c .before .before .before .before .before .before .asin-both .ensures .0,
 )
 
-pub height-of-spec : {M : Type 1} → statement M
-height-of-spec =
+pub terms-by-day-spec : {M : Type 1} → statement M
+terms-by-day-spec =
     tie.close
     (tie.spec
     sin-cos-of-degrees-requires
