@@ -8,7 +8,7 @@ use lib.Ieee.{Float, neg, binary64, ofInt, lt, le}
 use Rattle.doubles.specs.Arithmetic.{_⊕_, _⊖_, _⊗_, _⊘_, decimal, whole}
 use Rattle.doubles.specs.Functions.{toRadians, toDegrees}
 use Rattle.angles.specs.declared.SinCos.{SinCos}
-use Rattle.angles.specs.Sine.{sine, cosine, tangent}
+use Rattle.angles.specs.Sine.{sine, cosine}
 use Rattle.arcsines.specs.Arcsine.{arcsine}
 use Rattle.powers.specs.Power.{powMinus1253}
 use Rattle.days.specs.Day.{dayOf}
@@ -25,7 +25,7 @@ unfoldable pub timeShift : ℤ → Float → Float
 unfolding whole
 timeShift timezone longitude = ofInt binary64 timezone ⊖ longitude ⊘ whole 15
 
--- the hours of a day count from 1; the equation of time is in minutes
+-- hour + 1, since the standard's hours count from 1; the equation of time is in minutes
 unfoldable pub solarTime : ℕ → Float → Float → Float
 unfolding whole
 solarTime hour equation shift = whole (hour + 1) ⊖ equation ⊘ whole 60 ⊖ shift
@@ -118,7 +118,6 @@ hourOf site hour =
       altitude = altitude;
       azimuth = solarAzimuth (site .latitude) (day .declination) angle altitude;
       «sin_altitude» = sine (toRadians altitude);
-      «tan_altitude» = tangent (toRadians altitude);
       zenith = solarZenith altitude;
       «cos_zenith» = cosine (toRadians (solarZenith altitude));
       «air_mass» = airMass altitude;

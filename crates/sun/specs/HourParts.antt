@@ -5,7 +5,7 @@ use lib.Ieee.{Float}
 use Rattle.doubles.specs.Arithmetic.{_⊖_, whole}
 use Rattle.doubles.specs.Functions.{toRadians, toDegrees}
 use Rattle.angles.specs.declared.SinCos.{SinCos}
-use Rattle.angles.specs.Sine.{sine, cosine, tangent}
+use Rattle.angles.specs.Sine.{sine, cosine}
 use Rattle.arcsines.specs.Arcsine.{arcsine}
 use Rattle.sun.specs.Hour.{sinCosOf, solarTime, hourAngle, altitudeSine, cutAltitude, solarZenith, airMass}
 use Rattle.sun.specs.Hour.{azimuthNumerator, azimuthDenominator, azimuthFrom}
@@ -17,7 +17,6 @@ unfoldable pub altitudeTerms : Float → AltitudeTerms
 altitudeTerms altitude = record {
   altitude = altitude;
   sin = sine (toRadians altitude);
-  tan = tangent (toRadians altitude);
   «azimuth_denominator» = azimuthDenominator altitude;
   zenith = solarZenith altitude;
   «cos_zenith» = cosine (toRadians (solarZenith altitude));
@@ -40,7 +39,6 @@ hourFrom l d angles altitudeArcsine =
       altitude = terms .altitude;
       azimuth = azimuthFrom l d w (arcsine (azimuthNumerator d w)) (terms .«azimuth_denominator»);
       «sin_altitude» = terms .sin;
-      «tan_altitude» = terms .tan;
       zenith = terms .zenith;
       «cos_zenith» = terms .«cos_zenith»;
       «air_mass» = terms .«air_mass»;

@@ -143,7 +143,6 @@ pub fn init_air_mass(solar_altitude: f64) -> f64
 struct AltitudeTerms {
     altitude: f64,
     sin: f64,
-    tan: f64,
     azimuth_denominator: f64,
     zenith: f64,
     cos_zenith: f64,
@@ -157,7 +156,6 @@ fn terms_at_night() -> AltitudeTerms
     AltitudeTerms {
         altitude: 0.0,
         sin: 0.0,
-        tan: 0.0,
         azimuth_denominator: 1.0,
         zenith: 90.0,
         cos_zenith: 6.12323399538461e-17,
@@ -174,18 +172,17 @@ struct TermsAndArcsine {
 fn terms_by_day(altitude: f64, numerator: f64) -> TermsAndArcsine
     ensures { λ r. ⌜ (r .terms ≡ altitudeTerms altitude) × (r .«azimuth_arcsine» ≡ arcsine numerator) ⌝ }
 {
-    let a = sin_cos_of_degrees(altitude);
-    let arcsines = arcsines::asin_both(numerator, a.sin);
+    let sin = angles::sin(doubles::to_radians(altitude));
+    let arcsines = arcsines::asin_both(numerator, sin);
     let zenith = init_solar_zenith_angle(altitude);
     TermsAndArcsine {
         terms: AltitudeTerms {
             altitude: altitude,
-            sin: a.sin,
-            tan: a.sin / a.cos,
+            sin: sin,
             azimuth_denominator: angles::cos(arcsines.second),
             zenith: zenith,
             cos_zenith: angles::cos(doubles::to_radians(zenith)),
-            air_mass: air_mass_by(altitude, a.sin),
+            air_mass: air_mass_by(altitude, sin),
         },
         azimuth_arcsine: arcsines.first,
     }
@@ -211,7 +208,6 @@ pub struct Hour {
     pub altitude: f64,
     pub azimuth: f64,
     pub sin_altitude: f64,
-    pub tan_altitude: f64,
     pub zenith: f64,
     pub cos_zenith: f64,
     pub air_mass: f64,
@@ -264,7 +260,6 @@ pub fn hour_from(
         altitude: terms.altitude,
         azimuth: azimuth,
         sin_altitude: terms.sin,
-        tan_altitude: terms.tan,
         zenith: terms.zenith,
         cos_zenith: terms.cos_zenith,
         air_mass: terms.air_mass,

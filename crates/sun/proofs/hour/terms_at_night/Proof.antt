@@ -2,7 +2,6 @@ use mathlib.Core.Path.{refl}
 use lib.Ieee.{ofBits}
 use Rattle.doubles.specs.Arithmetic.{whole}
 use Rattle.doubles.specs.Functions.{toRadians}
-use Rattle.angles.specs.Sine.{tangent}
 use Rattle.angles.proofs.Values.{steps}
 use Rattle.arcsines.proofs.Values.{steps as steps·arcsine}
 use Rattle.powers.proofs.Values.{steps as steps·power}
@@ -12,7 +11,7 @@ use Rattle.sun.proofs.hour.terms_at_night.Statement.{statement}
 use Rattle.sun.proofs.hour.terms_at_night.Tie as tie
 
 returns : tie.Need-returns
-unfolding altitudeTerms ofBits whole toRadians tangent steps steps·arcsine steps·power solarZenith azimuthDenominator airMass
+unfolding altitudeTerms ofBits whole toRadians steps steps·arcsine steps·power solarZenith azimuthDenominator airMass
 returns c = refl
 
 pub terms-at-night-spec : {M : Type 1} → statement M
