@@ -1,4 +1,4 @@
--- Laws for those who use the functions: where a result is NaN, that a sine or a cosine lies from −1 to 1, and that every result is a double.
+-- Laws for those who use the functions: a sine or a cosine of an angle lies from −1 to 1, and is NaN just where there is no angle.
 use mathlib.Core.Path.{_≡_, refl}
 use mathlib.Core.Bool.{Bool, true, false, cond}
 use Prim.Native.Nat.{ℕ, zero, suc, _+_, _-_, _*_, _^_, _≤_, _<_}
@@ -6,17 +6,16 @@ use native.Mathlib.Nat.{le-trans, mul-pos, mul-le-mul, zero-lt-suc}
 use native.Mathlib.Omega.{arith}
 use lib.Dec.{T, lit≤}
 use lib.Ieee.{Float, nan, fin, binary64, neg, lt, le, eq, ofInt, toUnsigned, isNan, fits}
-use lib.Ieee.Fits.{cond-fits, nan-fits, neg-fits, sub-fits, mul-fits, div-fits}
 use Rattle.doubles.specs.Arithmetic.{_⊖_, _⊗_, _⊘_, whole, bits}
 use Rattle.doubles.specs.Functions.{floorOf}
 use Rattle.doubles.specs.Order.{Number}
 use Rattle.doubles.proofs.Order.{le-of-not-lt}
 use Rattle.doubles.proofs.Bounds.{one-number}
-use Rattle.doubles.specs.Series.{down}
-use Rattle.angles.specs.Sine.{isAngle, quarters, turns, quadrant, remainder, sineStep, cosineStep, sineSum, cosineSum, sineSeries, cosineSeries, sineAt, cosineAt, clamp, ofAngle, sine, cosine, tangent}
+use Rattle.doubles.specs.Series.{horner}
+use Rattle.angles.specs.Sine.{isAngle, quarterTurns, quadrant, remainder, sineStep, cosineStep, sineSum, cosineSum, sineSeries, cosineSeries, sineAt, cosineAt, clamp, ofAngle, sine, cosine}
 use Rattle.angles.proofs.Small.{Small, more-small, neg-small, round-small, sub-small, mul-small, div-small, by-value}
 use Rattle.angles.proofs.Turns.{whole-value, part-le, cut, floor-up, floor-level, floor-down}
-use Rattle.angles.proofs.Reduction.{angle-small, quarters-small, quarters-fits}
+use Rattle.angles.proofs.Reduction.{unfloored, angle-small, unfloored-small, unfloored-fits}
 
 -- ---- NaN
 pub sine-no-angle : (a : Float) → isAngle a ≡ false → sine a ≡ nan
@@ -47,9 +46,9 @@ remainder-small a k h l =
     let s = sub-small 9 a (k ⊗ bits 0x3FF921FB54400000) (lit≤ tt) (more-small 6 9 a (lit≤ tt) h) p in
     sub-small 10 (a ⊖ k ⊗ bits 0x3FF921FB54400000) (k ⊗ bits 0x3DD0B4611A626331) (lit≤ tt) s (more-small 8 10 (k ⊗ bits 0x3DD0B4611A626331) (lit≤ tt) q)
 
-angle-rest : (a : Float) → isAngle a ≡ true → Small 11 (remainder a (turns a))
-unfolding turns
-angle-rest a h = remainder-small a (turns a) (angle-small a h) (floor-small (quarters a) (quarters-fits a) (quarters-small a h))
+angle-rest : (a : Float) → isAngle a ≡ true → Small 11 (remainder a (quarterTurns a))
+unfolding quarterTurns unfloored
+angle-rest a h = remainder-small a (quarterTurns a) (angle-small a h) (floor-small (unfloored a) (unfloored-fits a) (unfloored-small a h))
 
 -- one step: 1 − (t/d)·h, for a d from 1 on
 step-small : (t h : Float) (d j : ℕ) → 0 < d → d ≤ 2 ^ 53 → j + 23 ≤ 1023 → Small 22 t → Small j h → Small (j + 23) (whole 1 ⊖ (t ⊘ whole d) ⊗ h)
@@ -63,23 +62,23 @@ step-small t h d j D l r p q =
     (sub-small (22 + j) (whole 1) ((t ⊘ whole d) ⊗ h) r' (more-small 0 (22 + j) (whole 1) z (lit≤ tt))
     (mul-small 22 j (t ⊘ whole d) h r'' (div-small 22 t (whole d) (lit≤ tt) p (by-value (whole d) d D (whole-value d l))) q))
 
-down-small : (step : ℕ → Float → Float) → ((n : ℕ) (h : Float) (j : ℕ) → suc n ≤ 8 → j + 23 ≤ 1023 → Small j h → Small (j + 23) (step (suc n) h))
-    → (n : ℕ) (h : Float) (j : ℕ) → n ≤ 8 → j + 23 * n ≤ 1023 → Small j h → Small (j + 23 * n) (down step n h)
-unfolding down
-down-small step good zero h j l r p = let e : j ≤ j + 23 * 0 = omega arith in more-small j (j + 23 * 0) h e p
-down-small step good (suc n) h j l r p =
+horner-small : (step : ℕ → Float → Float) → ((n : ℕ) (h : Float) (j : ℕ) → suc n ≤ 8 → j + 23 ≤ 1023 → Small j h → Small (j + 23) (step (suc n) h))
+    → (n : ℕ) (h : Float) (j : ℕ) → n ≤ 8 → j + 23 * n ≤ 1023 → Small j h → Small (j + 23 * n) (horner step n h)
+unfolding horner
+horner-small step good zero h j l r p = let e : j ≤ j + 23 * 0 = omega arith in more-small j (j + 23 * 0) h e p
+horner-small step good (suc n) h j l r p =
     let l' : n ≤ 8 = omega arith in
     let r' : j + 23 + 23 * n ≤ 1023 = omega arith in
     let r'' : j + 23 ≤ 1023 = omega arith in
     let e : j + 23 + 23 * n ≤ j + 23 * suc n = omega arith in
-    more-small (j + 23 + 23 * n) (j + 23 * suc n) (down step n (step (suc n) h)) e
-    (down-small step good n (step (suc n) h) (j + 23) l' r' (good n h j l r'' p))
+    more-small (j + 23 + 23 * n) (j + 23 * suc n) (horner step n (step (suc n) h)) e
+    (horner-small step good n (step (suc n) h) (j + 23) l' r' (good n h j l r'' p))
 
 sine-series-small : (r : Float) → Small 11 r → Small 195 (sineSeries r)
 unfolding sineSeries sineSum whole
 sine-series-small r h =
-    mul-small 184 11 (down (sineStep (r ⊗ r)) 8 (whole 1)) r (lit≤ tt)
-    (down-small (sineStep (r ⊗ r)) good 8 (whole 1) 0 (lit≤ tt) (lit≤ tt) (lit≤ tt)) h
+    mul-small 184 11 (horner (sineStep (r ⊗ r)) 8 (whole 1)) r (lit≤ tt)
+    (horner-small (sineStep (r ⊗ r)) good 8 (whole 1) 0 (lit≤ tt) (lit≤ tt) (lit≤ tt)) h
   where
     good : (n : ℕ) (h : Float) (j : ℕ) → suc n ≤ 8 → j + 23 ≤ 1023 → Small j h → Small (j + 23) (sineStep (r ⊗ r) (suc n) h)
     good n x j l m q =
@@ -93,8 +92,8 @@ sine-series-small r h =
 cosine-series-small : (r : Float) → Small 11 r → Small 195 (cosineSeries r)
 unfolding cosineSeries cosineSum whole
 cosine-series-small r h =
-    more-small 184 195 (down (cosineStep (r ⊗ r)) 8 (whole 1)) (lit≤ tt)
-    (down-small (cosineStep (r ⊗ r)) good 8 (whole 1) 0 (lit≤ tt) (lit≤ tt) (lit≤ tt))
+    more-small 184 195 (horner (cosineStep (r ⊗ r)) 8 (whole 1)) (lit≤ tt)
+    (horner-small (cosineStep (r ⊗ r)) good 8 (whole 1) 0 (lit≤ tt) (lit≤ tt) (lit≤ tt))
   where
     good : (n : ℕ) (h : Float) (j : ℕ) → suc n ≤ 8 → j + 23 ≤ 1023 → Small j h → Small (j + 23) (cosineStep (r ⊗ r) (suc n) h)
     good n x j l m q =
@@ -141,10 +140,10 @@ cosineAt-small (suc (suc (suc q))) k s c p r = p
 of-range : (at : ℕ → Float → Float → Float) → ((q k : ℕ) (s c : Float) → Small k s → Small k c → Small k (at q s c)) → (a : Float) → isAngle a ≡ true → Unit-range (ofAngle at a)
 unfolding ofAngle
 of-range at small a h =
-    let r = remainder a (turns a) in
+    let r = remainder a (quarterTurns a) in
     let s = angle-rest a h in
-    rw h (clamp-range 195 (at (quadrant (turns a)) (sineSeries r) (cosineSeries r))
-    (small (quadrant (turns a)) 195 (sineSeries r) (cosineSeries r) (sine-series-small r s) (cosine-series-small r s)))
+    rw h (clamp-range 195 (at (quadrant (quarterTurns a)) (sineSeries r) (cosineSeries r))
+    (small (quadrant (quarterTurns a)) 195 (sineSeries r) (cosineSeries r) (sine-series-small r s) (cosine-series-small r s)))
 
 -- of an angle they are numbers from −1 to 1
 pub sine-range : (a : Float) → isAngle a ≡ true → T (le (neg (whole 1)) (sine a)) × T (le (sine a) (whole 1))
@@ -166,49 +165,3 @@ sine-nan a h = no-nan (sine a) (isAngle a) (sine-range a) h
 
 pub cosine-nan : (a : Float) → cosine a ≡ nan → isAngle a ≡ false
 cosine-nan a h = no-nan (cosine a) (isAngle a) (cosine-range a) h
-
--- ---- every result is a double
-clamp-fits : (x : Float) → T (fits binary64 x) → T (fits binary64 (clamp x))
-unfolding clamp whole neg
-clamp-fits x h = cond-fits binary64 (lt x (neg (whole 1))) (neg (whole 1)) (cond (lt (whole 1) x) (whole 1) x) (unfold fits in tt) (cond-fits binary64 (lt (whole 1) x) (whole 1) x (unfold fits in tt) h)
-
-sine-series-fits : (r : Float) → T (fits binary64 (sineSeries r))
-unfolding sineSeries
-sine-series-fits r = mul-fits binary64 _ r
-
-cosine-series-fits : (r : Float) → T (fits binary64 (cosineSeries r))
-unfolding cosineSeries cosineSum
-cosine-series-fits r = sub-fits binary64 (whole 1) _
-
-sineAt-fits : (q : ℕ) (s c : Float) → T (fits binary64 s) → T (fits binary64 c) → T (fits binary64 (sineAt q s c))
-unfolding sineAt
-sineAt-fits zero s c p r = p
-sineAt-fits (suc zero) s c p r = r
-sineAt-fits (suc (suc zero)) s c p r = neg-fits binary64 s p
-sineAt-fits (suc (suc (suc q))) s c p r = neg-fits binary64 c r
-
-cosineAt-fits : (q : ℕ) (s c : Float) → T (fits binary64 s) → T (fits binary64 c) → T (fits binary64 (cosineAt q s c))
-unfolding cosineAt
-cosineAt-fits zero s c p r = r
-cosineAt-fits (suc zero) s c p r = neg-fits binary64 s p
-cosineAt-fits (suc (suc zero)) s c p r = neg-fits binary64 c r
-cosineAt-fits (suc (suc (suc q))) s c p r = p
-
-of-fits : (at : ℕ → Float → Float → Float) → ((q : ℕ) (s c : Float) → T (fits binary64 s) → T (fits binary64 c) → T (fits binary64 (at q s c))) → (a : Float) → T (fits binary64 (ofAngle at a))
-unfolding ofAngle
-of-fits at fit a =
-    let r = remainder a (turns a) in
-    let x = at (quadrant (turns a)) (sineSeries r) (cosineSeries r) in
-    cond-fits binary64 (isAngle a) (clamp x) nan (clamp-fits x (fit (quadrant (turns a)) (sineSeries r) (cosineSeries r) (sine-series-fits r) (cosine-series-fits r))) (nan-fits binary64)
-
-pub sine-fits : (a : Float) → T (fits binary64 (sine a))
-unfolding sine
-sine-fits a = of-fits sineAt sineAt-fits a
-
-pub cosine-fits : (a : Float) → T (fits binary64 (cosine a))
-unfolding cosine
-cosine-fits a = of-fits cosineAt cosineAt-fits a
-
-pub tangent-fits : (a : Float) → T (fits binary64 (tangent a))
-unfolding tangent
-tangent-fits a = div-fits binary64 (sine a) (cosine a)

@@ -1,5 +1,5 @@
 pub mod Small
 pub mod Turns
 pub mod Reduction
-pub mod Values
+pub mod Computed
 pub mod Laws

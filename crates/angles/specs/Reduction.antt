@@ -4,12 +4,12 @@ use mathlib.Core.Bool.{cond}
 use Prim.Native.Nat.{ℕ}
 use lib.Ieee.{Float, nan}
 use Rattle.doubles.specs.Arithmetic.{_⊗_}
-use Rattle.angles.specs.Sine.{isAngle, turns, quadrant, remainder, sineSum, cosineSum}
+use Rattle.angles.specs.Sine.{isAngle, quarterTurns, quadrant, remainder, sineSum, cosineSum}
 
 -- k mod 4, or 4 where a is no angle, and r
 pub record Reduces (a : Float) (q : ℕ) (r : Float) : Type 0 where
-  pub turned : q ≡ cond (isAngle a) (quadrant (turns a)) 4
-  pub left : r ≡ cond (isAngle a) (remainder a (turns a)) nan
+  pub turned : q ≡ cond (isAngle a) (quadrant (quarterTurns a)) 4
+  pub left : r ≡ cond (isAngle a) (remainder a (quarterTurns a)) nan
 
 -- with both sums at t = r·r
 pub record Expands (a : Float) (q : ℕ) (r s c : Float) : Type 0 where

@@ -1,30 +1,27 @@
--- Sine, cosine and tangent, as the paper's stand-ins define them.
+-- Sine, cosine and tangent of an angle in radians, as the paper's stand-ins define them.
 use mathlib.Core.Bool.{Bool, cond, _&&_}
 use Prim.Native.Nat.{ℕ, zero, suc, _+_, _-_, _*_, _%_}
 use lib.Ieee.{Float, nan, neg, lt, le, toUnsigned}
 use Rattle.doubles.specs.Arithmetic.{_⊕_, _⊖_, _⊗_, _⊘_, decimal, whole, bits}
 use Rattle.doubles.specs.Functions.{floorOf}
-use Rattle.doubles.specs.Series.{down}
+use Rattle.doubles.specs.Series.{horner}
 
 -- |a| ≤ 64
 unfoldable pub isAngle : Float → Bool
 unfolding whole neg
 isAngle a = le (neg (whole 64)) a && le a (whole 64)
 
--- k = floor(a·3FE45F306DC9C883 + 0.5)
-unfoldable pub quarters : Float → Float
+-- k = floor(a·3FE45F306DC9C883 + 0.5), where 3FE45F306DC9C883 is 2/PI: the quarter turns nearest to a
+unfoldable pub quarterTurns : Float → Float
 unfolding bits decimal
-quarters a = a ⊗ bits 0x3FE45F306DC9C883 ⊕ decimal 5 1
-
-unfoldable pub turns : Float → Float
-turns a = floorOf (quarters a)
+quarterTurns a = floorOf (a ⊗ bits 0x3FE45F306DC9C883 ⊕ decimal 5 1)
 
 -- k mod 4, 0 to 3, also for k below 0
 unfoldable pub quadrant : Float → ℕ
 unfolding whole
 quadrant k = cond (lt k (whole 0)) ((4 - toUnsigned 64 (neg k) % 4) % 4) (toUnsigned 64 k % 4)
 
--- r = (a − k·3FF921FB54400000) − k·3DD0B4611A626331
+-- r = (a − k·3FF921FB54400000) − k·3DD0B4611A626331, the two parts of PI/2: 1.57079632673412… and 6.0771…e-11
 unfoldable pub remainder : Float → Float → Float
 unfolding bits
 remainder a k = (a ⊖ k ⊗ bits 0x3FF921FB54400000) ⊖ k ⊗ bits 0x3DD0B4611A626331
@@ -41,12 +38,12 @@ cosineStep t n h = whole 1 ⊖ (t ⊘ whole ((2 * n - 1) * (2 * n))) ⊗ h
 
 -- from h = 1, n = 8 down to 1
 unfoldable pub sineSum : Float → Float
-unfolding down sineStep whole
-sineSum t = down (sineStep t) 8 (whole 1)
+unfolding horner sineStep whole
+sineSum t = horner (sineStep t) 8 (whole 1)
 
 unfoldable pub cosineSum : Float → Float
-unfolding down cosineStep whole
-cosineSum t = down (cosineStep t) 8 (whole 1)
+unfolding horner cosineStep whole
+cosineSum t = horner (cosineStep t) 8 (whole 1)
 
 -- t = r·r, and the sine's times r at the end
 unfoldable pub sineSeries : Float → Float
@@ -77,7 +74,7 @@ clamp x = cond (lt x (neg (whole 1))) (neg (whole 1)) (cond (lt (whole 1) x) (wh
 -- what both have in common, from a to the result: NaN where a is no angle
 unfoldable pub ofAngle : (ℕ → Float → Float → Float) → Float → Float
 ofAngle at a =
-    let k = turns a in
+    let k = quarterTurns a in
     let r = remainder a k in
     cond (isAngle a) (clamp (at (quadrant k) (sineSeries r) (cosineSeries r))) nan
 

@@ -1,4 +1,5 @@
-// Sine, cosine and tangent, each defined for every double by the operations that give it: an equation with a definition of `specs/`.
+// Sine, cosine and tangent of an angle in radians, each defined for every double by the operations that give it: an equation with a
+// definition of `specs/`.
 ghost use mathlib.Core.Path.{_≡_};
 ghost use Rattle.angles.specs.Sine.{remainder, sineSum, cosineSum, clamp, sine, cosine, tangent};
 ghost use Rattle.angles.specs.Reduction.{Reduces, Expands};
@@ -107,6 +108,7 @@ fn expand(a: f64) -> Expansion
     }
 }
 
+// The sine of an angle a, in radians: from −1 to 1, and NaN where |a| is above 64 or a is NaN.
 pub fn sin(a: f64) -> f64
     ensures { λ r. ⌜ r ≡ sine a ⌝ }
 {
@@ -123,6 +125,7 @@ pub fn sin(a: f64) -> f64
     }
 }
 
+// The cosine, likewise.
 pub fn cos(a: f64) -> f64
     ensures { λ r. ⌜ r ≡ cosine a ⌝ }
 {
@@ -139,6 +142,7 @@ pub fn cos(a: f64) -> f64
     }
 }
 
+// The sine and the cosine of one angle.
 pub struct SinCos {
     pub sin: f64,
     pub cos: f64,
@@ -153,7 +157,7 @@ fn both_clamped(sin: f64, cos: f64) -> SinCos
     }
 }
 
-// Both of one angle: one reduction, and each series once.
+// Both of one angle, in radians: one reduction, and each series once.
 pub fn sin_cos(a: f64) -> SinCos
     ensures { λ r. ⌜ (r .sin ≡ sine a) × (r .cos ≡ cosine a) ⌝ }
 {
@@ -173,6 +177,7 @@ pub fn sin_cos(a: f64) -> SinCos
     }
 }
 
+// The tangent of an angle a, in radians: the sine by the cosine.
 pub fn tan(a: f64) -> f64
     ensures { λ r. ⌜ r ≡ tangent a ⌝ }
 {

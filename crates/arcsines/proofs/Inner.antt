@@ -1,12 +1,12 @@
 -- The paper's lines for the arcsine, as theorems about the definition: the series from 0 to 0.5, above that PI/2 − 2·arcsine(root((1−a)/2)), and odd below 0.
 -- The root is at most 0.5, so that the inner arcsine is the series, which the definition takes at once. Assumes nothing.
-use mathlib.Core.Path.{_≡_, refl}
+use mathlib.Core.Path.{_≡_, refl, sym}
 use mathlib.Core.Bool.{Bool, true, false, cond, _&&_}
 use Prim.Native.Nat.{ℕ, zero, suc, _+_, _*_, _^_, _≤_, _<_}
-use native.Mathlib.Nat.{le-trans as ℕ·le-trans, le-of-lt, not-le-of-lt, mul-le-mul, mul-lt-mul-of-pos-right, mul-pos, zero-lt-suc}
+use native.Mathlib.Nat.{le-trans as ℕ·le-trans, le-of-eq, not-le-of-lt, mul-assoc, mul-le-mul, mul-pos, zero-lt-suc}
 use native.Mathlib.Decide.{decLe}
 use native.Mathlib.Omega.{arith}
-use lib.Dec.{T, lit<, lit≤, lt→ltb}
+use lib.Dec.{T, lit<, lt→ltb}
 use lib.IntN.{ℤ}
 use lib.Pow.{pow-pos}
 use lib.Ieee.{Float, nan, inf, fin, binary64, sub, div, neg, lt, le, fits, isNan}
@@ -14,7 +14,7 @@ use lib.Ieee.Bits.{is-true}
 use lib.Ieee.Fits.{up-pos, div-fits}
 use lib.Ieee.Exact.{HasValue}
 use lib.Ieee.Order.{le-of-values}
-use lib.Ieee.Positive.{positive, positive-of-value, values-of-le}
+use lib.Ieee.Positive.{positive, values-of-le}
 use lib.Ieee.Scale.{finite}
 use Rattle.doubles.specs.Arithmetic.{_⊖_, _⊗_, _⊘_, decimal, whole}
 use Rattle.doubles.specs.Order.{_≼_, _≺_, Number, Finite}
@@ -22,9 +22,8 @@ use Rattle.doubles.proofs.Order.{le→cross, le-refl, le-trans, lt→le, left-n
 use Rattle.doubles.proofs.Monotone.{sub-mono, div-mono}
 use Rattle.doubles.proofs.Bounds.{sub-number, div-number, zero-number, one-number, sub-nonneg, div-nonneg, positive-nonzero}
 use Rattle.roots.specs.Root.{squareRoot}
-use Rattle.roots.proofs.Doubles.{double-scaled}
-use Rattle.roots.proofs.Theorems.{squareRoot-closest, squareRoot-nearest, squareRoot-fits, squareRoot-not-negative}
-use Rattle.arcsines.specs.Arcsine.{isSine, arcsineSeries, arcsineUpward, arcsine, halfPi}
+use Rattle.roots.proofs.Theorems.{squareRoot-is-root, squareRoot-not-negative}
+use Rattle.arcsines.specs.Arcsine.{isSine, arcsineSeries, halfAngleSine, arcsineUpward, arcsine, halfPi}
 
 abbrev half : Float
 half = decimal 5 1
@@ -97,28 +96,23 @@ radicand-in {a} h k =
 -- ---- so its root lies from 0 to 0.5
 
 -- With u for 1, a for the radicand, b for its root and c for 0.5: a root above 0.5 would be too far from the exact one.
-not-above : (a b c u : ℕ) → u ≡ 2 * c → a * 4 ≤ 1 * u → (c < b → (c + b) * (c + b) ≤ 4 * a * u) → b * 2 ≤ 1 * u
+not-above : (a b c u : ℕ) → u ≡ 2 * c → a * 4 ≤ 1 * u → (c < b → (b + c) * (b + c) < 4 * (a * u)) → b * 2 ≤ 1 * u
 not-above a b c u e h near = elim (decLe b c) [ yes k ↦ omega arith | no k ↦ absurd (far (omega arith)) ]
   where
     far : c < b → ⊥
     far k =
-        let l : u < c + b = omega arith in
-        let p : 0 < c + b = omega arith in
+        let l : u ≤ b + c = omega arith in
         let q : 4 * a ≤ u = omega arith in
-        not-le-of-lt (mul-lt-mul-of-pos-right l p) (ℕ·le-trans (near k) (mul-le-mul q (le-of-lt l)))
+        not-le-of-lt (near k) (ℕ·le-trans (le-of-eq (sym (mul-assoc 4 a u))) (mul-le-mul (ℕ·le-trans q l) l))
 
 positive-root : (x : Float) → T (fits binary64 x) → T (positive x) → x ≼ quarter → squareRoot x ≼ half
 positive-root x f p h =
     let c = constants in
-    let y = squareRoot x in
-    let n = squareRoot-nearest x f p in
-    let q : T (positive y) = positive-of-value y (n .r * 2 ^ n .k) (2 ^ 590) (n .root) (mul-pos (ℕ·le-trans (lit≤ tt) (n .digits .0)) (pow-pos (n .k))) in
-    let s = double-scaled x f p .scaled in
-    let t = double-scaled y (squareRoot-fits x f) q .scaled in
-    let room = not-above (s .a) (t .a) (2 ^ 1073) (2 ^ 1074) refl
-    (values-of-le x quarter (s .a) (2 ^ 1074) 1 4 p (c .quarter-positive) (s .value) (c .quarter-value) (h .holds))
-    (squareRoot-closest x f p .above half (s .a) (t .a) (2 ^ 1073) (c .half-fits) (s .value) (t .value) (c .half-units)) in
-    record { holds = le-of-values y half (t .a) (2 ^ 1074) 1 2 (pow-pos 1074) (lit< tt) (t .value) (c .half-value) room }
+    let n = squareRoot-is-root x f .nearest p in
+    let room = not-above (n .a) (n .b) (2 ^ 1073) (2 ^ 1074) refl
+    (values-of-le x quarter (n .a) (2 ^ 1074) 1 4 p (c .quarter-positive) (n .operand) (c .quarter-value) (h .holds))
+    (n .above half (2 ^ 1073) (c .half-fits) (c .half-units)) in
+    record { holds = le-of-values (squareRoot x) half (n .b) (2 ^ 1074) 1 2 (pow-pos 1074) (lit< tt) (n .root) (c .half-value) room }
 
 root-in : (x : Float) → T (fits binary64 x) → whole 0 ≼ x → x ≼ quarter → squareRoot x ≼ half
 root-in nan f h k = unfold le in absurd (k .holds)
@@ -143,7 +137,8 @@ arcsine-series a h k =
     simp (is-true (le (neg (whole 1)) a) (le-trans (c .minus-one) low .holds), is-true (le a (whole 1)) (le-trans high (c .half-one) .holds), is-true (le a half) k, not-below low)
 
 -- the inner arcsine is the series
-pub arcsine-inner : (a : Float) → T (lt (decimal 5 1) a) → T (le a (whole 1)) → arcsine (squareRoot ((whole 1 ⊖ a) ⊘ whole 2)) ≡ arcsineSeries (squareRoot ((whole 1 ⊖ a) ⊘ whole 2))
+pub arcsine-inner : (a : Float) → T (lt (decimal 5 1) a) → T (le a (whole 1)) → arcsine (halfAngleSine a) ≡ arcsineSeries (halfAngleSine a)
+unfolding halfAngleSine
 arcsine-inner a h k =
     let x = (whole 1 ⊖ a) ⊘ whole 2 in
     let r = radicand-in (lt→le (record { holds = h })) (record { holds = k }) in
@@ -152,6 +147,7 @@ arcsine-inner a h k =
 
 -- above 0.5: PI/2 − 2·arcsine(root((1−a)/2))
 pub arcsine-above-half : (a : Float) → T (lt (decimal 5 1) a) → T (le a (whole 1)) → arcsine a ≡ halfPi ⊖ whole 2 ⊗ arcsine (squareRoot ((whole 1 ⊖ a) ⊘ whole 2))
+unfolding halfAngleSine
 arcsine-above-half a h k =
     let c = constants in
     let above : half ≺ a = record { holds = h } in

@@ -1,4 +1,3 @@
 pub mod ArcsineParts
+pub mod Computed
 pub mod Inner
-pub mod Values
-pub mod Laws

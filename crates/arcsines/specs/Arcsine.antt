@@ -1,11 +1,11 @@
--- Arcsine and arccosine, as the paper's stand-ins define them.
+-- Arcsine and arccosine, as the paper's stand-ins define them. Results are angles in radians.
 use mathlib.Core.Bool.{Bool, cond, _&&_}
 use Prim.Native.Nat.{ℕ, _+_, _-_, _*_, _^_}
 use lib.Ieee.{Float, nan, neg, lt, le}
 use Rattle.doubles.specs.Arithmetic.{_⊕_, _⊖_, _⊗_, _⊘_, decimal, whole}
 use Rattle.doubles.specs.Functions.{pi}
+use Rattle.doubles.specs.Series.{horner}
 use Rattle.roots.specs.Root.{squareRoot}
-use Rattle.doubles.specs.Series.{down}
 
 -- h ← 1 + ((t·(2n−1)²)/(2n(2n+1)))·h
 unfoldable pub arcsineStep : Float → ℕ → Float → Float
@@ -14,31 +14,53 @@ arcsineStep t n h = whole 1 ⊕ ((t ⊗ whole ((2 * n - 1) ^ 2)) ⊘ whole (2 * 
 
 -- t = a·a, h = 1, n = 24 down to 1; a·h
 unfoldable pub arcsineSeries : Float → Float
-unfolding down arcsineStep whole
-arcsineSeries a = a ⊗ down (arcsineStep (a ⊗ a)) 24 (whole 1)
+unfolding horner arcsineStep whole
+arcsineSeries a = a ⊗ horner (arcsineStep (a ⊗ a)) 24 (whole 1)
 
 unfoldable pub halfPi : Float
 unfolding pi whole
 halfPi = pi ⊘ whole 2
 
+-- PI/2 − b
+abbrev pub complement : Float → Float
+complement b = halfPi ⊖ b
+
+-- a ≤ 0.5
+unfoldable pub upToHalf : Float → Bool
+unfolding decimal
+upToHalf a = le a (decimal 5 1)
+
+-- root((1−a)/2): the sine of half the angle from arcsine a up to PI/2
+unfoldable pub halfAngleSine : Float → Float
+unfolding whole
+halfAngleSine a = squareRoot ((whole 1 ⊖ a) ⊘ whole 2)
+
+-- For a ≤ 0.5 the first; above: PI/2 − 2·the second.
+unfoldable pub upwardBy : Float → Float → Float → Float
+unfolding upToHalf whole
+upwardBy a own half = cond (upToHalf a) own (complement (whole 2 ⊗ half))
+
 -- For a ≤ 0.5 the series; above: PI/2 − 2·arcsine(root((1−a)/2)).
 -- There (1−a)/2 is at most 0.25 and its root at most 0.5, so that the inner arcsine is the series again: `arcsine-inner` of proofs/Inner,
 -- where `arcsine-above-half` has the line above in the paper's own words.
 unfoldable pub arcsineUpward : Float → Float
-unfolding decimal whole
-arcsineUpward a =
-    cond (le a (decimal 5 1)) (arcsineSeries a) (halfPi ⊖ whole 2 ⊗ arcsineSeries (squareRoot ((whole 1 ⊖ a) ⊘ whole 2)))
+unfolding upwardBy halfAngleSine
+arcsineUpward a = upwardBy a (arcsineSeries a) (arcsineSeries (halfAngleSine a))
 
 -- from −1 to 1
 unfoldable pub isSine : Float → Bool
 unfolding whole neg
 isSine a = le (neg (whole 1)) a && le a (whole 1)
 
--- NaN beyond ±1 and for NaN; odd for a below 0
-unfoldable pub arcsine : Float → Float
+-- NaN beyond ±1 and for NaN; odd for a below 0; from 0 on as `upward` has it
+unfoldable pub oddOnSines : (Float → Float) → Float → Float
 unfolding whole
-arcsine a = cond (isSine a) (cond (lt a (whole 0)) (neg (arcsineUpward (neg a))) (arcsineUpward a)) nan
+oddOnSines upward a = cond (isSine a) (cond (lt a (whole 0)) (neg (upward (neg a))) (upward a)) nan
+
+unfoldable pub arcsine : Float → Float
+unfolding oddOnSines
+arcsine a = oddOnSines arcsineUpward a
 
 -- arccosine is PI/2 − arcsine
 unfoldable pub arccosine : Float → Float
-arccosine a = halfPi ⊖ arcsine a
+arccosine a = complement (arcsine a)

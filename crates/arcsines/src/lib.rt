@@ -1,11 +1,8 @@
-// Arcsine and arccosine, each defined for every double by the operations that give it: an equation with a definition of `specs/`.
+// Arcsine and arccosine in radians, each defined for every double by the operations that give it: an equation with a definition of
+// `specs/`.
 ghost use mathlib.Core.Path.{_≡_};
-ghost use Rattle.doubles.specs.Arithmetic.{_⊖_, whole};
-ghost use Rattle.doubles.specs.Series.{down};
-ghost use Rattle.arcsines.specs.Arcsine.{arcsineStep, arcsineSeries, halfPi, arcsine, arccosine};
-ghost use Rattle.arcsines.specs.ArcsineParts.{magnitude, seriesArgument, upwardBy, arcsineBy};
-
-const PI: f64 = 3.141592653589793;
+ghost use Rattle.arcsines.specs.Arcsine.{arcsineSeries, complement, upwardBy, arcsine, arccosine};
+ghost use Rattle.arcsines.specs.ArcsineParts.{both, firstSteps, lastSteps, magnitude, seriesArgument, arcsineBy};
 
 // Two numbers at once.
 pub struct Both {
@@ -16,7 +13,7 @@ pub struct Both {
 // The series of two arguments with squares t and u, step by step in pairs, so that two divisions go at once and both cost little more
 // than one. Steps 24 to 13.
 fn first_steps_both(t: f64, u: f64) -> Both
-    ensures { λ r. ⌜ (down (arcsineStep t) 12 (r .first) ≡ down (arcsineStep t) 24 (whole 1)) × (down (arcsineStep u) 12 (r .second) ≡ down (arcsineStep u) 24 (whole 1)) ⌝ }
+    ensures { λ r. ⌜ r ≡ both (firstSteps t) (firstSteps u) ⌝ }
 {
     let h = 1.0;
     let k = 1.0;
@@ -52,7 +49,7 @@ fn first_steps_both(t: f64, u: f64) -> Both
 
 // Steps 12 to 1.
 fn last_steps_both(t: f64, u: f64, h: f64, k: f64) -> Both
-    ensures { λ r. ⌜ (r .first ≡ down (arcsineStep t) 12 h) × (r .second ≡ down (arcsineStep u) 12 k) ⌝ }
+    ensures { λ r. ⌜ r ≡ both (lastSteps t h) (lastSteps u k) ⌝ }
 {
     let h = 1.0 + t * 529.0 / 600.0 * h;
     let k = 1.0 + u * 529.0 / 600.0 * k;
@@ -85,7 +82,7 @@ fn last_steps_both(t: f64, u: f64, h: f64, k: f64) -> Both
 }
 
 fn arcsine_series_both(a: f64, b: f64) -> Both
-    ensures { λ r. ⌜ (r .first ≡ arcsineSeries a) × (r .second ≡ arcsineSeries b) ⌝ }
+    ensures { λ r. ⌜ r ≡ both (arcsineSeries a) (arcsineSeries b) ⌝ }
 {
     let t = a * a;
     let u = b * b;
@@ -116,12 +113,12 @@ fn series_argument(m: f64) -> f64
 
 // The arcsine of m by that series.
 fn arcsine_upward(m: f64, series: f64) -> f64
-    ensures { λ r. ⌜ r ≡ upwardBy m series ⌝ }
+    ensures { λ r. ⌜ r ≡ upwardBy m series series ⌝ }
 {
     if m <= 0.5 {
         series
     } else {
-        PI / 2.0 - 2.0 * series
+        doubles::PI / 2.0 - 2.0 * series
     }
 }
 
@@ -140,7 +137,7 @@ fn arcsine_by(a: f64, series: f64) -> f64
     }
 }
 
-// The series of two cost no more than that of one, so there is no other.
+// The arcsine of a, in radians, from −PI/2 to PI/2; NaN beyond ±1. The series of two cost no more than that of one, so there is no other.
 pub fn asin(a: f64) -> f64
     ensures { λ r. ⌜ r ≡ arcsine a ⌝ }
 {
@@ -149,7 +146,7 @@ pub fn asin(a: f64) -> f64
     arcsine_by(a, series.first)
 }
 
-// Two arcsines at once.
+// Two arcsines at once, in radians.
 pub fn asin_both(a: f64, b: f64) -> Both
     ensures { λ r. ⌜ (r .first ≡ arcsine a) × (r .second ≡ arcsine b) ⌝ }
 {
@@ -162,13 +159,14 @@ pub fn asin_both(a: f64, b: f64) -> Both
     }
 }
 
-// The arccosine of a number by its arcsine.
+// The arccosine of a number by its arcsine, both in radians.
 pub fn acos_by(arc_sine: f64) -> f64
-    ensures { λ r. ⌜ r ≡ halfPi ⊖ «arc_sine» ⌝ }
+    ensures { λ r. ⌜ r ≡ complement «arc_sine» ⌝ }
 {
-    PI / 2.0 - arc_sine
+    doubles::PI / 2.0 - arc_sine
 }
 
+// The arccosine of a, in radians, from 0 to PI; NaN beyond ±1.
 pub fn acos(a: f64) -> f64
     ensures { λ r. ⌜ r ≡ arccosine a ⌝ }
 {

@@ -1,7 +1,7 @@
--- A series is worked out from its innermost bracket: from h, for n = count down to 1, h ← step n h.
+-- Horner's scheme: a series is worked out from its innermost bracket. From h, for n = count down to 1, h ← step n h.
 use Prim.Native.Nat.{ℕ, zero, suc}
 use lib.Ieee.{Float}
 
-unfoldable pub down : (ℕ → Float → Float) → ℕ → Float → Float
-down step zero h = h
-down step (suc n) h = down step n (step (suc n) h)
+unfoldable pub horner : (ℕ → Float → Float) → ℕ → Float → Float
+horner step zero h = h
+horner step (suc n) h = horner step n (step (suc n) h)

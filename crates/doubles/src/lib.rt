@@ -1,8 +1,9 @@
-// Functions on doubles that the language has no operator for.
+// Functions on doubles that the language has no operator for. Where nothing else is said, results have the unit of the arguments.
 ghost use mathlib.Core.Path.{_≡_};
 ghost use Rattle.doubles.specs.Functions.{minOf2, maxOf2, floatMin, floatMax, floorOf, cubeOf, toRadians, toDegrees};
 
-const PI: f64 = 3.141592653589793;
+// The double nearest to PI, for every crate.
+pub const PI: f64 = 3.141592653589793;
 
 // The smaller of two, and the second where the comparison fails.
 pub fn min_of_2(first: f64, second: f64) -> f64
@@ -57,19 +58,21 @@ pub fn floor(x: f64) -> f64
     x
 }
 
-// The power 3.
+// The power 3, in the cube of the unit of a.
 pub fn cube(a: f64) -> f64
     ensures { λ r. ⌜ r ≡ cubeOf a ⌝ }
 {
     a * a * a
 }
 
+// Degrees in radians.
 pub fn to_radians(degrees: f64) -> f64
     ensures { λ r. ⌜ r ≡ toRadians degrees ⌝ }
 {
     degrees * (PI / 180.0)
 }
 
+// Radians in degrees.
 pub fn to_degrees(radians: f64) -> f64
     ensures { λ r. ⌜ r ≡ toDegrees radians ⌝ }
 {

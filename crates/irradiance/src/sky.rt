@@ -4,8 +4,6 @@ ghost use Rattle.irradiance.specs.Sky.{directBeam, altitudeTerm, clearne
 ghost use Rattle.irradiance.specs.Sky.{brightnessIn, cutBrightness, circumsolarBrightness, horizontalBrightness, skyOf};
 use sun::hour::Hour;
 
-const PI: f64 = 3.141592653589793;
-
 // Table 8 of ISO 52010-1: F11, F12, F13, F21, F22, F23.
 const BRIGHTNESS_COEFFICIENTS: [[f64; 6]; 8] = [
     [-0.008, 0.588, -0.062, -0.06, 0.072, -0.022],
@@ -37,7 +35,7 @@ pub fn init_direct_beam_radiation(
 fn altitude_term(solar_altitude: f64) -> f64
     ensures { λ r. ⌜ r ≡ altitudeTerm «solar_altitude» ⌝ }
 {
-    1.014 * doubles::cube(PI / 180.0 * solar_altitude)
+    1.014 * doubles::cube(doubles::PI / 180.0 * solar_altitude)
 }
 
 // The clearness, a number: diffuse and beam in W/m², altitude in degrees.
@@ -106,7 +104,7 @@ fn coefficients_at(clearness_parameter: f64) -> [f64; 6]
 fn brightness_of(a: f64, b: f64, c: f64, delta: f64, solar_zenith_angle: f64) -> f64
     ensures { λ r. ⌜ r ≡ brightnessOf a b c delta «solar_zenith_angle» ⌝ }
 {
-    a + b * delta + c * (PI * solar_zenith_angle / 180.0)
+    a + b * delta + c * (doubles::PI * solar_zenith_angle / 180.0)
 }
 
 fn circumsolar_brightness(row: [f64; 6], delta: f64, solar_zenith_angle: f64) -> f64

@@ -9,7 +9,7 @@ use lib.ListN.{length}
 use lib.Ieee.{Float, binary64, add, sub, mul, div, neg, lt, le, eq, isNan, toUnsigned, ofInt, toBits}
 use Rattle.doubles.specs.Arithmetic.{whole, decimal}
 use Rattle.doubles.specs.Functions.{cubeOf, floorOf, toRadians, floatMax}
-use Rattle.angles.specs.Sine.{isAngle, quarters, turns, quadrant, remainder, sineSum, cosineSum, sineSeries, cosineSeries, sineAt, cosineAt, clamp, sine, cosine, tangent}
+use Rattle.angles.specs.Sine.{isAngle, quarterTurns, quadrant, remainder, sineSum, cosineSum, sineSeries, cosineSeries, sineAt, cosineAt, clamp, sine, cosine, tangent}
 use Rattle.days.specs.Day.{equationOfTime}
 use Rattle.sun.specs.Hour.{timeShift, hourAngle}
 use Rattle.orientation.specs.Orientation.{orientation180, wrappedOnce}
@@ -102,7 +102,7 @@ edgeValues =
 pub edge-values : edgeValues ≡ true
 unfolding edgeValues same isFactor inside outside surface horizon distantObstacle distantOverhang nearObstacle reveal
     add sub mul div neg lt le eq isNan toUnsigned ofInt toBits whole decimal cubeOf floorOf toRadians floatMax
-    sine cosine tangent isAngle turns quarters quadrant remainder sineSeries sineSum sineAt cosineSeries cosineSum cosineAt clamp
+    sine cosine tangent isAngle quarterTurns quadrant remainder sineSeries sineSum sineAt cosineSeries cosineSum cosineAt clamp
     equationOfTime timeShift hourAngle orientation180 wrappedOnce clearness tableRow
     counted outsideSolarBeam segmentOf sunOn reductionFactor hasReveal factorIn shadingFactor
 edge-values = refl

@@ -15,7 +15,7 @@ use Rattle.doubles.specs.Arithmetic.{whole, decimal, bits}
 use Rattle.doubles.specs.Functions.{floorOf, toRadians, toDegrees, minOf2, maxOf2, floatMin, floatMax, largestOf}
 use Rattle.doubles.specs.Order.{_≼_, Number}
 use Rattle.doubles.specs.Ranges.{within, aboveZero}
-use Rattle.angles.specs.Sine.{isAngle, quarters, turns, quadrant, remainder, sineSum, cosineSum, sineSeries, cosineSeries, sineAt, cosineAt, clamp, sine, cosine, tangent}
+use Rattle.angles.specs.Sine.{isAngle, quarterTurns, quadrant, remainder, sineSum, cosineSum, sineSeries, cosineSeries, sineAt, cosineAt, clamp, sine, cosine, tangent}
 use Rattle.arcsines.specs.Arcsine.{isSine, arcsineSeries, halfPi, arcsineUpward, arcsine}
 use Rattle.powers.specs.Power.{logarithmOf, powerOf, powerBy, powMinus1253}
 use Rattle.words.specs.Words.{number, wordCount, wordAt, doubleAt}
@@ -108,7 +108,7 @@ unfolding lists doubles checked tried siteFine hoursInYear atAll indexFine readi
 checks = 0
 
 sun : ℕ
-unfolding lists doubles sine cosine tangent isAngle turns quarters quadrant remainder sineSeries sineSum cosineSeries cosineSum sineAt cosineAt clamp arcsine isSine arcsineUpward
+unfolding lists doubles sine cosine tangent isAngle quarterTurns quadrant remainder sineSeries sineSum cosineSeries cosineSum sineAt cosineAt clamp arcsine isSine arcsineUpward
     arcsineSeries halfPi powMinus1253 powerBy powerOf logarithmOf orbitDeviation solarDeclination equationOfTime extraTerrestrialRadiation dayOf sinCosOf timeShift
     solarTime hourAngle altitudeSine cutAltitude solarAltitude solarZenith azimuthDenominator solarAzimuth airMass hourOf orientation180 currentHour sunAt
 sun = 0

@@ -2,7 +2,7 @@
 ghost use mathlib.Core.Path.{_≡_};
 ghost use Rattle.powers.specs.Power.{logarithmOf, powerOf, powMinus1253};
 
-// The logarithm of w · 2 ^ m.
+// The natural logarithm of w · 2 ^ m.
 fn logarithm(m: f64, w: f64) -> f64
     ensures { λ r. ⌜ r ≡ logarithmOf m w ⌝ }
 {
@@ -51,6 +51,7 @@ fn power(l: f64) -> f64
     p8 * p8
 }
 
+// u to the power −1.253, for u from 3 to 14, which have no unit; elsewhere NaN.
 pub fn pow_minus_1_253(u: f64) -> f64
     ensures { λ r. ⌜ r ≡ powMinus1253 u ⌝ }
 {

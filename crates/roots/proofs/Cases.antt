@@ -88,7 +88,7 @@ at-zero (fin false (suc m) e) h = absurd (sized false m e h)
 
 -- ---- neither
 
-unsized : (s : Bool) (e : ℤ) → eq (fin s zero e) none ≡ true
+pub unsized : (s : Bool) (e : ℤ) → eq (fin s zero e) none ≡ true
 unfolding eq
 unsized s e = go s (0 * up e * 1) (0 * 1 * down e) (ap (λ (a : ℕ). a * 1) (zero-mul (up e))) (zero-mul (down e))
   where

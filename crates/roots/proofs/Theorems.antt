@@ -1,71 +1,23 @@
--- What the root is, for every double x. Where x is positive and finite it is the double nearest to the exact root: no double is nearer (`squareRoot-closest`),
--- and its significand is the whole number nearest to the root of x's, scaled (`squareRoot-nearest`). It is a double (`squareRoot-fits`), never below zero
--- (`squareRoot-not-negative`), and no number exactly where x is none or is below zero (`squareRoot-nan`). `whole-floor` says that the whole root is the floor of the root.
--- Assumes nothing.
-pub use Rattle.roots.proofs.Whole.{whole-floor}
-pub use Rattle.roots.proofs.Closest.{squareRoot-closest}
+-- What the root is: `squareRoot-is-root`, the whole claim of specs/IsRoot.antt, and that only one double meets it (`root-unique`). Besides, for
+-- those who use it: it is a double and never below zero. Assumes nothing.
 use mathlib.Core.Path.{_≡_, refl, sym, ap, _∙_, subst}
-use mathlib.Core.Bool.{true, false, _||_}
-use Prim.Native.Nat.{ℕ, zero, suc, _+_, _*_, _/_, _^_, _≤_, _<_}
-use native.Mathlib.Nat.{mul-assoc, mul-right-comm, mul-pos, zero-lt-suc, eq-of-mul-eq-mul-right}
+use mathlib.Core.Bool.{Bool, true, false, cond, _||_}
+use Prim.Native.Nat.{ℕ, zero, suc, _+_, _-_, _*_, _/_, _^_, _<_}
+use native.Mathlib.Nat.{add-comm, mul-pos, mul-div-cancel, zero-lt-suc, lt-irrefl, lt-trans, le-antisymm}
 use native.Mathlib.Omega.{arith}
 use lib.IntN.{ℤ, pos}
 use lib.Dec.{T, ltb, lt→ltb, ltb→lt, not-T}
-use lib.Pow.{pow-pos}
-use lib.Ieee.{Float, nan, inf, fin, binary64, up, down, size, odd, fits, isNan, lt}
-use lib.Ieee.Bits.{ofBits-fits, is-true, is-false}
-use lib.Ieee.Fits.{up-pos, nan-fits}
-use lib.Ieee.Exact.{HasValue, odd-sign}
-use lib.Ieee.Positive.{positive}
-use Rattle.roots.specs.Root.{nearestRoot, unitsRoot, squareRoot, RoundedRoot}
-use Rattle.roots.proofs.Whole.{near-squares}
-use Rattle.roots.proofs.Scale.{Scaled, scaled, radicand, radicand-in, units-scaled, root-is, near, root-digits}
-use Rattle.roots.proofs.Pattern.{hidden, pattern}
+use lib.Ieee.{Float, nan, inf, fin, binary64, up, down, size, odd, ofBits, toBits, fits, isNan, lt}
+use lib.Ieee.Bits.{ofBits-toBits, is-true, is-false}
+use lib.Ieee.Fits.{up-pos, down-pos, nan-fits}
+use Rattle.roots.specs.Root.{nearestRoot, unitsRoot, squareRoot}
+use Rattle.roots.specs.IsRoot.{Units, Nearest, IsRoot}
+use Rattle.roots.proofs.Whole.{le-of-not-lt}
 use Rattle.roots.proofs.Doubles.{double-scaled}
-
--- from one fraction to another of the same size
-rescale : (x : Float) (a c b d : ℕ) → 0 < c → a * d ≡ b * c → HasValue x false a c → HasValue x false b d
-rescale nan a c b d p e v = v
-rescale (inf s) a c b d p e v = v
-rescale (fin s m e) a c b d p q v = (
-  v .0,
-  eq-of-mul-eq-mul-right c p (m * up e * d) (b * down e)
-      (mul-right-comm (m * up e) d c ∙ ap (λ (x : ℕ). x * d) (v .1) ∙ mul-right-comm a (down e) d ∙ ap (λ (x : ℕ). x * down e) q ∙ mul-right-comm b c (down e)),
-)
-
-half : (f : ℕ) → f ≤ 2099 → f / 2 ≤ 1050
-half f h = omega arith
-
-scaled-nearest : (x : Float) (m f : ℕ) → Scaled x m f → RoundedRoot x (squareRoot x)
-scaled-nearest x m f s =
-    let w = radicand m f in
-    let k = f / 2 in
-    let q = near-squares w (nearestRoot 53 w) (near m f (s .lo) (s .hi)) in
-    record {
-      n = w;
-      r = nearestRoot 53 w;
-      k = k;
-      operand = rescale x (s .a) (2 ^ 1074) (w * 4 ^ k) (4 ^ 590) (pow-pos 1074) (worth (s .a) (scaled m f) (4 ^ k) (units-scaled x m f s)) (s .value);
-      root = subst (λ (y : Float). HasValue y false (nearestRoot 53 w * 2 ^ k) (2 ^ 590)) (sym (root-is x m f s)) (odd-sign 53 false (nearestRoot 53 w) k 590);
-      above = q .0;
-      below = q .1;
-      digits = root-digits m f (s .lo) (s .hi);
-      least = radicand-in m f (s .lo) (s .hi) .0;
-    }
-  where
-    worth : (a w p : ℕ) → a * 2 ^ 54 ≡ w * p → a * 4 ^ 590 ≡ w * 2 ^ 52 * p * 2 ^ 1074
-    worth a w p e = sym (mul-assoc a (2 ^ 54) (2 ^ 1126)) ∙ ap (λ (x : ℕ). x * 2 ^ 1126) e ∙ sym (mul-assoc (w * p) (2 ^ 52) (2 ^ 1074)) ∙ ap (λ (x : ℕ). x * 2 ^ 1074) (mul-right-comm w p (2 ^ 52))
-
-pub squareRoot-nearest : (x : Float) → T (fits binary64 x) → T (positive x) → RoundedRoot x (squareRoot x)
-squareRoot-nearest x h p = let d = double-scaled x h p in scaled-nearest x (d .m) (d .f) (d .scaled)
+use Rattle.roots.proofs.Cases.{none, unsized, at-zero}
+use Rattle.roots.proofs.Nearest.{value-unique, scaled-fits, squareRoot-nearest}
 
 -- ---- a double
-
-scaled-fits : (x : Float) (m f : ℕ) → Scaled x m f → T (fits binary64 (squareRoot x))
-scaled-fits x m f s =
-    let r = nearestRoot 53 (radicand m f) in
-    let d = root-digits m f (s .lo) (s .hi) in
-    subst (λ (y : Float). T (fits binary64 y)) (pattern r (f / 2) (d .0) (d .1) (half f (s .range)) ∙ sym (root-is x m f s)) (ofBits-fits binary64 ((f / 2 + 484) * hidden + r))
 
 pub squareRoot-fits : (x : Float) → T (fits binary64 x) → T (fits binary64 (squareRoot x))
 squareRoot-fits nan h = unfold squareRoot in h
@@ -78,10 +30,7 @@ squareRoot-fits (fin false (suc m) e) h =
     let d = double-scaled (fin false (suc m) e) h (lt→ltb 0 (suc m) (zero-lt-suc m)) in
     scaled-fits (fin false (suc m) e) (d .m) (d .f) (d .scaled)
 
--- ---- its sign, and where it is no number
-
-abbrev none : Float
-none = fin false 0 (pos 0)
+-- ---- its sign
 
 -- what has no sign is not below zero
 plain : (m : ℕ) (e : ℤ) → lt (fin false m e) none ≡ false
@@ -91,14 +40,13 @@ plain m e = is-false (ltb (m * up e * 1) (0 * 1 * down e)) (not-T (ltb (m * up e
     no : m * up e * 1 < 0 * 1 * down e → ⊥
     no h = omega arith
 
-odd-plain : (q k l : ℕ) → (lt (odd 53 false q k l) none ≡ false) × (isNan (odd 53 false q k l) ≡ false)
-unfolding odd isNan
-odd-plain zero k l = (plain zero (pos 0), refl)
-odd-plain (suc q) k l = (plain _ _, refl)
-
-units-plain : (a : ℕ) → (lt (unitsRoot a) none ≡ false) × (isNan (unitsRoot a) ≡ false)
-unfolding unitsRoot
-units-plain a = let k = (size a + 1) / 2 in odd-plain (nearestRoot 53 (a * 4 ^ 53 / 4 ^ k)) k 590
+units-plain : (a : ℕ) → lt (unitsRoot a) none ≡ false
+unfolding unitsRoot odd
+units-plain a = let k = (size a + 1) / 2 in go (nearestRoot 53 (a * 4 ^ 53 / 4 ^ k)) k
+  where
+    go : (q k : ℕ) → lt (odd 53 false q k 590) none ≡ false
+    go zero k = plain zero (pos 0)
+    go (suc q) k = plain _ _
 
 below-zero : (m : ℕ) (e : ℤ) → lt (fin true (suc m) e) none ≡ true
 unfolding lt
@@ -121,13 +69,54 @@ squareRoot-not-negative (inf false) = unfold squareRoot lt in refl
 squareRoot-not-negative (fin true zero e) = unfold squareRoot in minus-zero e
 squareRoot-not-negative (fin false zero e) = unfold squareRoot in plain zero e
 squareRoot-not-negative (fin true (suc m) e) = unfold squareRoot lt in refl
-squareRoot-not-negative (fin false (suc m) e) = unfold squareRoot in units-plain (suc m * up e * 2 ^ 1074 / down e) .0
+squareRoot-not-negative (fin false (suc m) e) = unfold squareRoot in units-plain (suc m * up e * 2 ^ 1074 / down e)
 
-pub squareRoot-nan : (x : Float) → isNan (squareRoot x) ≡ (isNan x || lt x (fin false 0 (pos 0)))
-squareRoot-nan nan = unfold squareRoot isNan in refl
-squareRoot-nan (inf true) = unfold squareRoot isNan lt in refl
-squareRoot-nan (inf false) = unfold squareRoot isNan lt in refl
-squareRoot-nan (fin true zero e) = unfold squareRoot isNan in sym (minus-zero e)
-squareRoot-nan (fin false zero e) = unfold squareRoot isNan in sym (plain zero e)
-squareRoot-nan (fin true (suc m) e) = unfold squareRoot isNan in sym (below-zero m e)
-squareRoot-nan (fin false (suc m) e) = unfold squareRoot isNan in units-plain (suc m * up e * 2 ^ 1074 / down e) .1 ∙ sym (plain (suc m) e)
+-- ---- the whole claim
+
+of-none : (x : Float) → T (isNan x || lt x none) → squareRoot x ≡ nan
+of-none nan t = unfold squareRoot in refl
+of-none (inf true) t = unfold squareRoot in refl
+of-none (inf false) t = unfold isNan lt in absurd t
+of-none (fin true zero e) t = absurd (unfold isNan in subst T (minus-zero e) t)
+of-none (fin false m e) t = absurd (unfold isNan in subst T (plain m e) t)
+of-none (fin true (suc m) e) t = unfold squareRoot in refl
+
+pub squareRoot-is-root : (x : Float) → T (fits binary64 x) → IsRoot x (squareRoot x)
+squareRoot-is-root x f = record {
+  none = of-none x;
+  of-zero = λ t. sym (at-zero x (is-true _ t));
+  of-infinity = λ e. ap squareRoot e ∙ unfold squareRoot in refl;
+  nearest = squareRoot-nearest x f;
+}
+
+-- two doubles that are as many units are the same
+same-units : (y z : Float) (b : ℕ) → T (fits binary64 y) → T (fits binary64 z) → Units y b → Units z b → y ≡ z
+same-units y z b f g u v = sym (ofBits-toBits binary64 y f) ∙ ap (ofBits binary64) (pattern-of y b u ∙ sym (pattern-of z b v)) ∙ ofBits-toBits binary64 z g
+  where
+    written : Bool → ℕ → ℕ
+    written s n = let k = size n - 53 in cond s (2 ^ 63) 0 + k * 2 ^ 52 + n / 2 ^ k
+
+    pattern-of : (y : Float) (b : ℕ) → Units y b → toBits binary64 y ≡ written false b
+    pattern-of nan b u = absurd u
+    pattern-of (inf s) b u = absurd u
+    pattern-of (fin s m e) b u =
+        unfold toBits in (ap (λ (t : Bool). written t (m * up e * 2 ^ 1074 / down e)) (u .0) ∙ ap (λ (n : ℕ). written false n) (ap (λ (x : ℕ). x / down e) (u .1) ∙ mul-div-cancel b (down-pos e)))
+
+apart : {x y z : Float} (p : Nearest x y) (q : Nearest x z) → p .b < q .b → ⊥
+apart {x} {y} {z} p q l =
+    let far = p .below z (q .b) (q .double) (q .root) l in
+    let near = q .above y (p .b) (p .double) (p .root) l in
+    lt-irrefl _ (lt-trans far (rw (value-unique x (p .a) (q .a) (2 ^ 1074) (p .operand) (q .operand), add-comm (p .b) (q .b)) near))
+
+nearest-unique : {x y z : Float} → Nearest x y → Nearest x z → y ≡ z
+nearest-unique {x} {y} {z} p q =
+    let same : p .b ≡ q .b = le-antisymm (le-of-not-lt (apart q p)) (le-of-not-lt (apart p q)) in
+    same-units y z (p .b) (p .double) (q .double) (p .root) (rw same (q .root))
+
+pub root-unique : (x y z : Float) → IsRoot x y → IsRoot x z → y ≡ z
+root-unique nan y z p q = unfold isNan in p .none tt ∙ sym (q .none tt)
+root-unique (inf true) y z p q = unfold isNan lt in p .none tt ∙ sym (q .none tt)
+root-unique (inf false) y z p q = p .of-infinity refl ∙ sym (q .of-infinity refl)
+root-unique (fin s zero e) y z p q = let t = subst T (sym (unsized s e)) tt in p .of-zero t ∙ sym (q .of-zero t)
+root-unique (fin true (suc m) e) y z p q = unfold isNan in (let t = subst T (sym (below-zero m e)) tt in p .none t ∙ sym (q .none t))
+root-unique (fin false (suc m) e) y z p q = let t = lt→ltb 0 (suc m) (zero-lt-suc m) in nearest-unique (p .nearest t) (q .nearest t)

@@ -68,11 +68,11 @@ next-digit h i r l e =
     digit : ℕ → ℕ
     digit x = cond (leb (suc x * suc x) (part h (i + 1))) (suc x) x
 
--- r is within a half of the root of n: (2r - 1)² ≤ 4n < (2r + 1)², with the fourths dropped, which no whole numbers can make up for
+-- r is within a half of the root of n: (2r - 1)² < 4n < (2r + 1)², with the fourths dropped, which no whole numbers can make up for
 abbrev pub Near : ℕ → ℕ → Type 0
 Near n r = (r * r < n + r) × (n ≤ r * r + r)
 
-le-of-not-lt : {r s : ℕ} → (s < r → ⊥) → r ≤ s
+pub le-of-not-lt : {r s : ℕ} → (s < r → ⊥) → r ≤ s
 le-of-not-lt h = le-of-suc-le-suc (lt-of-not-le h)
 
 -- a whole number above a near one is too far above the root
@@ -105,9 +105,9 @@ pub nearest-is : (d n r : ℕ) → 0 < n → n < 4 ^ d → Near n r → nearestR
 nearest-is d n r p h k = near-unique n (nearestRoot d n) r (nearest-near d n p h) k
 
 -- what `Near` says, with the halves doubled
-pub near-squares : (n r : ℕ) → Near n r → ((2 * r - 1) * (2 * r - 1) ≤ 4 * n) × (4 * n < (2 * r + 1) * (2 * r + 1))
+pub near-squares : (n r : ℕ) → Near n r → ((2 * r - 1) * (2 * r - 1) < 4 * n) × (4 * n < (2 * r + 1) * (2 * r + 1))
 near-squares n zero h = omega arith
-near-squares n (suc p) h = subst (λ (x : ℕ). (x * x ≤ 4 * n) × (4 * n < (2 * suc p + 1) * (2 * suc p + 1))) (sym (less p)) (omega arith)
+near-squares n (suc p) h = subst (λ (x : ℕ). (x * x < 4 * n) × (4 * n < (2 * suc p + 1) * (2 * suc p + 1))) (sym (less p)) (omega arith)
   where
     less : (p : ℕ) → 2 * suc p - 1 ≡ 2 * p + 1
     less p = omega arith

@@ -1,4 +1,4 @@
-// The correctly rounded square root of a double, in whole-number arithmetic.
+// The correctly rounded square root of a double, in whole-number arithmetic. What a reader must believe of it is specs/IsRoot.antt.
 ghost use mathlib.Core.Path.{_≡_};
 ghost use mathlib.Core.Bool.{false};
 ghost use Prim.Native.Nat.{_+_, _*_, _/_, _%_, _^_, _<_, _≤_};
@@ -75,7 +75,7 @@ fn nearest_root(h: u64, g: u64) -> u64
     }
 }
 
-// The root of m * 2^f / 2^54 units of 2^-1074, whose significand has 53 digits.
+// The root of m * 2^f / 2^54 units of 2^-1074, whose significand r has 53 digits: with k = f / 2 it is r * 2^k / 2^590.
 fn root_of(m: u64, f: u64) -> f64
     requires { ⌜ 2 ^ 52 ≤ m ⌝ ∗ ⌜ m < 2 ^ 53 ⌝ ∗ ⌜ f ≤ 2099 ⌝ }
     ensures { λ r. ⌜ r ≡ odd 53 false (nearestRoot 53 (m * 2 ^ (f % 2) * 2 ^ 52)) (f / 2) 590 ⌝ }
@@ -98,7 +98,7 @@ fn root_of_bits(b: u64) -> f64
     root_of(b << lift, 54 - lift)
 }
 
-// The double nearest to the exact root of x; a NaN for a NaN and below zero.
+// The double nearest to the exact root of x, in whatever unit x is the square of; a NaN for a NaN and below zero.
 pub fn sqrt(x: f64) -> f64
     ensures { λ r. ⌜ r ≡ squareRoot x ⌝ }
 {

@@ -1,6 +1,5 @@
 use lib.Ieee.{ofBits}
-use Rattle.arcsines.specs.Arcsine.{halfPi}
-use Rattle.arcsines.specs.ArcsineParts.{upwardBy}
+use Rattle.arcsines.specs.Arcsine.{halfPi, upwardBy}
 use Rattle.arcsines.proofs.arcsine_upward.Statement.{statement}
 use Rattle.arcsines.proofs.arcsine_upward.Tie as tie
 

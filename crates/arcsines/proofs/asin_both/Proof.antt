@@ -25,8 +25,8 @@ arcsine-by-requires-2 c κs = tt
 
 returns : tie.Need-returns
 returns c = (
-  rw (c .before .arcsine-by .ensures, c .before .before .arcsine-series-both .ensures .0, c .before .before .before .before .before .series-argument .ensures, c .before .before .before .before .before .before .magnitude .ensures) (arcsine-by _),
-  rw (c .arcsine-by2 .ensures, c .before .before .arcsine-series-both .ensures .1, c .before .before .before .series-argument2 .ensures, c .before .before .before .before .magnitude2 .ensures) (arcsine-by _),
+  rw (c .before .arcsine-by .ensures, c .before .before .arcsine-series-both .ensures, c .before .before .before .before .before .series-argument .ensures, c .before .before .before .before .before .before .magnitude .ensures) (arcsine-by _),
+  rw (c .arcsine-by2 .ensures, c .before .before .arcsine-series-both .ensures, c .before .before .before .series-argument2 .ensures, c .before .before .before .before .magnitude2 .ensures) (arcsine-by _),
 )
 
 pub asin-both-spec : {M : Type 1} → statement M

@@ -2,9 +2,9 @@ use mathlib.Core.Path.{refl}
 use lib.Ieee.{ofBits}
 use Rattle.doubles.specs.Arithmetic.{whole}
 use Rattle.doubles.specs.Functions.{toRadians}
-use Rattle.angles.proofs.Values.{steps}
-use Rattle.arcsines.proofs.Values.{steps as steps·arcsine}
-use Rattle.powers.proofs.Values.{steps as steps·power}
+use Rattle.angles.proofs.Computed.{steps}
+use Rattle.arcsines.proofs.Computed.{steps as steps·arcsine}
+use Rattle.powers.proofs.Computed.{steps as steps·power}
 use Rattle.sun.specs.Hour.{solarZenith, azimuthDenominator, airMass}
 use Rattle.sun.specs.HourParts.{altitudeTerms}
 use Rattle.sun.proofs.hour.terms_at_night.Statement.{statement}

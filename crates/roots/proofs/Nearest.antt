@@ -1,21 +1,22 @@
--- No double is nearer to the exact root than the root's double. Sizes are in units of 2^-1074, P = 2^K is the weight of the root's last digit. Assumes nothing.
+-- The root's double is nearer to the exact root than any other. Sizes are in units of 2^-1074, P = 2^K is the weight of the root's last digit. Assumes nothing.
 use mathlib.Core.Path.{_≡_, refl, sym, ap, _∙_, subst}
 use mathlib.Core.Logic.{_⊎_, inl, inr}
 use mathlib.Core.Bool.{Bool, true, false, not}
-use Prim.Native.Nat.{ℕ, zero, suc, _+_, _-_, _*_, _/_, _%_, _^_, _≤_, _<_}
-use native.Mathlib.Nat.{mul-assoc, mul-right-comm, mul-le-mul, mul-le-mul-right, lt-of-mul-lt-mul-right, zero-lt-suc, le-trans, le-of-eq, le-of-lt, eq-or-lt-of-le, eq-of-mul-eq-mul-right, add-sub-of-le}
+use Prim.Native.Nat.{ℕ, zero, suc, _+_, _-_, _*_, _/_, _%_, _^_, _≤_, _<_, zero-le}
+use native.Mathlib.Nat.{mul-assoc, mul-right-comm, mul-pos, mul-le-mul, mul-le-mul-right, mul-lt-mul-of-pos-right, lt-of-mul-lt-mul-right, lt-of-le-of-lt, lt-of-lt-of-le, zero-lt-suc, le-refl, le-trans, le-of-eq, le-of-lt, eq-or-lt-of-le, eq-of-mul-eq-mul-right, add-sub-of-le}
 use native.Mathlib.Omega.{arith}
 use lib.Dec.{T, leb, leb→le, nleb→lt}
 use lib.Pow.{pow-add, pow-pos}
 use lib.Ieee.{Float, nan, inf, fin, binary64, down, ofBits, toBits, fits}
-use lib.Ieee.Bits.{ofBits-toBits}
+use lib.Ieee.Bits.{ofBits-toBits, ofBits-fits}
 use lib.Ieee.Fits.{down-pos}
 use lib.Ieee.Exact.{HasValue, odd-sign}
 use lib.Ieee.Positive.{positive, positive-of-value}
-use Rattle.roots.specs.Root.{nearestRoot, squareRoot, Closest}
+use Rattle.roots.specs.Root.{nearestRoot, squareRoot}
+use Rattle.roots.specs.IsRoot.{Units, Nearest}
 use Rattle.roots.proofs.Whole.{Near, near-squares}
 use Rattle.roots.proofs.Scale.{Scaled, scaled, radicand, radicand-in, units-scaled, root-is, near, root-digits, four}
-use Rattle.roots.proofs.Pattern.{hidden, infinite, subnormal, normal, odd-shift, positive-bits}
+use Rattle.roots.proofs.Pattern.{hidden, infinite, subnormal, normal, odd-shift, pattern, positive-bits}
 use Rattle.roots.proofs.Doubles.{double-scaled}
 
 -- a size is one number
@@ -92,27 +93,29 @@ gap c K g = go (leb K j) (leb→le K j) (nleb→lt K j)
 -- ---- the doubles beside r · P
 
 -- an order of numbers, squared and in units of P
-squared : (x u n P : ℕ) → x ≤ u * P → u * u ≤ n → x * x ≤ n * (P * P)
-squared x u n P h k = le-trans (mul-le-mul h h) (le-trans (le-of-eq (swap u P)) (mul-le-mul-right (P * P) k))
-  where
-    swap : (u P : ℕ) → u * P * (u * P) ≡ u * u * (P * P)
-    swap u P = omega arith
+swap : (u P : ℕ) → u * P * (u * P) ≡ u * u * (P * P)
+swap u P = omega arith
 
-squared-up : (x u n P : ℕ) → u * P ≤ x → n ≤ u * u → n * (P * P) ≤ x * x
-squared-up x u n P h k = le-trans (mul-le-mul-right (P * P) k) (le-trans (le-of-eq (swap u P)) (mul-le-mul h h))
-  where
-    swap : (u P : ℕ) → u * u * (P * P) ≡ u * P * (u * P)
-    swap u P = omega arith
+squared : (x u n P : ℕ) → x ≤ u * P → u * u < n → 0 < P → x * x < n * (P * P)
+squared x u n P h k p = lt-of-le-of-lt (le-trans (mul-le-mul h h) (le-of-eq (swap u P))) (mul-lt-mul-of-pos-right k (mul-pos p p))
+
+squared-less : (x u n P : ℕ) → x < u * P → u * u ≤ n → x * x < n * (P * P)
+squared-less x u n P h k =
+    let q : 0 < u * P = lt-of-le-of-lt zero-le h in
+    lt-of-lt-of-le (lt-of-le-of-lt (mul-le-mul (le-refl x) (le-of-lt h)) (mul-lt-mul-of-pos-right h q)) (le-trans (le-of-eq (swap u P)) (mul-le-mul-right (P * P) k))
+
+squared-up : (x u n P : ℕ) → u * P ≤ x → n < u * u → 0 < P → n * (P * P) < x * x
+squared-up x u n P h k p = lt-of-lt-of-le (mul-lt-mul-of-pos-right k (mul-pos p p)) (le-trans (le-of-eq (sym (swap u P))) (mul-le-mul h h))
 
 -- the middle of r · P and a double a whole P below it
-middle-below : (r P c : ℕ) → 0 < r → c + P ≤ r * P → c + r * P ≤ (2 * r - 1) * P
+middle-below : (r P c : ℕ) → 0 < r → c + P ≤ r * P → r * P + c ≤ (2 * r - 1) * P
 middle-below zero P c p h = omega arith
-middle-below (suc t) P c p h = subst (λ (x : ℕ). c + suc t * P ≤ x * P) (sym (less t)) (omega arith)
+middle-below (suc t) P c p h = subst (λ (x : ℕ). suc t * P + c ≤ x * P) (sym (less t)) (omega arith)
   where
     less : (t : ℕ) → 2 * suc t - 1 ≡ 2 * t + 1
     less t = omega arith
 
-module _ (n r P c : ℕ) (lo : 2 ^ 52 ≤ r) (least : 4 ^ 52 ≤ n) (q : Near n r) (g : Gap c P) where
+module _ (n r P c : ℕ) (p : 0 < P) (lo : 2 ^ 52 ≤ r) (least : 4 ^ 52 ≤ n) (q : Near n r) (g : Gap c P) where
   whole-below : 2 ^ 52 < r → c < r * P → c + P ≤ r * P
   whole-below l h = go g
     where
@@ -126,18 +129,18 @@ module _ (n r P c : ℕ) (lo : 2 ^ 52 ≤ r) (least : 4 ^ 52 ≤ n) (q : Near n 
       go (inl v) = multiple (v .0) (v .1) (mul-le-mul-right P (lt-of-mul-lt-mul-right P (subst (λ (x : ℕ). x < r * P) (v .1) h)))
       go (inr a) = halved a (mul-le-mul-right P l)
 
-  root-above : c < r * P → (c + r * P) * (c + r * P) ≤ 4 * n * (P * P)
+  root-above : c < r * P → (r * P + c) * (r * P + c) < 4 * n * (P * P)
   root-above h = go (eq-or-lt-of-le lo)
     where
-      double : (x : ℕ) → c < x * P → c + x * P ≤ 2 * x * P
+      double : (x : ℕ) → c < x * P → x * P + c < 2 * x * P
       double x l = omega arith
 
       four-times : (x : ℕ) → x ≡ 2 ^ 52 → 2 * x * (2 * x) ≤ 4 * n
       four-times x e = subst (λ (y : ℕ). 2 * y * (2 * y) ≤ 4 * n) (sym e) (omega (arith, least))
 
-      go : (2 ^ 52 ≡ r) ⊎ (2 ^ 52 < r) → (c + r * P) * (c + r * P) ≤ 4 * n * (P * P)
-      go (inl e) = squared (c + r * P) (2 * r) (4 * n) P (double r h) (four-times r (sym e))
-      go (inr l) = squared (c + r * P) (2 * r - 1) (4 * n) P (middle-below r P c (le-trans (zero-lt-suc _) lo) (whole-below l h)) (near-squares n r q .0)
+      go : (2 ^ 52 ≡ r) ⊎ (2 ^ 52 < r) → (r * P + c) * (r * P + c) < 4 * n * (P * P)
+      go (inl e) = squared-less (r * P + c) (2 * r) (4 * n) P (double r h) (four-times r (sym e))
+      go (inr l) = squared (r * P + c) (2 * r - 1) (4 * n) P (middle-below r P c (le-trans (zero-lt-suc _) lo) (whole-below l h)) (near-squares n r q .0) p
 
   whole-above : r * P < c → r * P + P ≤ c
   whole-above h = go g
@@ -152,10 +155,10 @@ module _ (n r P c : ℕ) (lo : 2 ^ 52 ≤ r) (least : 4 ^ 52 ≤ n) (q : Near n 
       go (inl v) = multiple (v .0) (v .1) (mul-le-mul-right P (lt-of-mul-lt-mul-right P (subst (λ (x : ℕ). r * P < x) (v .1) h)))
       go (inr a) = no a (mul-le-mul-right P lo) h
 
-  root-below : r * P < c → 4 * n * (P * P) ≤ (c + r * P) * (c + r * P)
-  root-below h = squared-up (c + r * P) (2 * r + 1) (4 * n) P (middle (whole-above h)) (le-of-lt (near-squares n r q .1))
+  root-below : r * P < c → 4 * n * (P * P) < (r * P + c) * (r * P + c)
+  root-below h = squared-up (r * P + c) (2 * r + 1) (4 * n) P (middle (whole-above h)) (near-squares n r q .1) p
     where
-      middle : r * P + P ≤ c → (2 * r + 1) * P ≤ c + r * P
+      middle : r * P + P ≤ c → (2 * r + 1) * P ≤ r * P + c
       middle k = omega arith
 
 -- ---- at x
@@ -164,10 +167,9 @@ module _ (n r P c : ℕ) (lo : 2 ^ 52 ≤ r) (least : 4 ^ 52 ≤ n) (q : Near n 
 weight-squared : (k : ℕ) → 2 ^ (k + 484) * 2 ^ (k + 484) ≡ 4 ^ k * 4 ^ 484
 weight-squared k = sym (pow-add 2 (k + 484) (k + 484)) ∙ sym (four (k + 484)) ∙ pow-add 4 k 484
 
-worth : (a w p : ℕ) → a * 2 ^ 54 ≡ w * p → 4 * a * 2 ^ 1074 ≡ 4 * (w * 2 ^ 52) * (p * 4 ^ 484)
+worth : (a w p : ℕ) → a * 2 ^ 54 ≡ w * p → 4 * (a * 2 ^ 1074) ≡ 4 * (w * 2 ^ 52) * (p * 4 ^ 484)
 worth a w p e =
-    mul-assoc 4 a (2 ^ 1074)
-    ∙ ap (λ (y : ℕ). 4 * y)
+    ap (λ (y : ℕ). 4 * y)
     (sym (mul-assoc a (2 ^ 54) (2 ^ 1020))
     ∙ ap (λ (y : ℕ). y * 2 ^ 1020) e
     ∙ sym (mul-assoc (w * p) (2 ^ 52) (4 ^ 484))
@@ -176,36 +178,36 @@ worth a w p e =
     ∙ sym (mul-assoc 4 (w * 2 ^ 52) (p * 4 ^ 484))
 
 module _ (x : Float) (m f : ℕ) (s : Scaled x m f) where
-  operand-size : (a : ℕ) → HasValue x false a (2 ^ 1074) → 4 * radicand m f * (2 ^ (f / 2 + 484) * 2 ^ (f / 2 + 484)) ≡ 4 * a * 2 ^ 1074
-  operand-size a v =
-      ap (λ (y : ℕ). 4 * radicand m f * y) (weight-squared (f / 2))
-      ∙ sym (worth a (scaled m f) (4 ^ (f / 2)) (ap (λ (y : ℕ). y * 2 ^ 54) (value-unique x a (s .a) (2 ^ 1074) v (s .value)) ∙ units-scaled x m f s))
+  operand-size : 4 * radicand m f * (2 ^ (f / 2 + 484) * 2 ^ (f / 2 + 484)) ≡ 4 * (s .a * 2 ^ 1074)
+  operand-size = ap (λ (y : ℕ). 4 * radicand m f * y) (weight-squared (f / 2)) ∙ sym (worth (s .a) (scaled m f) (4 ^ (f / 2)) (units-scaled x m f s))
 
-  root-size : (b : ℕ) → HasValue (squareRoot x) false b (2 ^ 1074) → nearestRoot 53 (radicand m f) * 2 ^ (f / 2 + 484) ≡ b
-  root-size b v =
+  pub scaled-fits : T (fits binary64 (squareRoot x))
+  scaled-fits =
       let r = nearestRoot 53 (radicand m f) in
-      value-unique (squareRoot x) (r * 2 ^ (f / 2 + 484)) b (2 ^ 1074)
-      (subst (λ (y : Float). HasValue y false (r * 2 ^ (f / 2 + 484)) (2 ^ 1074)) (odd-shift r (f / 2) 590 484 ∙ sym (root-is x m f s)) (odd-sign 53 false r (f / 2 + 484) 1074)) v
+      let d = root-digits m f (s .lo) (s .hi) in
+      subst (λ (y : Float). T (fits binary64 y)) (pattern r (f / 2) (d .0) (d .1) (half f (s .range)) ∙ sym (root-is x m f s)) (ofBits-fits binary64 ((f / 2 + 484) * hidden + r))
+    where
+      half : (f : ℕ) → f ≤ 2099 → f / 2 ≤ 1050
+      half f h = omega arith
 
-  scaled-closest : Closest x (squareRoot x)
-  scaled-closest =
+  scaled-nearest : Nearest x (squareRoot x)
+  scaled-nearest =
       let w = radicand m f in
       let r = nearestRoot 53 w in
       let P = 2 ^ (f / 2 + 484) in
+      let p = pow-pos (f / 2 + 484) in
       let lo = root-digits m f (s .lo) (s .hi) .0 in
       let least = radicand-in m f (s .lo) (s .hi) .0 in
       let q = near m f (s .lo) (s .hi) in
       record {
-        above = λ z a b c F u v t l.
-            subst (λ (y : ℕ). (c + b) * (c + b) ≤ y) (operand-size a u)
-            (subst (λ (y : ℕ). (c + y) * (c + y) ≤ 4 * w * (P * P)) (root-size b v)
-            (root-above w r P c lo least q (gap c (f / 2 + 484) (grid z c F t)) (subst (λ (y : ℕ). c < y) (sym (root-size b v)) l)));
-        below = λ z a b c F u v t l.
-            subst (λ (y : ℕ). y ≤ (c + b) * (c + b)) (operand-size a u)
-            (subst (λ (y : ℕ). 4 * w * (P * P) ≤ (c + y) * (c + y)) (root-size b v)
-            (root-below w r P c lo least q (gap c (f / 2 + 484) (grid z c F t)) (subst (λ (y : ℕ). y < c) (sym (root-size b v)) l)));
+        a = s .a;
+        b = r * P;
+        operand = s .value;
+        root = subst (λ (y : Float). Units y (r * P)) (odd-shift r (f / 2) 590 484 ∙ sym (root-is x m f s)) (odd-sign 53 false r (f / 2 + 484) 1074);
+        double = scaled-fits;
+        above = λ z c F t l. subst (λ (y : ℕ). (r * P + c) * (r * P + c) < y) operand-size (root-above w r P c p lo least q (gap c (f / 2 + 484) (grid z c F t)) l);
+        below = λ z c F t l. subst (λ (y : ℕ). y < (r * P + c) * (r * P + c)) operand-size (root-below w r P c p lo least q (gap c (f / 2 + 484) (grid z c F t)) l);
       }
 
--- the theorem
-pub squareRoot-closest : (x : Float) → T (fits binary64 x) → T (positive x) → Closest x (squareRoot x)
-squareRoot-closest x h p = let d = double-scaled x h p in scaled-closest x (d .m) (d .f) (d .scaled)
+pub squareRoot-nearest : (x : Float) → T (fits binary64 x) → T (positive x) → Nearest x (squareRoot x)
+squareRoot-nearest x h p = let d = double-scaled x h p in scaled-nearest x (d .m) (d .f) (d .scaled)
