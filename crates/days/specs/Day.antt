@@ -14,6 +14,7 @@ unfoldable pub orbitDeviation : ℕ → Float
 unfolding whole
 orbitDeviation n = whole 360 ⊘ whole 365 ⊗ whole n
 
+-- 0.33281 − 22.984·cos b − 0.3499·cos 2b − 0.1398·cos 3b + 3.7872·sin b + 0.03205·sin 2b + 0.07187·sin 3b
 unfoldable pub solarDeclination : Float → Float
 unfolding decimal whole
 solarDeclination deviation =
@@ -31,7 +32,8 @@ unfoldable pub daysFrom : ℕ → ℕ → Float
 unfolding ofInt
 daysFrom k n = ofInt binary64 (minus n k)
 
--- in minutes, by five ranges of the day number: below 21, 136, 241, 336, then to 366. There is no day after that.
+-- In minutes, by five ranges of the day number: below 21, 136, 241, 336, then to 366. There is no day after that.
+-- 2.6 + 0.44·n; 5.2 + 9·cos((n − 43)·0.0357); 1.4 − 5·cos((n − 135)·0.0449); −6.3 − 10·cos((n − 306)·0.036); 0.45·(n − 359)
 unfoldable pub equationOfTime : ℕ → Float
 unfolding decimal whole neg daysFrom
 equationOfTime n =
@@ -42,7 +44,7 @@ equationOfTime n =
     (cond (ltb n 367) (decimal 45 2 ⊗ daysFrom 359 n)
     nan))))
 
--- the solar constant is 1367
+-- 1367·(1 + 0.033·cos(deviation)) W/m²: the solar constant is 1367
 unfoldable pub extraTerrestrialRadiation : Float → Float
 unfolding decimal whole
 extraTerrestrialRadiation deviation = whole 1367 ⊗ (whole 1 ⊕ decimal 33 3 ⊗ cosine (toRadians deviation))

@@ -3,6 +3,7 @@ ghost use mathlib.Core.Path.{_≡_};
 ghost use Prim.Native.Nat.{_+_, _≤_};
 ghost use Rattle.days.specs.Day.{orbitDeviation, solarDeclination, daysFrom, equationOfTime, extraTerrestrialRadiation, dayOf};
 
+// How far the earth has gone on its orbit, in degrees.
 pub fn init_earth_orbit_deviation(current_day: u32) -> f64
     ensures { λ r. ⌜ r ≡ orbitDeviation («current_day» + 1) ⌝ }
 {
@@ -10,6 +11,7 @@ pub fn init_earth_orbit_deviation(current_day: u32) -> f64
     360.0 / 365.0 * nday as f64
 }
 
+// The sun's declination in degrees, by the orbit deviation in degrees.
 pub fn init_solar_declination(earth_orbit_deviation: f64) -> f64
     ensures { λ r. ⌜ r ≡ solarDeclination «earth_orbit_deviation» ⌝ }
 {
@@ -34,6 +36,7 @@ fn days_from(k: u64, n: u64) -> f64
     -((k - n) as f64)
 }
 
+// In minutes. NaN after the 366th day.
 pub fn init_equation_of_time(current_day: u32) -> f64
     ensures { λ r. ⌜ r ≡ equationOfTime («current_day» + 1) ⌝ }
 {
@@ -48,19 +51,21 @@ pub fn init_equation_of_time(current_day: u32) -> f64
     }
 }
 
+// In W/m², by the orbit deviation in degrees.
 pub fn init_extra_terrestrial_radiation(earth_orbit_deviation: f64) -> f64
     ensures { λ r. ⌜ r ≡ extraTerrestrialRadiation «earth_orbit_deviation» ⌝ }
 {
     1367.0 * (1.0 + 0.033 * angles::cos(doubles::to_radians(earth_orbit_deviation)))
 }
 
-// What depends on the day alone.
+// Declination in degrees, equation of time in minutes, extra-terrestrial radiation in W/m².
 pub struct Day {
     pub declination: f64,
     pub equation_of_time: f64,
     pub extra_terrestrial_radiation: f64,
 }
 
+// All three of a day.
 pub fn day_of(current_day: u32) -> Day
     ensures { λ r. ⌜ r ≡ dayOf («current_day» + 1) ⌝ }
 {

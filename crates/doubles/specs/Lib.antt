@@ -1,4 +1,5 @@
 pub mod Arithmetic
 pub mod Functions
 pub mod Order
+pub mod Ranges
 pub mod Series

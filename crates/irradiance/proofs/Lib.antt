@@ -1,4 +1,3 @@
 pub mod Table
 pub mod Constants
 pub mod NotNegative
-pub mod Values

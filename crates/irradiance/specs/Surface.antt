@@ -6,11 +6,15 @@ use Rattle.doubles.specs.Arithmetic.{_⊕_, _⊖_, _⊗_, _⊘_, whole}
 use Rattle.doubles.specs.Functions.{maxOf2, toRadians, toDegrees}
 use Rattle.angles.specs.declared.SinCos.{SinCos}
 use Rattle.angles.specs.Sine.{cosine}
-use Rattle.arcsines.specs.Arcsine.{arccosine}
+use Rattle.arcsines.specs.Arcsine.{complement, arccosine}
 use Rattle.sun.specs.declared.hour.Hour.{Hour}
 use Rattle.irradiance.specs.declared.surface.Incidence.{Incidence}
 
--- the cosine of the angle of incidence, by the sines and cosines of latitude, declination, tilt, orientation and hour angle
+-- the cosine of an angle in degrees
+unfoldable pub cosineOfDegrees : Float → Float
+cosineOfDegrees degrees = cosine (toRadians degrees)
+
+-- the sum whose arccosine is the angle of incidence
 unfoldable pub incidenceArgument : SinCos → SinCos → SinCos → SinCos → SinCos → Float
 incidenceArgument l d t o w =
     d .sin ⊗ l .sin ⊗ t .cos
@@ -19,14 +23,15 @@ incidenceArgument l d t o w =
     ⊕ d .cos ⊗ l .sin ⊗ t .sin ⊗ o .cos ⊗ w .cos
     ⊕ d .cos ⊗ t .sin ⊗ o .sin ⊗ w .sin
 
--- not clamped: a sum just above 1 gives NaN
+-- The solar angle of incidence. Not clamped: a sum just above 1 gives NaN.
 unfoldable pub incidenceAngle : SinCos → SinCos → SinCos → SinCos → SinCos → Float
 unfolding incidenceArgument
 incidenceAngle l d t o w = toDegrees (arccosine (incidenceArgument l d t o w))
 
--- the cosine of an angle in degrees
-unfoldable pub cosineOfDegrees : Float → Float
-cosineOfDegrees degrees = cosine (toRadians degrees)
+-- its cosine, by the arcsine of the sum: an arccosine is the arcsine's complement
+unfoldable pub incidenceCosine : Float → Float
+unfolding cosineOfDegrees
+incidenceCosine arc = cosineOfDegrees (toDegrees (complement arc))
 
 -- the incidence-weighted solid angles of the circumsolar region, as the surface and as the horizontal see it
 unfoldable pub aOverB : Float → Float → Float

@@ -1,8 +1,7 @@
 // The state of the sky: the Perez model's clearness, brightness and coefficients F1 and F2.
 ghost use mathlib.Core.Path.{_≡_};
-ghost use mathlib.Core.List.{[]};
-ghost use lib.ListN.{getD};
-ghost use Rattle.irradiance.specs.Sky.{directBeam, altitudeTerm, clearness, skyBrightness, tableRow, coefficients, brightnessOf, brightnessIn, cutBrightness, circumsolarBrightness, horizontalBrightness, skyOf};
+ghost use Rattle.irradiance.specs.Sky.{directBeam, altitudeTerm, clearness, skyBrightness, tableRow, coefficientsAt, brightnessOf};
+ghost use Rattle.irradiance.specs.Sky.{brightnessIn, cutBrightness, circumsolarBrightness, horizontalBrightness, skyOf};
 use sun::hour::Hour;
 
 // Table 8 of ISO 52010-1: F11, F12, F13, F21, F22, F23.
@@ -17,7 +16,7 @@ const BRIGHTNESS_COEFFICIENTS: [[f64; 6]; 8] = [
     [0.678, -0.327, -0.25, 0.156, -1.377, 0.251],
 ];
 
-// The beam at normal incidence, by the sine of the sun's altitude.
+// The beam at normal incidence, in W/m², by the series' value in W/m² and the sine of the sun's altitude.
 pub fn init_direct_beam_radiation(
     direct_beam_conversion_needed: bool,
     raw_value: f64,
@@ -39,6 +38,7 @@ fn altitude_term(solar_altitude: f64) -> f64
     1.014 * doubles::cube(doubles::PI / 180.0 * solar_altitude)
 }
 
+// The clearness, a number: diffuse and beam in W/m², altitude in degrees.
 pub fn init_dimensionless_clearness_parameter(
     diffuse_horizontal_radiation: f64,
     direct_beam_radiation: f64,
@@ -54,6 +54,7 @@ pub fn init_dimensionless_clearness_parameter(
         / (1.0 + term)
 }
 
+// The sky brightness delta, a number: diffuse and extra-terrestrial radiation in W/m².
 pub fn init_dimensionless_sky_brightness_parameter(
     air_mass: f64,
     diffuse_horizontal_radiation: f64,
@@ -94,7 +95,7 @@ fn table_row(clearness_parameter: f64) -> usize
 
 // The coefficients that hold at a clearness.
 fn coefficients_at(clearness_parameter: f64) -> [f64; 6]
-    ensures { λ r. ⌜ r ≡ getD coefficients (tableRow «clearness_parameter») [] ⌝ }
+    ensures { λ r. ⌜ r ≡ coefficientsAt «clearness_parameter» ⌝ }
 {
     BRIGHTNESS_COEFFICIENTS[table_row(clearness_parameter)]
 }
@@ -119,6 +120,7 @@ fn horizontal_brightness(row: [f64; 6], delta: f64, solar_zenith_angle: f64) -> 
     brightness_of(row[3], row[4], row[5], delta, solar_zenith_angle)
 }
 
+// F1, a number, at least 0: zenith in degrees.
 pub fn init_f1_circumsolar_brightness_coefficient(
     clearness_parameter: f64,
     delta: f64,
@@ -130,6 +132,7 @@ pub fn init_f1_circumsolar_brightness_coefficient(
     circumsolar_brightness(row, delta, solar_zenith_angle)
 }
 
+// F2, a number that may be negative: zenith in degrees.
 pub fn init_f2_horizontal_brightness_coefficient(
     clearness_parameter: f64,
     delta: f64,
@@ -141,7 +144,7 @@ pub fn init_f2_horizontal_brightness_coefficient(
     horizontal_brightness(row, delta, solar_zenith_angle)
 }
 
-// The sky of one step.
+// The sky of one step: the diffuse value and the beam after conversion in W/m², F1 and F2.
 pub struct Sky {
     pub diffuse: f64,
     pub beam: f64,
@@ -149,6 +152,7 @@ pub struct Sky {
     pub f2: f64,
 }
 
+// By the sun of the hour, the day's extra-terrestrial radiation and the series' values, in W/m².
 pub fn sky_of(
     direct_beam_conversion_needed: bool,
     hour: Hour,

@@ -1,9 +1,6 @@
 // The sun on an inclined surface: incidence, and the ratio of the solid angles a and b.
 ghost use mathlib.Core.Path.{_≡_};
-ghost use Rattle.doubles.specs.Arithmetic.{_⊖_};
-ghost use Rattle.doubles.specs.Functions.{toDegrees};
-ghost use Rattle.arcsines.specs.Arcsine.{halfPi};
-ghost use Rattle.irradiance.specs.Surface.{incidenceArgument, cosineOfDegrees, aOverB, incidenceBy, incidenceOf};
+ghost use Rattle.irradiance.specs.Surface.{incidenceArgument, incidenceCosine, aOverB, incidenceBy, incidenceOf};
 use angles::SinCos;
 use sun::hour::Hour;
 
@@ -17,13 +14,6 @@ pub fn incidence_argument(l: SinCos, d: SinCos, t: SinCos, o: SinCos, w: SinCos)
         + d.cos * t.sin * o.sin * w.sin
 }
 
-// By the arcsine of that sum.
-fn solar_angle_of_incidence(arc_sine: f64) -> f64
-    ensures { λ r. ⌜ r ≡ toDegrees (halfPi ⊖ «arc_sine») ⌝ }
-{
-    doubles::to_degrees(arcsines::acos_by(arc_sine))
-}
-
 // The constant is the cosine of 85 degrees.
 fn a_over_b(cos_incidence: f64, cos_zenith: f64) -> f64
     ensures { λ r. ⌜ r ≡ aOverB «cos_incidence» «cos_zenith» ⌝ }
@@ -31,19 +21,21 @@ fn a_over_b(cos_incidence: f64, cos_zenith: f64) -> f64
     doubles::max_of_2(0.0, cos_incidence) / doubles::max_of_2(0.08715574274765812, cos_zenith)
 }
 
-// The sun on the surface in one hour.
+// The sun on the surface in one hour: the cosine of its incidence, and a / b.
 pub struct Incidence {
     pub cos: f64,
     pub a_over_b: f64,
 }
 
-// The cosine of the angle of incidence, which is not quite the sum itself.
+// The cosine of the angle of incidence, by the arcsine of the sum. It is not quite the sum itself, since the angle goes by degrees.
 pub fn incidence_cosine(arc_sine: f64) -> f64
-    ensures { λ r. ⌜ r ≡ cosineOfDegrees (toDegrees (halfPi ⊖ «arc_sine»)) ⌝ }
+    ensures { λ r. ⌜ r ≡ incidenceCosine «arc_sine» ⌝ }
 {
-    angles::cos(doubles::to_radians(solar_angle_of_incidence(arc_sine)))
+    let degrees = doubles::to_degrees(arcsines::acos_by(arc_sine));
+    angles::cos(doubles::to_radians(degrees))
 }
 
+// By the cosines of the angle of incidence and of the zenith.
 pub fn incidence_by(cos_incidence: f64, cos_zenith: f64) -> Incidence
     ensures { λ r. ⌜ r ≡ incidenceBy «cos_incidence» «cos_zenith» ⌝ }
 {
@@ -53,6 +45,7 @@ pub fn incidence_by(cos_incidence: f64, cos_zenith: f64) -> Incidence
     }
 }
 
+// By the sines and cosines of latitude, declination, tilt and orientation, and the sun of the hour.
 pub fn incidence_of(l: SinCos, d: SinCos, t: SinCos, o: SinCos, hour: Hour) -> Incidence
     ensures { λ r. ⌜ r ≡ incidenceOf l d t o hour ⌝ }
 {

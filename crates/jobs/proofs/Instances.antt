@@ -14,13 +14,15 @@ use lib.Ieee.Fits.{and-l, and-r}
 use Rattle.doubles.specs.Arithmetic.{whole, decimal, bits}
 use Rattle.doubles.specs.Functions.{floorOf, toRadians, toDegrees, minOf2, maxOf2, floatMin, floatMax, largestOf}
 use Rattle.doubles.specs.Order.{_≼_, Number}
+use Rattle.doubles.specs.Ranges.{within, aboveZero}
 use Rattle.angles.specs.Sine.{isAngle, quarterTurns, quadrant, remainder, sineSum, cosineSum, sineSeries, cosineSeries, sineAt, cosineAt, clamp, sine, cosine, tangent}
 use Rattle.arcsines.specs.Arcsine.{isSine, arcsineSeries, halfPi, arcsineUpward, arcsine}
 use Rattle.powers.specs.Power.{logarithmOf, powerOf, powerBy, powMinus1253}
 use Rattle.words.specs.Words.{number, wordCount, wordAt, doubleAt}
 use Rattle.sun.specs.declared.hour.Hour.{Hour}
 use Rattle.days.specs.Day.{orbitDeviation, solarDeclination, equationOfTime, extraTerrestrialRadiation, dayOf}
-use Rattle.sun.specs.Hour.{sinCosOf, timeShift, solarTime, hourAngle, altitudeBy, solarZenith, azimuthBranch, azimuthBy, airMassBy, hourBy, hourOf}
+use Rattle.sun.specs.Hour.{sinCosOf, timeShift, solarTime, hourAngle, altitudeSine, cutAltitude, solarAltitude, solarZenith, azimuthDenominator, solarAzimuth, airMass, hourOf}
+use Rattle.sun.specs.Site.{siteFine, hoursInYear}
 use Rattle.orientation.specs.Orientation.{orientation180, wrappedOnce}
 use Rattle.simulation_time.specs.Steps.{runFine, goesOn, stepsFrom, stepCount, timeAt, timesFrom, times}
 use Rattle.simulation_time.specs.Timestep.{currentHour, seriesIndex}
@@ -31,7 +33,7 @@ use Rattle.objects.specs.declared.sectors.ShadingSegment.{ShadingSegment}
 use Rattle.objects.specs.declared.answers.FactorAnswer.{FactorAnswer}
 use Rattle.objects.specs.declared.answers.FactorAnswer.the-variants as factor
 use Rattle.words.specs.Lists.{firstFine}
-use Rattle.object_checks.specs.Checks.{within, aboveZero, surfaceFine, recordsFine, windowValuesFine, windowRecordFine, windowFine, objectValuesFine, objectFine, objectUnused, tripleFine, boundsFine, sectorRecordFine, sectorsFine}
+use Rattle.object_checks.specs.Checks.{surfaceFine, recordsFine, windowValuesFine, windowRecordFine, windowFine, objectValuesFine, objectFine, objectUnused, tripleFine, boundsFine, sectorRecordFine, sectorsFine}
 use Rattle.objects.specs.Records.{recordsFrom, distantKind, objectAt, objectsFrom, segmentAt, sectorsOf, windowObjectsOf}
 use Rattle.extents.specs.Extents.{withinRight, outsideSolarBeam, obstacleHeight}
 use Rattle.segments.specs.Segments.{found, betweenEnds, holdsAzimuth, visit, walkFrom, segmentOf}
@@ -41,7 +43,7 @@ use Rattle.shading_laws.specs.Comparison.{AllNumbers, NoNanExtent, Holds}
 use Rattle.jobs.specs.declared.answers.Checked.the-variants as check
 use Rattle.jobs.specs.Series.{inSeries, readSeries}
 use Rattle.jobs.specs.Job.{Job, indexAt, readingAt}
-use Rattle.jobs.specs.Checks.{siteFine, hoursInYear, atAll, indexFine, readingFine, resultsFine, tried, checked}
+use Rattle.jobs.specs.Checks.{atAll, indexFine, readingFine, resultsFine, tried, checked}
 use Rattle.jobs.specs.Step.{sunAt, shadingAt, rowWith, stepWith, stepAt}
 use Rattle.jobs.specs.Run.{numberFor, onRow, runFrom, runChecked, runOf}
 use Rattle.jobs.specs.Comparison.{factorAt, countOf, SameSeries, Alike, sectorCount, BoundedAlike, triple, sectorObjects, windowObjects, HoldsAll, NoNan, Doubles, IsAccepted, Comparable}
@@ -108,7 +110,7 @@ checks = 0
 sun : ℕ
 unfolding lists doubles sine cosine tangent isAngle quarterTurns quadrant remainder sineSeries sineSum cosineSeries cosineSum sineAt cosineAt clamp arcsine isSine arcsineUpward
     arcsineSeries halfPi powMinus1253 powerBy powerOf logarithmOf orbitDeviation solarDeclination equationOfTime extraTerrestrialRadiation dayOf sinCosOf timeShift
-    solarTime hourAngle altitudeBy solarZenith azimuthBranch azimuthBy airMassBy hourBy hourOf orientation180 currentHour sunAt
+    solarTime hourAngle altitudeSine cutAltitude solarAltitude solarZenith azimuthDenominator solarAzimuth airMass hourOf orientation180 currentHour sunAt
 sun = 0
 
 shade : ℕ

@@ -11,12 +11,13 @@ use lib.ListN.{length, getD, take}
 use lib.Ieee.{binary64, ofBits}
 use lib.Ieee.Fits.{and-l, and-r}
 use Rattle.doubles.specs.Arithmetic.{whole}
+use Rattle.doubles.specs.Ranges.{within}
 use Rattle.words.specs.Words.{wordCount, wordAt, doubleAt}
 use Rattle.objects.specs.declared.sectors.ShadingObject.{ShadingObject}
 use Rattle.objects.specs.declared.sectors.ShadingSegment.{ShadingSegment}
 use Rattle.objects.specs.declared.window.WindowShadingObject.{WindowShadingObject}
 use Rattle.words.specs.Lists.{firstFine}
-use Rattle.object_checks.specs.Checks.{within, tripleFine, boundsFine, sectorRecordFine, sectorsFine}
+use Rattle.object_checks.specs.Checks.{tripleFine, boundsFine, sectorRecordFine, sectorsFine}
 use Rattle.objects.specs.Objects.{counted}
 use Rattle.objects.specs.Records.{recordsFrom, distantKind, objectAt, objectsFrom, segmentAt, sectorsOf, windowKind, windowObjectAt, windowObjectsOf}
 use Rattle.segments.specs.SameSectors.{SameBounds, PlaceByPlace, none, and-then}

@@ -5,15 +5,13 @@ use mathlib.Core.Bool.{Bool, true, false, cond, _&&_}
 use lib.Dec.{T}
 use lib.Ieee.{Float, binary64, lt, le, fits}
 use lib.Ieee.Fits.{neg-fits, add-fits, sub-fits, mul-fits}
-use Rattle.doubles.specs.Arithmetic.{_⊕_, _⊗_, _⊘_, whole, decimal}
+use Rattle.doubles.specs.Arithmetic.{_⊕_, _⊘_, whole}
 use Rattle.doubles.specs.Functions.{toDegrees, pi}
 use Rattle.doubles.specs.Order.{_≼_, Number, Fits}
 use Rattle.angles.specs.declared.SinCos.{SinCos}
-use Rattle.angles.specs.Sine.{cosine}
-use Rattle.arcsines.specs.Arcsine.{arcsine}
 use Rattle.sun.specs.declared.site.Site.{Site}
 use Rattle.sun.specs.declared.hour.Hour.{Hour}
-use Rattle.sun.specs.Hour.{altitudeBy, azimuthBranch, azimuthBy, hourBy, hourOf}
+use Rattle.sun.specs.Hour.{isNight, cutAltitude, solarAltitude, azimuthBranch, azimuthFrom, solarAzimuth, hourOf}
 use Rattle.irradiance.specs.declared.parts.Irradiance.{Irradiance}
 use Rattle.irradiance.specs.Parts.{irradianceOf}
 use Rattle.irradiance.proofs.NotNegative.{direct-not-negative}
@@ -100,12 +98,9 @@ degrees-fits : (x : Float) → Fits (toDegrees x)
 unfolding toDegrees
 degrees-fits x = record { holds = mul-fits binary64 x (whole 180 ⊘ pi) }
 
-altitude-fits : (l d : SinCos) (c : Float) → Fits (altitudeBy l d c)
-unfolding altitudeBy
-altitude-fits l d c = either-fits (lt (degrees l d c) (decimal 1 4)) zero-fits (degrees-fits (arcsine (d .sin ⊗ l .sin ⊕ d .cos ⊗ l .cos ⊗ c)))
-  where
-    degrees : SinCos → SinCos → Float → Float
-    degrees l d c = toDegrees (arcsine (d .sin ⊗ l .sin ⊕ d .cos ⊗ l .cos ⊗ c))
+altitude-fits : (x : Float) → Fits (cutAltitude (toDegrees x))
+unfolding cutAltitude
+altitude-fits x = either-fits (isNight (toDegrees x)) zero-fits (degrees-fits x)
 
 branch-fits : (s c : Float) {a : Float} → Fits a → Fits (azimuthBranch s c a)
 unfolding azimuthBranch
@@ -114,18 +109,18 @@ branch-fits s c {a} f =
     (either-fits (lt (whole 180) a) (record { holds = sub-fits binary64 a (whole 180) }) (record { holds = sub-fits binary64 (whole 180) a }))
     (either-fits (lt c (whole 0)) f (record { holds = neg-fits binary64 (whole 180 ⊕ a) (add-fits binary64 (whole 180) a) }))
 
-azimuth-fits : (l d w : SinCos) (s : Float) → Fits (azimuthBy l d w s)
-unfolding azimuthBy
-azimuth-fits l d w s = branch-fits _ _ (degrees-fits (arcsine (d .cos ⊗ w .sin) ⊘ cosine (arcsine s)))
+azimuth-fits : (l d w : SinCos) (arc denominator : Float) → Fits (azimuthFrom l d w arc denominator)
+unfolding azimuthFrom
+azimuth-fits l d w arc denominator = branch-fits _ _ (degrees-fits (arc ⊘ denominator))
 
 module _ (site : Site) (time : Float) where
   sun-altitude-fits : Fits (sunAt site time .altitude)
-  unfolding sunAt hourOf hourBy
-  sun-altitude-fits = altitude-fits _ _ _
+  unfolding sunAt hourOf solarAltitude
+  sun-altitude-fits = altitude-fits _
 
   sun-azimuth-fits : Fits (sunAt site time .azimuth)
-  unfolding sunAt hourOf hourBy
-  sun-azimuth-fits = azimuth-fits _ _ _ _
+  unfolding sunAt hourOf solarAzimuth
+  sun-azimuth-fits = azimuth-fits _ _ _ _ _
 
   module _ (surface : Surface) (reading : Reading) where
     direct-fits : Fits (irradianceAt site surface time reading .direct)

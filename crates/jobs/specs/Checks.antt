@@ -1,45 +1,23 @@
--- The checks before the first step (refusals 1 to 7), in number order. Ranges compare as numbers: −0.0 counts as 0, and NaN is in no
--- range.
+-- The checks before the first step (refusals 1 to 7), in number order.
 use mathlib.Core.Bool.{Bool, true, cond, _&&_}
 use mathlib.Core.List.{List, [], _∷_}
 use Prim.Native.Nat.{ℕ, _*_}
-use lib.Dec.{leb, eqb}
-use lib.IntN.{pos, negℤ}
-use lib.Signed.{leZ}
-use lib.Ieee.{Float, neg}
-use Rattle.doubles.specs.Arithmetic.{whole, decimal}
+use lib.Dec.{leb}
+use lib.Ieee.{Float}
+use Rattle.doubles.specs.Arithmetic.{whole}
+use Rattle.doubles.specs.Ranges.{within}
 use Rattle.words.specs.Words.{wordCount}
-use Rattle.sun.specs.declared.site.Site.{Site}
+use Rattle.sun.specs.Site.{siteFine, hoursInYear}
 use Rattle.simulation_time.specs.Steps.{stepCount, times}
 use Rattle.simulation_time.specs.Checks.{runAccepted}
 use Rattle.objects.specs.declared.answers.Refusal.{Refusal}
 use Rattle.objects.specs.declared.answers.Refusal.the-variants as refusal
-use Rattle.object_checks.specs.Checks.{within, surfaceFine, sectorsFine, windowFine}
+use Rattle.object_checks.specs.Checks.{surfaceFine, sectorsFine, windowFine}
 use Rattle.jobs.specs.declared.answers.Reading.{Reading}
 use Rattle.jobs.specs.declared.answers.Checked.{Checked}
 use Rattle.jobs.specs.declared.answers.Checked.the-variants.{Steps, Refused}
 use Rattle.jobs.specs.Series.{inSeries}
 use Rattle.jobs.specs.Job.{Job, indexAt, readingAt}
-
--- ---- 1: the site
-
--- latitude −90..90, longitude −180..180, timezone −13..14, start day 0..365, series step 0.25..24 hours, both flags 0 or 1
-unfoldable pub siteFine : Site → Bool
-unfolding within whole decimal neg
-siteFine site =
-    within (neg (whole 90)) (whole 90) (site .latitude)
-    && within (neg (whole 180)) (whole 180) (site .longitude)
-    && (leZ (negℤ (pos 13)) (site .timezone) && leZ (site .timezone) (pos 14))
-    && leb (site .«start_day») 365
-    && within (decimal 25 2) (whole 24) (site .«time_series_step»)
-    && leb (site .«leap_year») 1
-    && leb (site .«direct_beam_conversion») 1
-
--- ---- 2: the run
-
--- every step's hour is below this
-unfoldable pub hoursInYear : Site → ℕ
-hoursInYear site = cond (eqb (site .«leap_year») 1) 8784 8760
 
 -- ---- 5 and 6: the series, at every step
 

@@ -11,10 +11,11 @@ use lib.ListN.{length, take}
 use lib.Ieee.{Float, nan, isNan, neg, lt, le, eq}
 use Rattle.doubles.specs.Arithmetic.{whole, decimal}
 use Rattle.doubles.specs.Order.{_≼_, _≺_}
+use Rattle.doubles.specs.Ranges.{within, aboveZero}
 use Rattle.doubles.proofs.Order.{right-number}
 use Rattle.objects.specs.declared.surface.Surface.{Surface}
 use Rattle.words.specs.Lists.{firstFine}
-use Rattle.object_checks.specs.Checks.{within, aboveZero, surfaceFine, recordsFine}
+use Rattle.object_checks.specs.Checks.{surfaceFine, recordsFine}
 use Rattle.objects.specs.Records.{recordsFrom}
 
 -- ---- truth values

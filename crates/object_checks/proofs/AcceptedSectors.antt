@@ -9,12 +9,13 @@ use lib.ListN.{length}
 use lib.Ieee.{Float}
 use Rattle.doubles.specs.Arithmetic.{whole}
 use Rattle.doubles.specs.Order.{_≼_, _≺_}
+use Rattle.doubles.specs.Ranges.{within, aboveZero}
 use Rattle.words.specs.Words.{wordCount, wordAt, doubleAt}
 use Rattle.objects.specs.declared.sectors.ShadingObject.{ShadingObject}
 use Rattle.objects.specs.declared.sectors.ShadingSegment.{ShadingSegment}
 use Rattle.objects.specs.Objects.{counted}
 use Rattle.words.specs.Lists.{firstFine}
-use Rattle.object_checks.specs.Checks.{within, aboveZero, objectValuesFine, objectFine, tripleFine, boundsFine, sectorRecordFine, sectorsFine}
+use Rattle.object_checks.specs.Checks.{objectValuesFine, objectFine, tripleFine, boundsFine, sectorRecordFine, sectorsFine}
 use Rattle.objects.specs.Records.{objectAt, objectsFrom, segmentAt, sectorsOf}
 use Rattle.object_checks.proofs.RecordLists.{counted-triple}
 use Rattle.object_checks.proofs.Accepted.{both-of, within-range, above-range, first-fine, few-records, record-fine, take-records, length-records, member-records}

@@ -12,11 +12,12 @@ use lib.ListN.{length, take}
 use lib.Ieee.{Float}
 use Rattle.doubles.specs.Arithmetic.{whole}
 use Rattle.doubles.specs.Order.{_≼_, _≺_}
+use Rattle.doubles.specs.Ranges.{within, aboveZero}
 use Rattle.words.specs.Words.{wordCount, wordAt, doubleAt}
 use Rattle.objects.specs.declared.window.WindowShadingObject.{WindowShadingObject}
 use Rattle.objects.specs.declared.window.WindowShadingType.the-variants as near
 use Rattle.objects.specs.Objects.{kindIs, ofKind, obstacle}
-use Rattle.object_checks.specs.Checks.{within, aboveZero, windowValuesFine, windowRecordFine, windowFine}
+use Rattle.object_checks.specs.Checks.{windowValuesFine, windowRecordFine, windowFine}
 use Rattle.objects.specs.Records.{windowKind, windowObjectAt, windowObjectsOf, windowOf}
 use Rattle.object_checks.proofs.Accepted.{both-of, either-of, within-range, above-range, few-records, record-fine, take-records, member-records}
 

@@ -12,6 +12,7 @@ use lib.Ieee.{binary64, ofBits, toBits}
 use lib.Ieee.Bits.{toBits-ofBits}
 use Rattle.doubles.specs.Arithmetic.{whole}
 use Rattle.doubles.specs.Order.{Number}
+use Rattle.doubles.specs.Ranges.{within, aboveZero}
 use Rattle.doubles.proofs.Order.{left-number}
 use Rattle.words.specs.Words.{wordAt, doubleAt}
 use Rattle.words.proofs.Laws.{word-below}
@@ -21,7 +22,7 @@ use Rattle.objects.specs.declared.sectors.ShadingObjectType.the-variants as dis
 use Rattle.objects.specs.declared.window.WindowShadingObject.{WindowShadingObject}
 use Rattle.objects.specs.declared.window.WindowShadingType.{WindowShadingType}
 use Rattle.objects.specs.declared.window.WindowShadingType.the-variants as near
-use Rattle.object_checks.specs.Checks.{within, aboveZero, objectValuesFine, objectFine, windowValuesFine, windowRecordFine}
+use Rattle.object_checks.specs.Checks.{objectValuesFine, objectFine, windowValuesFine, windowRecordFine}
 use Rattle.objects.specs.Records.{distantKind, objectAt, windowKind, windowObjectAt}
 use Rattle.object_checks.proofs.Accepted.{both-of, either-of, within-range, above-range}
 

@@ -1,24 +1,15 @@
--- When a surface, a sector list or a window list is turned down (refusals 3 and 4). Ranges compare as numbers: −0.0 counts as 0, and
--- NaN is in no range.
+-- When a surface, a sector list or a window list is turned down (refusals 3 and 4).
 use mathlib.Core.Bool.{Bool, cond, _&&_, _||_}
 use mathlib.Core.List.{List}
 use Prim.Native.Nat.{ℕ, _+_, _*_, _/_, _%_}
 use lib.Dec.{ltb, leb, eqb}
 use lib.ListN.{length}
-use lib.Ieee.{Float, lt, le}
+use lib.Ieee.{Float}
 use Rattle.doubles.specs.Arithmetic.{whole, decimal}
+use Rattle.doubles.specs.Ranges.{within, aboveZero}
 use Rattle.words.specs.Words.{wordAt, doubleAt}
 use Rattle.words.specs.Lists.{firstFine}
 use Rattle.objects.specs.declared.surface.Surface.{Surface}
-
--- from lowest to highest
-unfoldable pub within : Float → Float → Float → Bool
-within lowest highest x = le lowest x && le x highest
-
--- above 0 and up to highest
-unfoldable pub aboveZero : Float → Float → Bool
-unfolding whole
-aboveZero highest x = lt (whole 0) x && le x highest
 
 -- tilt 0..180, orientation 0..360 (degrees), base height 0..1000, height and width 0.001..1000 (metres)
 unfoldable pub surfaceFine : Surface → Bool

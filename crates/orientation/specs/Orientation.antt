@@ -8,7 +8,7 @@ unfoldable pub orientation180 : Float → Float
 unfolding whole
 orientation180 orientation = whole 180 ⊖ orientation
 
--- shifted by 360 once, strictly beyond ±180
+-- shifted by 360 once, strictly beyond ±180: −540 to 540 comes to −180 to 180, both ends included, and what is beyond stays beyond
 unfoldable pub wrappedOnce : Float → Float
 unfolding whole neg
 wrappedOnce angle = cond (lt (whole 180) angle) (angle ⊖ whole 360) (cond (lt angle (neg (whole 180))) (angle ⊕ whole 360) angle)

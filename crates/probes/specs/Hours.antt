@@ -6,7 +6,8 @@ use lib.Ieee.{Float}
 use Rattle.angles.specs.declared.SinCos.{SinCos}
 use Rattle.days.specs.declared.Day.{Day}
 use Rattle.days.specs.Day.{dayOf}
-use Rattle.sun.specs.Hour.{sinCosOf, timeShift, hourBy}
+use Rattle.sun.specs.Hour.{sinCosOf, timeShift}
+use Rattle.sun.specs.HourParts.{hourBy}
 use Rattle.irradiance.specs.Sky.{skyOf}
 use Rattle.orientation.specs.Orientation.{orientation180}
 use Rattle.irradiance.specs.Surface.{incidenceOf}
@@ -53,5 +54,6 @@ hourWith l d t o day shift hour conversion diffuse direct reflectivity =
 unfoldable pub hourAt : Float → Float → ℤ → ℕ → ℕ → Float → Float → Float → Float → Float → ProbeHour
 hourAt latitude longitude timezone hour conversion tilt orientation diffuse direct reflectivity =
     let day = dayOf (hour / 24 + 1) in
-    hourWith (sinCosOf latitude) (sinCosOf (day .declination)) (sinCosOf tilt) (sinCosOf (orientation180 orientation)) day (timeShift timezone longitude) (hour % 24)
+    let surface = sinCosOf (orientation180 orientation) in
+    hourWith (sinCosOf latitude) (sinCosOf (day .declination)) (sinCosOf tilt) surface day (timeShift timezone longitude) (hour % 24)
     conversion diffuse direct reflectivity

@@ -12,6 +12,7 @@ use hexadecimal::Digits;
 
 pub mod sky;
 
+// The smaller, or the second where the comparison fails.
 #[no_mangle]
 pub extern "C" fn probe_min_of_2(a: f64, b: f64) -> f64
     ensures { λ r. ⌜ r ≡ minOf2 a b ⌝ }
@@ -19,6 +20,7 @@ pub extern "C" fn probe_min_of_2(a: f64, b: f64) -> f64
     doubles::min_of_2(a, b)
 }
 
+// The larger, or the second where the comparison fails.
 #[no_mangle]
 pub extern "C" fn probe_max_of_2(a: f64, b: f64) -> f64
     ensures { λ r. ⌜ r ≡ maxOf2 a b ⌝ }
@@ -26,6 +28,7 @@ pub extern "C" fn probe_max_of_2(a: f64, b: f64) -> f64
     doubles::max_of_2(a, b)
 }
 
+// The smaller; a NaN is dropped.
 #[no_mangle]
 pub extern "C" fn probe_float_min(a: f64, b: f64) -> f64
     ensures { λ r. ⌜ r ≡ floatMin a b ⌝ }
@@ -33,6 +36,7 @@ pub extern "C" fn probe_float_min(a: f64, b: f64) -> f64
     doubles::float_min(a, b)
 }
 
+// The larger; a NaN is dropped.
 #[no_mangle]
 pub extern "C" fn probe_float_max(a: f64, b: f64) -> f64
     ensures { λ r. ⌜ r ≡ floatMax a b ⌝ }
@@ -40,6 +44,7 @@ pub extern "C" fn probe_float_max(a: f64, b: f64) -> f64
     doubles::float_max(a, b)
 }
 
+// The largest whole number that is not above x.
 #[no_mangle]
 pub extern "C" fn probe_floor(x: f64) -> f64
     ensures { λ r. ⌜ r ≡ floorOf x ⌝ }
@@ -47,6 +52,7 @@ pub extern "C" fn probe_floor(x: f64) -> f64
     doubles::floor(x)
 }
 
+// (x·x)·x.
 #[no_mangle]
 pub extern "C" fn probe_cube(x: f64) -> f64
     ensures { λ r. ⌜ r ≡ cubeOf x ⌝ }
@@ -54,6 +60,7 @@ pub extern "C" fn probe_cube(x: f64) -> f64
     doubles::cube(x)
 }
 
+// By degrees.
 #[no_mangle]
 pub extern "C" fn probe_to_radians(x: f64) -> f64
     ensures { λ r. ⌜ r ≡ toRadians x ⌝ }
@@ -61,6 +68,7 @@ pub extern "C" fn probe_to_radians(x: f64) -> f64
     doubles::to_radians(x)
 }
 
+// By radians.
 #[no_mangle]
 pub extern "C" fn probe_to_degrees(x: f64) -> f64
     ensures { λ r. ⌜ r ≡ toDegrees x ⌝ }
@@ -68,6 +76,7 @@ pub extern "C" fn probe_to_degrees(x: f64) -> f64
     doubles::to_degrees(x)
 }
 
+// Whole words of 8 bytes.
 #[no_mangle]
 pub extern "C" fn probe_word_count(bytes: &[u8]) -> usize
     ensures { λ r. ⌜ r ≡ wordCount (now (bytes .entry)) ⌝ }
@@ -75,6 +84,7 @@ pub extern "C" fn probe_word_count(bytes: &[u8]) -> usize
     words::word_count(bytes)
 }
 
+// The k-th word, and 0 where there is none.
 #[no_mangle]
 pub extern "C" fn probe_word_at(bytes: &[u8], k: usize) -> u64
     ensures { λ r. ⌜ r ≡ wordAt (now (bytes .entry)) k ⌝ }
@@ -82,6 +92,7 @@ pub extern "C" fn probe_word_at(bytes: &[u8], k: usize) -> u64
     words::word_at(bytes, k)
 }
 
+// The k-th word as a double.
 #[no_mangle]
 pub extern "C" fn probe_double_at(bytes: &[u8], k: usize) -> f64
     ensures { λ r. ⌜ r ≡ doubleAt (now (bytes .entry)) k ⌝ }
@@ -89,6 +100,7 @@ pub extern "C" fn probe_double_at(bytes: &[u8], k: usize) -> f64
     words::double_at(bytes, k)
 }
 
+// Stores the k-th word, where there is one.
 #[no_mangle]
 pub extern "C" fn probe_store_word(bytes: &mut [u8], k: usize, w: u64)
     ensures { λ _. ⌜ now (bytes .exit) ≡ putWord (now (bytes .entry)) k w ⌝ }
@@ -96,6 +108,7 @@ pub extern "C" fn probe_store_word(bytes: &mut [u8], k: usize, w: u64)
     words::store_word(bytes, k, w);
 }
 
+// Stores a double as the k-th word, where there is one.
 #[no_mangle]
 pub extern "C" fn probe_store_double(bytes: &mut [u8], k: usize, x: f64)
     ensures { λ _. ⌜ now (bytes .exit) ≡ putDouble (now (bytes .entry)) k x ⌝ }
@@ -103,12 +116,14 @@ pub extern "C" fn probe_store_double(bytes: &mut [u8], k: usize, x: f64)
     words::store_double(bytes, k, x);
 }
 
+// found is 1 with the word, or 0 with 0.
 #[repr(C)]
 pub struct ProbeDigits {
     pub found: u64,
     pub word: u64,
 }
 
+// The sixteen hexadecimal digits from a place on.
 #[no_mangle]
 pub extern "C" fn probe_digits_at(text: &[u8], at: usize) -> ProbeDigits
     ensures { λ r. ⌜ r ≡ digitsAnswer (digitsAt (now (text .entry)) at) ⌝ }
@@ -119,6 +134,7 @@ pub extern "C" fn probe_digits_at(text: &[u8], at: usize) -> ProbeDigits
     }
 }
 
+// Stores sixteen hexadecimal digits from a place on.
 #[no_mangle]
 pub extern "C" fn probe_store_digits(text: &mut [u8], at: usize, w: u64)
     ensures { λ _. ⌜ now (text .exit) ≡ putDigits (now (text .entry)) at w ⌝ }
@@ -126,6 +142,7 @@ pub extern "C" fn probe_store_digits(text: &mut [u8], at: usize, w: u64)
     hexadecimal::store_digits(text, at, w);
 }
 
+// The double nearest to the root.
 #[no_mangle]
 pub extern "C" fn probe_sqrt(x: f64) -> f64
     ensures { λ r. ⌜ r ≡ squareRoot x ⌝ }
@@ -133,6 +150,7 @@ pub extern "C" fn probe_sqrt(x: f64) -> f64
     roots::sqrt(x)
 }
 
+// By radians.
 #[no_mangle]
 pub extern "C" fn probe_sin(a: f64) -> f64
     ensures { λ r. ⌜ r ≡ sine a ⌝ }
@@ -140,6 +158,7 @@ pub extern "C" fn probe_sin(a: f64) -> f64
     angles::sin(a)
 }
 
+// By radians.
 #[no_mangle]
 pub extern "C" fn probe_cos(a: f64) -> f64
     ensures { λ r. ⌜ r ≡ cosine a ⌝ }
@@ -153,6 +172,7 @@ pub struct ProbeSinCos {
     pub cos: f64,
 }
 
+// Both, by radians.
 #[no_mangle]
 pub extern "C" fn probe_sin_cos(a: f64) -> ProbeSinCos
     ensures { λ r. ⌜ (r .sin ≡ sine a) × (r .cos ≡ cosine a) ⌝ }
@@ -164,6 +184,7 @@ pub extern "C" fn probe_sin_cos(a: f64) -> ProbeSinCos
     }
 }
 
+// By radians.
 #[no_mangle]
 pub extern "C" fn probe_tan(a: f64) -> f64
     ensures { λ r. ⌜ r ≡ tangent a ⌝ }
@@ -171,6 +192,7 @@ pub extern "C" fn probe_tan(a: f64) -> f64
     angles::tan(a)
 }
 
+// Radians.
 #[no_mangle]
 pub extern "C" fn probe_asin(a: f64) -> f64
     ensures { λ r. ⌜ r ≡ arcsine a ⌝ }
@@ -178,6 +200,7 @@ pub extern "C" fn probe_asin(a: f64) -> f64
     arcsines::asin(a)
 }
 
+// Radians.
 #[no_mangle]
 pub extern "C" fn probe_acos(a: f64) -> f64
     ensures { λ r. ⌜ r ≡ arccosine a ⌝ }
@@ -185,6 +208,7 @@ pub extern "C" fn probe_acos(a: f64) -> f64
     arcsines::acos(a)
 }
 
+// u to the −1.253, for u from 3 to 14.
 #[no_mangle]
 pub extern "C" fn probe_pow_minus_1_253(u: f64) -> f64
     ensures { λ r. ⌜ r ≡ powMinus1253 u ⌝ }

@@ -11,6 +11,7 @@ ghost use Rattle.probes.specs.Hours.{hourWith, hourAt, dayAnswer, dayGiv
 use angles::SinCos;
 use days::Day;
 
+// Degrees. Days count from 0.
 #[no_mangle]
 pub extern "C" fn probe_init_earth_orbit_deviation(current_day: u32) -> f64
     ensures { λ r. ⌜ r ≡ orbitDeviation («current_day» + 1) ⌝ }
@@ -18,6 +19,7 @@ pub extern "C" fn probe_init_earth_orbit_deviation(current_day: u32) -> f64
     days::init_earth_orbit_deviation(current_day)
 }
 
+// Degrees, by degrees.
 #[no_mangle]
 pub extern "C" fn probe_init_solar_declination(earth_orbit_deviation: f64) -> f64
     ensures { λ r. ⌜ r ≡ solarDeclination «earth_orbit_deviation» ⌝ }
@@ -25,6 +27,7 @@ pub extern "C" fn probe_init_solar_declination(earth_orbit_deviation: f64) -> f6
     days::init_solar_declination(earth_orbit_deviation)
 }
 
+// Minutes. Days count from 0.
 #[no_mangle]
 pub extern "C" fn probe_init_equation_of_time(current_day: u32) -> f64
     ensures { λ r. ⌜ r ≡ equationOfTime («current_day» + 1) ⌝ }
@@ -32,6 +35,7 @@ pub extern "C" fn probe_init_equation_of_time(current_day: u32) -> f64
     days::init_equation_of_time(current_day)
 }
 
+// W/m², by degrees.
 #[no_mangle]
 pub extern "C" fn probe_init_extra_terrestrial_radiation(earth_orbit_deviation: f64) -> f64
     ensures { λ r. ⌜ r ≡ extraTerrestrialRadiation «earth_orbit_deviation» ⌝ }
@@ -39,6 +43,7 @@ pub extern "C" fn probe_init_extra_terrestrial_radiation(earth_orbit_deviation: 
     days::init_extra_terrestrial_radiation(earth_orbit_deviation)
 }
 
+// Hours, by hours and degrees.
 #[no_mangle]
 pub extern "C" fn probe_init_time_shift(timezone: i64, longitude: f64) -> f64
     ensures { λ r. ⌜ r ≡ timeShift timezone longitude ⌝ }
@@ -46,6 +51,7 @@ pub extern "C" fn probe_init_time_shift(timezone: i64, longitude: f64) -> f64
     sun::hour::init_time_shift(timezone, longitude)
 }
 
+// Hours: the hour of the day counts from 0, and the equation of time is in minutes.
 #[no_mangle]
 pub extern "C" fn probe_init_solar_time(
     hour_of_day: u32,
@@ -57,6 +63,7 @@ pub extern "C" fn probe_init_solar_time(
     sun::hour::init_solar_time(hour_of_day, equation_of_time, time_shift)
 }
 
+// Degrees, by hours.
 #[no_mangle]
 pub extern "C" fn probe_init_solar_hour_angle(solar_time: f64) -> f64
     ensures { λ r. ⌜ r ≡ hourAngle «solar_time» ⌝ }
@@ -64,6 +71,7 @@ pub extern "C" fn probe_init_solar_hour_angle(solar_time: f64) -> f64
     sun::hour::init_solar_hour_angle(solar_time)
 }
 
+// Degrees, all four.
 #[no_mangle]
 pub extern "C" fn probe_init_solar_altitude(
     latitude: f64,
@@ -75,6 +83,7 @@ pub extern "C" fn probe_init_solar_altitude(
     sun::hour::init_solar_altitude(latitude, solar_declination, solar_hour_angle)
 }
 
+// Degrees, both.
 #[no_mangle]
 pub extern "C" fn probe_init_solar_zenith_angle(solar_altitude: f64) -> f64
     ensures { λ r. ⌜ r ≡ solarZenith «solar_altitude» ⌝ }
@@ -82,6 +91,7 @@ pub extern "C" fn probe_init_solar_zenith_angle(solar_altitude: f64) -> f64
     sun::hour::init_solar_zenith_angle(solar_altitude)
 }
 
+// Degrees, all five.
 #[no_mangle]
 pub extern "C" fn probe_init_solar_azimuth_angle(
     latitude: f64,
@@ -99,6 +109,7 @@ pub extern "C" fn probe_init_solar_azimuth_angle(
     )
 }
 
+// A number, by degrees.
 #[no_mangle]
 pub extern "C" fn probe_init_air_mass(solar_altitude: f64) -> f64
     ensures { λ r. ⌜ r ≡ airMass «solar_altitude» ⌝ }
@@ -106,6 +117,7 @@ pub extern "C" fn probe_init_air_mass(solar_altitude: f64) -> f64
     sun::hour::init_air_mass(solar_altitude)
 }
 
+// W/m², by W/m² and the altitude in degrees, as in the Rust: the library's takes its sine.
 #[no_mangle]
 pub extern "C" fn probe_init_direct_beam_radiation(
     conversion_needed: u64,
@@ -118,6 +130,7 @@ pub extern "C" fn probe_init_direct_beam_radiation(
     irradiance::sky::init_direct_beam_radiation(conversion_needed == 1, raw_value, sin_altitude)
 }
 
+// A number: diffuse and beam in W/m², altitude in degrees.
 #[no_mangle]
 pub extern "C" fn probe_init_dimensionless_clearness_parameter(
     diffuse: f64,
@@ -129,6 +142,7 @@ pub extern "C" fn probe_init_dimensionless_clearness_parameter(
     irradiance::sky::init_dimensionless_clearness_parameter(diffuse, beam, solar_altitude)
 }
 
+// A number: both radiations in W/m².
 #[no_mangle]
 pub extern "C" fn probe_init_dimensionless_sky_brightness_parameter(
     air_mass: f64,
@@ -144,6 +158,7 @@ pub extern "C" fn probe_init_dimensionless_sky_brightness_parameter(
     )
 }
 
+// A number: zenith in degrees.
 #[no_mangle]
 pub extern "C" fn probe_init_f1_circumsolar_brightness_coefficient(
     clearness_parameter: f64,
@@ -159,6 +174,7 @@ pub extern "C" fn probe_init_f1_circumsolar_brightness_coefficient(
     )
 }
 
+// A number: zenith in degrees.
 #[no_mangle]
 pub extern "C" fn probe_init_f2_horizontal_brightness_coefficient(
     clearness_parameter: f64,
@@ -174,7 +190,7 @@ pub extern "C" fn probe_init_f2_horizontal_brightness_coefficient(
     )
 }
 
-// The sun and the irradiance of one hour, with the breakdown.
+// The sun in degrees and the irradiance in W/m² of one hour, with the breakdown.
 #[repr(C)]
 pub struct ProbeHour {
     pub altitude: f64,
@@ -227,7 +243,7 @@ fn hour_with(
     }
 }
 
-// An hour of the year, from the site's and the surface's angles in degrees.
+// An hour of the year, from 0: the site's and the surface's angles in degrees, the timezone in hours, diffuse and direct in W/m².
 #[no_mangle]
 pub extern "C" fn probe_hour(
     latitude: f64,
@@ -259,6 +275,7 @@ pub extern "C" fn probe_hour(
     )
 }
 
+// Degrees, minutes, W/m².
 #[repr(C)]
 pub struct ProbeDay {
     pub declination: f64,
@@ -266,6 +283,7 @@ pub struct ProbeDay {
     pub extra_terrestrial_radiation: f64,
 }
 
+// Days count from 0.
 #[no_mangle]
 pub extern "C" fn probe_day_of(current_day: u32) -> ProbeDay
     ensures { λ r. ⌜ r ≡ dayAnswer (dayOf («current_day» + 1)) ⌝ }

@@ -22,8 +22,6 @@ use objects::surface::Surface;
 use simulation_time::run::Run;
 use simulation_time::steps::check_run;
 use simulation_time::timestep::current_hour;
-use steps::checks::hours_in_year;
-use steps::checks::site_fine;
 use steps::kept::day_for;
 use steps::kept::fixed_of;
 use steps::kept::kept_day;
@@ -31,6 +29,8 @@ use steps::kept::kept_hour;
 use steps::rows::step_at;
 use steps::rows::store_row;
 use sun::site::Site;
+use sun::site::hours_in_year;
+use sun::site::site_fine;
 use words::word_count;
 
 // Refusals 5 to 7: every step's index on all three series before any value, and room for every step's row.

@@ -8,8 +8,9 @@ use lib.Ieee.{Float}
 use lib.Ieee.Bits.{is-true}
 use lib.Ieee.Fits.{and-l, and-r}
 use Rattle.words.specs.Words.{wordCount}
-use Rattle.jobs.specs.Checks.{siteFine, readingFine}
+use Rattle.jobs.specs.Checks.{readingFine}
 use Rattle.sun.specs.declared.site.Site.{Site}
+use Rattle.sun.specs.Site.{siteFine}
 use Rattle.objects.specs.declared.surface.Surface.{Surface}
 use Rattle.objects.specs.declared.answers.Refusal.{Refusal}
 use Rattle.objects.specs.declared.answers.Refusal.the-variants as refusal

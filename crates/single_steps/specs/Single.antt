@@ -5,22 +5,24 @@ use Prim.Native.Nat.{ℕ}
 use lib.Dec.{leb, ltb}
 use lib.Ieee.{Float}
 use Rattle.doubles.specs.Arithmetic.{whole}
+use Rattle.doubles.specs.Ranges.{within}
 use Rattle.words.specs.Words.{wordCount, putDouble}
 use Rattle.sun.specs.declared.site.Site.{Site}
 use Rattle.sun.specs.declared.hour.Hour.{Hour}
+use Rattle.sun.specs.Site.{siteFine, hoursInYear}
 use Rattle.irradiance.specs.declared.parts.Irradiance.{Irradiance}
 use Rattle.simulation_time.specs.Timestep.{currentHour}
 use Rattle.objects.specs.declared.surface.Surface.{Surface}
 use Rattle.objects.specs.declared.answers.Refusal.{Refusal}
 use Rattle.objects.specs.declared.answers.Refusal.the-variants as refusal
-use Rattle.object_checks.specs.Checks.{within, surfaceFine, sectorsFine, windowFine}
+use Rattle.object_checks.specs.Checks.{surfaceFine, sectorsFine, windowFine}
 use Rattle.objects.specs.Refusals.{numberOf}
 use Rattle.jobs.specs.declared.answers.Reading.{Reading}
 use Rattle.jobs.specs.declared.answers.StepAnswer.{StepAnswer}
 use Rattle.jobs.specs.declared.answers.StepAnswer.the-variants as step
 use Rattle.single_steps.specs.declared.Single.{Single}
 use Rattle.single_steps.specs.declared.Single.the-variants.{Stored, Refused}
-use Rattle.jobs.specs.Checks.{siteFine, hoursInYear, readingFine}
+use Rattle.jobs.specs.Checks.{readingFine}
 use Rattle.jobs.specs.Step.{sunAt, irradianceAt, stepWith}
 use Rattle.jobs.specs.Run.{putRow}
 

@@ -15,8 +15,6 @@ use objects::answers::number_of;
 use objects::records::window_of;
 use objects::surface::Surface;
 use simulation_time::timestep::current_hour;
-use steps::checks::hours_in_year;
-use steps::checks::site_fine;
 use steps::kept::fixed_of;
 use steps::kept::kept_day;
 use steps::kept::kept_hour;
@@ -25,6 +23,8 @@ use steps::rows::store_row;
 use steps::series::reading_fine;
 use sun::hour::Hour;
 use sun::site::Site;
+use sun::site::hours_in_year;
+use sun::site::site_fine;
 use words::store_double;
 use words::word_count;
 

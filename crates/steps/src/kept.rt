@@ -98,13 +98,13 @@ pub fn kept_hour(
     let o = fixed.orientation;
     let d = day.declination;
     let equation_of_time = day.values.equation_of_time;
-    let turn = sun::hour::turn_by(equation_of_time, fixed.time_shift, hour % 24);
-    let w = turn.hour_angle;
+    let hour_angles = sun::hour::hour_angles_by(equation_of_time, fixed.time_shift, hour % 24);
+    let w = hour_angles.hour_angle;
     let sine = sun::hour::altitude_sine(l, d, w.cos);
     let argument = irradiance::surface::incidence_argument(l, d, t, o, w);
     let arcsines = arcsines::asin_both(sine, argument);
     let cos_incidence = irradiance::surface::incidence_cosine(arcsines.second);
-    let sun = sun::hour::hour_from(l, d, turn, arcsines.first);
+    let sun = sun::hour::hour_from(l, d, hour_angles, arcsines.first);
     let incidence = irradiance::surface::incidence_by(cos_incidence, sun.cos_zenith);
     let factor = shading::step::direct_shading_reduction_factor(
         surface,

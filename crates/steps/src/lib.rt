@@ -1,5 +1,4 @@
 // What one step needs, for a run and for the calls for one step.
-pub mod checks;
 pub mod kept;
 pub mod rows;
 pub mod series;

@@ -1,6 +1,6 @@
 -- `irradiance_with` meets its contract.
 use mathlib.Core.Path.{refl}
-use Rattle.sun.specs.Hour.{hourOf}
+use Rattle.sun.proofs.HourParts.{hour-by-parts}
 use Rattle.jobs.specs.Step.{sunAt, irradianceAt}
 use Rattle.steps.specs.Kept.{fixedOf, keptDay}
 use borrow.Author.Needs.{needs}
@@ -30,8 +30,8 @@ calculated-direct-diffuse-total-irradiance-requires :
 calculated-direct-diffuse-total-irradiance-requires c κs = search needs
 
 returns : tie.Need-returns
-unfolding sunAt irradianceAt hourOf keptDay fixedOf
-returns c = (rw (c .before .before .before .before .before .hour-by .ensures, c .before .before .before .before .before .before .before .before .before .kept-day .ensures, c .before .before .before .before .before .before .before .before .before .before .current-hour .ensures, c .before .before .before .before .before .before .before .before .before .before .before .fixed-of .ensures) refl, rw (c .calculated-direct-diffuse-total-irradiance .ensures, c .before .sky-of .ensures, c .before .before .before .incidence-of .ensures, c .before .before .before .before .before .hour-by .ensures, c .before .before .before .before .before .before .before .before .before .kept-day .ensures, c .before .before .before .before .before .before .before .before .before .before .current-hour .ensures, c .before .before .before .before .before .before .before .before .before .before .before .fixed-of .ensures) refl)
+unfolding sunAt irradianceAt keptDay fixedOf
+returns c = (rw (c .before .before .before .before .before .hour-by .ensures, c .before .before .before .before .before .before .before .before .before .kept-day .ensures, c .before .before .before .before .before .before .before .before .before .before .current-hour .ensures, c .before .before .before .before .before .before .before .before .before .before .before .fixed-of .ensures, hour-by-parts) refl, rw (c .calculated-direct-diffuse-total-irradiance .ensures, c .before .sky-of .ensures, c .before .before .before .incidence-of .ensures, c .before .before .before .before .before .hour-by .ensures, c .before .before .before .before .before .before .before .before .before .kept-day .ensures, c .before .before .before .before .before .before .before .before .before .before .current-hour .ensures, c .before .before .before .before .before .before .before .before .before .before .before .fixed-of .ensures, hour-by-parts) refl)
 
 pub irradiance-with-spec : {M : Type 1} → statement M
 irradiance-with-spec =

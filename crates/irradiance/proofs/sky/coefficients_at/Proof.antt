@@ -1,6 +1,6 @@
 use lib.Ieee.{ofBits, neg}
 use native.Mathlib.Omega.{arith}
-use Rattle.irradiance.specs.Sky.{coefficients}
+use Rattle.irradiance.specs.Sky.{coefficients, coefficientsAt}
 use Rattle.irradiance.proofs.Table.{row-lt}
 use Rattle.irradiance.proofs.sky.coefficients_at.Statement.{statement}
 use Rattle.irradiance.proofs.sky.coefficients_at.Tie as tie
@@ -15,7 +15,7 @@ array-copy-out-result : tie.Need-array-copy-out-result
 array-copy-out-result c = omega (arith, c .table-row .ensures, row-lt (c .before .args .clearness-parameter))
 
 returns : tie.Need-returns
-unfolding coefficients ofBits neg
+unfolding coefficientsAt coefficients ofBits neg
 returns c = rw (c .before .table-row .ensures)
 
 pub coefficients-at-spec : {M : Type 1} → statement M

@@ -1,5 +1,5 @@
 use Rattle.arcsines.specs.Arcsine.{arccosine}
-use Rattle.irradiance.specs.Surface.{incidenceAngle, incidenceOf}
+use Rattle.irradiance.specs.Surface.{incidenceAngle, incidenceCosine, incidenceOf}
 use Rattle.irradiance.proofs.surface.incidence_of.Statement.{statement}
 use Rattle.irradiance.proofs.surface.incidence_of.Tie as tie
 
@@ -16,7 +16,7 @@ incidence-by-requires : tie.Need-incidence-by-requires
 incidence-by-requires c κs = tt
 
 returns : tie.Need-returns
-unfolding incidenceOf incidenceAngle arccosine
+unfolding incidenceOf incidenceAngle incidenceCosine arccosine
 returns c = rw (c .incidence-by .ensures, c .before .incidence-cosine .ensures, c .before .before .asin .ensures, c .before .before .before .incidence-argument .ensures)
 
 pub incidence-of-spec : {M : Type 1} → statement M

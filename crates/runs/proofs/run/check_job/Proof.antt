@@ -7,7 +7,7 @@ use denote.Ref.{now}
 use Rattle.simulation_time.specs.Checks.{runAccepted, checkedRun}
 use Rattle.simulation_time.proofs.HoursOfSteps.{checked-count}
 use Rattle.jobs.specs.Job.{Job, jobOf}
-use Rattle.jobs.specs.Checks.{hoursInYear}
+use Rattle.sun.specs.Site.{hoursInYear}
 use Rattle.runs.proofs.CheckSteps.{site-refused, run-refused, surface-refused, object-refused, first-passed, start-day}
 use borrow.Author.Needs.{needs}
 use Rattle.runs.proofs.run.check_job.Statement.{statement}

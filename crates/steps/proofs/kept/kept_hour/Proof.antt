@@ -1,12 +1,12 @@
 -- `kept_hour` meets its contract: its parts put together are the hour.
-use Rattle.sun.specs.Hour.{hourOf}
+use Rattle.sun.proofs.HourParts.{hour-by-parts}
 use Rattle.steps.specs.Kept.{fixedOf, keptDay, keptHour}
 use Rattle.steps.proofs.HourKept.{sun-put-together, incidence-put-together}
 use Rattle.steps.proofs.kept.kept_hour.Statement.{statement}
 use Rattle.steps.proofs.kept.kept_hour.Tie as tie
 
-turn-by-requires : tie.Need-turn-by-requires
-turn-by-requires c κs = tt
+hour-angles-by-requires : tie.Need-hour-angles-by-requires
+hour-angles-by-requires c κs = tt
 
 altitude-sine-requires : tie.Need-altitude-sine-requires
 altitude-sine-requires c κs = tt
@@ -30,20 +30,20 @@ direct-shading-reduction-factor-requires : tie.Need-direct-shading-reduction-fac
 direct-shading-reduction-factor-requires c κs = c .before .before .before .before .before .before .before .before .before .before .before .before .before .pre .1 .1
 
 returns : tie.Need-returns
-unfolding keptHour keptDay fixedOf hourOf
+unfolding keptHour keptDay fixedOf
 returns c =
     let q = c .before .before .before .before .before .before .before .before .before .before .before .before .before .before .pre in
-    let turn = c .before .before .before .before .before .before .before .before .turn-by .ensures in
+    let angles = c .before .before .before .before .before .before .before .before .hour-angles-by .ensures in
     let arcsines = c .before .before .before .before .asin-both .ensures in
-    let sun = sun-put-together _ _ _ _ _ _ _ _ _ turn (c .before .before .before .before .before .before .altitude-sine .ensures) (arcsines .0) (c .before .before .hour-from .ensures) in
-    let incidence = incidence-put-together _ _ _ _ _ _ _ _ _ _ _ _ _ turn (c .before .before .before .before .before .incidence-argument .ensures) (arcsines .1) (c .before .before .before .incidence-cosine .ensures) (c .before .incidence-by .ensures) sun in
-    rw (c .direct-shading-reduction-factor .ensures, incidence, sun, q .1 .0, q .0)
+    let sun = sun-put-together _ _ _ _ _ _ _ _ _ angles (c .before .before .before .before .before .before .altitude-sine .ensures) (arcsines .0) (c .before .before .hour-from .ensures) in
+    let incidence = incidence-put-together _ _ _ _ _ _ _ _ _ _ _ _ _ angles (c .before .before .before .before .before .incidence-argument .ensures) (arcsines .1) (c .before .before .before .incidence-cosine .ensures) (c .before .incidence-by .ensures) sun in
+    rw (c .direct-shading-reduction-factor .ensures, incidence, sun, q .1 .0, q .0, hour-by-parts)
 
 pub kept-hour-spec : {M : Type 1} → statement M
 kept-hour-spec =
     tie.close
     (tie.spec
-    turn-by-requires
+    hour-angles-by-requires
     altitude-sine-requires
     incidence-argument-requires
     asin-both-requires

@@ -1,11 +1,11 @@
 use mathlib.Core.Path.{refl}
 use lib.Ieee.{ofBits}
-use Rattle.doubles.specs.Arithmetic.{decimal}
+use Rattle.sun.specs.Hour.{isNight}
 use Rattle.sun.proofs.hour.is_night.Statement.{statement}
 use Rattle.sun.proofs.hour.is_night.Tie as tie
 
 returns : tie.Need-returns
-unfolding decimal ofBits
+unfolding isNight ofBits
 returns c = refl
 
 pub is-night-spec : {M : Type 1} → statement M

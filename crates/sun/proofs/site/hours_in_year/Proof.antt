@@ -1,9 +1,9 @@
 -- `hours_in_year` meets its contract.
 use mathlib.Core.Path.{refl}
 use borrow.Author.Tests.{eq-eqb, ne-eqb}
-use Rattle.jobs.specs.Checks.{hoursInYear}
-use Rattle.steps.proofs.checks.hours_in_year.Statement.{statement}
-use Rattle.steps.proofs.checks.hours_in_year.Tie as tie
+use Rattle.sun.specs.Site.{hoursInYear}
+use Rattle.sun.proofs.site.hours_in_year.Statement.{statement}
+use Rattle.sun.proofs.site.hours_in_year.Tie as tie
 
 returns : tie.Need-returns
 unfolding hoursInYear

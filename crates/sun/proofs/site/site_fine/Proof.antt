@@ -5,9 +5,9 @@ use mir.Syntax.{w64}
 use mir.Val.{SFits}
 use borrow.Author.Needs.{needs}
 use lib.Ieee.{ofBits}
-use Rattle.jobs.specs.Checks.{siteFine}
-use Rattle.steps.proofs.checks.site_fine.Statement.{statement}
-use Rattle.steps.proofs.checks.site_fine.Tie as tie
+use Rattle.sun.specs.Site.{siteFine}
+use Rattle.sun.proofs.site.site_fine.Statement.{statement}
+use Rattle.sun.proofs.site.site_fine.Tie as tie
 
 returns : tie.Need-returns
 unfolding siteFine ofBits
