@@ -223,11 +223,11 @@ unfolding jobWith
 alike = record { sites = refl; runs = refl; surfaces = refl; diffuses = same-series hundred; directs = same-series hundred; reflectivities = same-series quarter }
 
 bounded : BoundedAlike bare built
-unfolding lists
+unfolding lists le
 bounded = record {
   lengths = refl;
-  starts = λ i h. let z : i ≡ 0 = omega arith in rw z;
-  ends = λ i h. let z : i ≡ 0 = omega arith in rw z;
+  starts = λ i h. let z : i ≡ 0 = omega arith in rw z (record { below = record { holds = tt }; above = record { holds = tt } });
+  ends = λ i h. let z : i ≡ 0 = omega arith in rw z (record { below = record { holds = tt }; above = record { holds = tt } });
 }
 
 holds-none : {Object : Type 0} (ys : List Object) → Holds ys []
@@ -257,5 +257,5 @@ comparable = record {
 }
 
 -- so the claim speaks of them, and says that the obstacle makes no step's factor larger
-factors : (i : ℕ) → i < countOf (runOf (jobWith bare) (zeros 6)) → factorAt (runOf (jobWith built) (zeros 6)) i ≼ factorAt (runOf (jobWith bare) (zeros 6)) i
-factors = two-jobs-compared (jobWith bare) (jobWith built) (zeros 6) (zeros 6) comparable .more-factors more
+factors : (i : ℕ) → i < countOf (runOf (jobWith built) (zeros 6)) → factorAt (runOf (jobWith built) (zeros 6)) i ≼ factorAt (runOf (jobWith bare) (zeros 6)) i
+factors = two-jobs-compared (jobWith bare) (jobWith built) (zeros 6) (zeros 6) comparable .second-more more .factors
