@@ -36,7 +36,8 @@ use Rattle.objects.specs.Records.{recordsFrom, distantKind, objectAt, objectsFr
 use Rattle.extents.specs.Extents.{withinRight, outsideSolarBeam, obstacleHeight}
 use Rattle.segments.specs.Segments.{found, betweenEnds, holdsAzimuth, visit, walkFrom, segmentOf}
 use Rattle.objects.specs.Objects.{isObstacle, isOverhang, counted}
-use Rattle.shading.specs.Factor.{Sun, extents, sunOn, obstacleExtents, overhangExtents, windowOverhangExtents, rightFinExtents, leftFinExtents, overhangShade, sunlitBetween, sunlitHeight, sunlitWidth, sunlitPart, leastOf, reductionFactor, hasReveal, factorIn, shadingFactor}
+use Rattle.shading.specs.declared.sun_on_surface.SunOnSurface.{SunOnSurface}
+use Rattle.shading.specs.Factor.{extents, sunOn, obstacleExtents, overhangExtents, windowOverhangExtents, rightFinExtents, leftFinExtents, overhangShade, sunlitBetween, sunlitHeight, sunlitWidth, sunlitPart, leastOf, reductionFactor, hasReveal, factorIn, shadingFactor}
 use Rattle.shading_laws.specs.Comparison.{AllNumbers, NoNanExtent, Holds}
 use Rattle.jobs.specs.declared.answers.Checked.the-variants as check
 use Rattle.jobs.specs.Series.{inSeries, readSeries}
@@ -168,10 +169,10 @@ all-numbers (y ∷ xs) t x m =
     ]
 
 -- with nothing at the window
-fine-extents : Surface → Sun → List ShadingObject → Bool
+fine-extents : Surface → SunOnSurface → List ShadingObject → Bool
 fine-extents surface sun distants = numbers (obstacleExtents surface sun distants) && numbers (overhangExtents surface sun distants)
 
-no-nan-extent : (surface : Surface) (sun : Sun) (distants : List ShadingObject) → T (fine-extents surface sun distants) → NoNanExtent surface sun distants []
+no-nan-extent : (surface : Surface) (sun : SunOnSurface) (distants : List ShadingObject) → T (fine-extents surface sun distants) → NoNanExtent surface sun distants []
 unfolding fine-extents windowOverhangExtents rightFinExtents leftFinExtents extents
 no-nan-extent surface sun distants t = record {
   obstacles = all-numbers (obstacleExtents surface sun distants) (and-l (numbers (obstacleExtents surface sun distants)) (numbers (overhangExtents surface sun distants)) t);
@@ -183,7 +184,7 @@ no-nan-extent surface sun distants t = record {
 }
 
 -- the sun on the surface at the one step
-sunThen : Job → Sun
+sunThen : Job → SunOnSurface
 sunThen job = let hour = sunAt (job .site) (job .run .start) in sunOn (job .surface) (hour .altitude) (hour .azimuth)
 
 -- one step, one sector, and nothing at the window

@@ -18,7 +18,8 @@ use Rattle.shading.specs.declared.distant.DistantShades.{DistantShades}
 use Rattle.objects.specs.declared.window.WindowShadingObject.{WindowShadingObject}
 use Rattle.shading.specs.declared.window.WindowShades.{WindowShades}
 use Rattle.objects.specs.Objects.{obstacle, isObstacle, isOverhang, ofKind, overhang, rightFin, leftFin, reveal}
-use Rattle.shading.specs.Factor.{Sun, extents, leastOf, obstacleExtents, overhangExtents, windowOverhangExtents, rightFinExtents, leftFinExtents, hasReveal}
+use Rattle.shading.specs.declared.sun_on_surface.SunOnSurface.{SunOnSurface}
+use Rattle.shading.specs.Factor.{extents, leastOf, obstacleExtents, overhangExtents, windowOverhangExtents, rightFinExtents, leftFinExtents, hasReveal}
 use Rattle.shading.specs.Steps.{distantStep, windowStep}
 
 -- a value kept over a list, one member after the other
@@ -55,7 +56,7 @@ least = record { none = λ first. refl; more = λ first x xs. refl }
 
 -- ---- a sector's objects: the first n of them
 
-module _ (surface : Surface) (sun : Sun) (shades : DistantShades) (objects : List ShadingObject) (n i : ℕ) (d : ShadingObject) (h : i < n) (k : n ≤ length objects) where
+module _ (surface : Surface) (sun : SunOnSurface) (shades : DistantShades) (objects : List ShadingObject) (n i : ℕ) (d : ShadingObject) (h : i < n) (k : n ≤ length objects) where
   within : i < length (take n objects)
   within = rw (length-take-le n objects k) h
 
@@ -83,17 +84,17 @@ counted-first l count k n e m = go (decLe count k)
 pub at-end : {X : Type 0} (n i : ℕ) (l : List X) → i ≡ n → n ≤ length l → i ≡ length (take n l)
 at-end n i l e h = e ∙ sym (length-take-le n l h)
 
-pub obstacle-end : (surface : Surface) (sun : Sun) (first : Float) (l : List ShadingObject) (i : ℕ) → i ≡ length l → largestOf first (obstacleExtents surface sun (drop i l)) ≡ first
+pub obstacle-end : (surface : Surface) (sun : SunOnSurface) (first : Float) (l : List ShadingObject) (i : ℕ) → i ≡ length l → largestOf first (obstacleExtents surface sun (drop i l)) ≡ first
 unfolding obstacleExtents
 obstacle-end surface sun first l i e = rw e (end largestOf maxOf2 largest isObstacle _ first l)
 
-pub overhang-end : (surface : Surface) (sun : Sun) (first : Float) (l : List ShadingObject) (i : ℕ) → i ≡ length l → largestOf first (overhangExtents surface sun (drop i l)) ≡ first
+pub overhang-end : (surface : Surface) (sun : SunOnSurface) (first : Float) (l : List ShadingObject) (i : ℕ) → i ≡ length l → largestOf first (overhangExtents surface sun (drop i l)) ≡ first
 unfolding overhangExtents
 overhang-end surface sun first l i e = rw e (end largestOf maxOf2 largest isOverhang _ first l)
 
 -- ---- the objects at the window: the first n of them
 
-module _ (sun : Sun) (shades : WindowShades) (objects : List WindowShadingObject) (n i : ℕ) (d : WindowShadingObject) (h : i < n) (k : n ≤ length objects) where
+module _ (sun : SunOnSurface) (shades : WindowShades) (objects : List WindowShadingObject) (n i : ℕ) (d : WindowShadingObject) (h : i < n) (k : n ≤ length objects) where
   inside : i < length (take n objects)
   inside = rw (length-take-le n objects k) h
 
@@ -124,7 +125,7 @@ module _ (sun : Sun) (shades : WindowShades) (objects : List WindowShadingObject
       go false true t = refl
       go false false t = refl
 
-module _ (sun : Sun) (first : Float) (l : List WindowShadingObject) (i : ℕ) (e : i ≡ length l) where
+module _ (sun : SunOnSurface) (first : Float) (l : List WindowShadingObject) (i : ℕ) (e : i ≡ length l) where
   pub window-overhang-end : largestOf first (windowOverhangExtents sun (drop i l)) ≡ first
   unfolding windowOverhangExtents
   window-overhang-end = rw e (end largestOf maxOf2 largest (ofKind overhang) _ first l)

@@ -10,19 +10,14 @@ use Rattle.objects.specs.declared.window.WindowShadingObject.{WindowShadingObje
 use Rattle.shading.specs.declared.window.WindowShades.{WindowShades}
 use Rattle.extents.specs.Extents.{obstacleHeight, overhangHeight, windowOverhangHeight, rightFinWidth, leftFinWidth}
 use Rattle.objects.specs.Objects.{isObstacle, isOverhang, ofKind, overhang, rightFin, leftFin, reveal}
-use Rattle.shading.specs.Factor.{Sun}
 
--- the sun as the definitions name it
-unfoldable pub sunOf : SunOnSurface → Sun
-sunOf s = record { tanAltitude = s .«tan_altitude»; difference = s .difference; cosDifference = s .«cos_difference»; tanDifference = s .«tan_difference» }
-
-unfoldable pub distantStep : Surface → Sun → DistantShades → ShadingObject → DistantShades
+unfoldable pub distantStep : Surface → SunOnSurface → DistantShades → ShadingObject → DistantShades
 unfolding isObstacle isOverhang
 distantStep surface sun shades o = record {
-  obstacle = cond (isObstacle o) (maxOf2 (shades .obstacle) (obstacleHeight (surface .«base_height») (o .height) (o .distance) (sun .tanAltitude))) (shades .obstacle);
+  obstacle = cond (isObstacle o) (maxOf2 (shades .obstacle) (obstacleHeight (surface .«base_height») (o .height) (o .distance) (sun .«tan_altitude»))) (shades .obstacle);
   overhang =
       cond (isOverhang o)
-      (maxOf2 (shades .overhang) (overhangHeight (surface .height) (surface .«base_height») (o .height) (o .distance) (sun .tanAltitude)))
+      (maxOf2 (shades .overhang) (overhangHeight (surface .height) (surface .«base_height») (o .height) (o .distance) (sun .«tan_altitude»)))
       (shades .overhang);
 }
 
@@ -36,11 +31,11 @@ withRightFin shades width = record { overhang = shades .overhang; right = maxOf2
 unfoldable pub withLeftFin : WindowShades → Float → WindowShades
 withLeftFin shades width = record { overhang = shades .overhang; right = shades .right; left = maxOf2 (shades .left) width; reveal = shades .reveal }
 
-unfoldable pub windowStep : Sun → WindowShades → WindowShadingObject → WindowShades
+unfoldable pub windowStep : SunOnSurface → WindowShades → WindowShadingObject → WindowShades
 unfolding ofKind
 windowStep sun shades o = record {
-  overhang = cond (ofKind overhang o) (maxOf2 (shades .overhang) (windowOverhangHeight (o .size) (o .distance) (sun .tanAltitude) (sun .cosDifference))) (shades .overhang);
-  right = cond (ofKind rightFin o) (maxOf2 (shades .right) (rightFinWidth (o .size) (o .distance) (sun .difference) (sun .tanDifference))) (shades .right);
-  left = cond (ofKind leftFin o) (maxOf2 (shades .left) (leftFinWidth (o .size) (o .distance) (sun .difference) (sun .tanDifference))) (shades .left);
+  overhang = cond (ofKind overhang o) (maxOf2 (shades .overhang) (windowOverhangHeight (o .size) (o .distance) (sun .«tan_altitude») (sun .«cos_difference»))) (shades .overhang);
+  right = cond (ofKind rightFin o) (maxOf2 (shades .right) (rightFinWidth (o .size) (o .distance) (sun .difference) (sun .«tan_difference»))) (shades .right);
+  left = cond (ofKind leftFin o) (maxOf2 (shades .left) (leftFinWidth (o .size) (o .distance) (sun .difference) (sun .«tan_difference»))) (shades .left);
   reveal = cond (ofKind reveal o) true (shades .reveal);
 }

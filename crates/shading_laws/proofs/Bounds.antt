@@ -18,7 +18,8 @@ use Rattle.objects.specs.declared.sectors.ShadingObject.{ShadingObject}
 use Rattle.objects.specs.declared.window.WindowShadingObject.{WindowShadingObject}
 use Rattle.extents.specs.Extents.{obstacleHeight}
 use Rattle.objects.specs.Objects.{ofKind, obstacle}
-use Rattle.shading.specs.Factor.{Sun, extents, obstacleExtents, overhangExtents, windowOverhangExtents, rightFinExtents, leftFinExtents, overhangShade, sunlitBetween, sunlitHeight, sunlitWidth, sunlitPart, nearFactor, reductionFactor, nearObstacleHeight}
+use Rattle.shading.specs.declared.sun_on_surface.SunOnSurface.{SunOnSurface}
+use Rattle.shading.specs.Factor.{extents, obstacleExtents, overhangExtents, windowOverhangExtents, rightFinExtents, leftFinExtents, overhangShade, sunlitBetween, sunlitHeight, sunlitWidth, sunlitPart, nearFactor, reductionFactor, nearObstacleHeight}
 use Rattle.shading_laws.specs.Comparison.{AcceptedSurface, NoNanExtent, AcceptedNear}
 use Rattle.shading_laws.proofs.Steps.{Side, cut-between, remains-between, part, part-nonneg, part-le-one, nearHeight, near-between, side-number, high}
 use Rattle.shading_laws.proofs.Members.{Extent, extents-from, least-is}
@@ -35,33 +36,33 @@ unfolding obstacleHeight
 obstacle-nonneg base height distance tanAltitude n = cut-below (whole 0) (height ⊖ base ⊖ distance ⊗ tanAltitude) zero-number n
 
 -- a near obstacle's shade, cut off at the height
-unfoldable pub nearShade : Surface → Sun → WindowShadingObject → Float
+unfoldable pub nearShade : Surface → SunOnSurface → WindowShadingObject → Float
 nearShade surface sun o = floatMin (surface .height) (nearObstacleHeight surface sun o)
 
-pub near-shade-between : (surface : Surface) (sun : Sun) (o : WindowShadingObject) → AcceptedSurface surface
+pub near-shade-between : (surface : Surface) (sun : SunOnSurface) (o : WindowShadingObject) → AcceptedSurface surface
     → Number (nearObstacleHeight surface sun o) → Between (surface .height) (nearShade surface sun o)
 unfolding nearShade nearObstacleHeight
 near-shade-between surface sun o a n =
     subst (Between (surface .height)) (sym (float-min-is (side-number (height-side a)) n))
-    (cut-between (height-side a) (obstacle-nonneg (surface .«base_height») (o .size) (o .distance) (sun .tanAltitude) n))
+    (cut-between (height-side a) (obstacle-nonneg (surface .«base_height») (o .size) (o .distance) (sun .«tan_altitude») n))
 
-pub near-factor-is : (surface : Surface) (sun : Sun) (hkOverhang wkSun : Float) (o : WindowShadingObject)
+pub near-factor-is : (surface : Surface) (sun : SunOnSurface) (hkOverhang wkSun : Float) (o : WindowShadingObject)
     → nearFactor surface sun hkOverhang wkSun o ≡ part (surface .height) (surface .width) (nearHeight (surface .height) (nearShade surface sun o) hkOverhang (o .transparency)) wkSun
 unfolding nearFactor part nearHeight nearShade nearObstacleHeight sunlitPart
 near-factor-is surface sun hkOverhang wkSun o = refl
 
 -- the part in the sun before the near obstacles
-unfoldable pub base : Surface → Sun → List ShadingObject → List WindowShadingObject → Float
+unfoldable pub base : Surface → SunOnSurface → List ShadingObject → List WindowShadingObject → Float
 base surface sun distants window = sunlitPart surface (sunlitHeight surface sun distants (overhangShade surface sun distants window)) (sunlitWidth surface sun window)
 
 -- the factors that the near obstacles allow
-unfoldable pub near : Surface → Sun → List ShadingObject → List WindowShadingObject → WindowShadingObject → Float
+unfoldable pub near : Surface → SunOnSurface → List ShadingObject → List WindowShadingObject → WindowShadingObject → Float
 near surface sun distants window = nearFactor surface sun (overhangShade surface sun distants window) (sunlitWidth surface sun window)
 
-unfoldable pub nears : Surface → Sun → List ShadingObject → List WindowShadingObject → List Float
+unfoldable pub nears : Surface → SunOnSurface → List ShadingObject → List WindowShadingObject → List Float
 nears surface sun distants window = extents (ofKind obstacle) (near surface sun distants window) window
 
-module _ {surface : Surface} {sun : Sun} {distants : List ShadingObject} {window : List WindowShadingObject}
+module _ {surface : Surface} {sun : SunOnSurface} {distants : List ShadingObject} {window : List WindowShadingObject}
     (a : AcceptedSurface surface) (n : NoNanExtent surface sun distants window) where
   pub overhang-numbers : Numbers (overhangExtents surface sun distants ++ windowOverhangExtents sun window)
   overhang-numbers = append-numbers (overhangExtents surface sun distants) (windowOverhangExtents sun window) (n .overhangs) (n .window-overhangs)

@@ -16,7 +16,8 @@ use Rattle.objects.specs.declared.sectors.ShadingObject.{ShadingObject}
 use Rattle.objects.specs.declared.window.WindowShadingObject.{WindowShadingObject}
 use Rattle.extents.specs.Extents.{obstacleHeight, overhangHeight, windowOverhangHeight, rightFinWidth, leftFinWidth}
 use Rattle.objects.specs.Objects.{ofKind, isObstacle, isOverhang, obstacle, overhang, rightFin, leftFin}
-use Rattle.shading.specs.Factor.{Sun, obstacleExtents, overhangExtents, windowOverhangExtents, rightFinExtents, leftFinExtents, overhangShade, sunlitBetween, sunlitHeight, sunlitWidth, sunlitPart, reductionFactor}
+use Rattle.shading.specs.declared.sun_on_surface.SunOnSurface.{SunOnSurface}
+use Rattle.shading.specs.Factor.{obstacleExtents, overhangExtents, windowOverhangExtents, rightFinExtents, leftFinExtents, overhangShade, sunlitBetween, sunlitHeight, sunlitWidth, sunlitPart, reductionFactor}
 use Rattle.shading_laws.specs.Comparison.{AcceptedSurface, NoNanExtent, AcceptedNear, Holds}
 use Rattle.shading_laws.proofs.Steps.{side-number, remains-falls, part, part-mono, near-falls, high}
 use Rattle.shading_laws.proofs.Members.{Extent, extents-from, extents-into, extents-within}
@@ -24,36 +25,36 @@ use Rattle.shading_laws.proofs.Bounds.{height-side, width-side, base, n
 
 -- ---- more objects, more extents
 
-module _ (surface : Surface) (sun : Sun) {xs ys : List ShadingObject} (h : Holds ys xs) where
+module _ (surface : Surface) (sun : SunOnSurface) {xs ys : List ShadingObject} (h : Holds ys xs) where
   pub obstacles-within : Within (obstacleExtents surface sun xs) (obstacleExtents surface sun ys)
   unfolding obstacleExtents
   obstacles-within =
-      extents-within isObstacle (λ (o : ShadingObject). obstacleHeight (surface .«base_height») (o .height) (o .distance) (sun .tanAltitude)) xs ys h
+      extents-within isObstacle (λ (o : ShadingObject). obstacleHeight (surface .«base_height») (o .height) (o .distance) (sun .«tan_altitude»)) xs ys h
 
   pub overhangs-within : Within (overhangExtents surface sun xs) (overhangExtents surface sun ys)
   unfolding overhangExtents
   overhangs-within =
-      extents-within isOverhang (λ (o : ShadingObject). overhangHeight (surface .height) (surface .«base_height») (o .height) (o .distance) (sun .tanAltitude)) xs ys h
+      extents-within isOverhang (λ (o : ShadingObject). overhangHeight (surface .height) (surface .«base_height») (o .height) (o .distance) (sun .«tan_altitude»)) xs ys h
 
-module _ (sun : Sun) {xs ys : List WindowShadingObject} (h : Holds ys xs) where
+module _ (sun : SunOnSurface) {xs ys : List WindowShadingObject} (h : Holds ys xs) where
   pub window-overhangs-within : Within (windowOverhangExtents sun xs) (windowOverhangExtents sun ys)
   unfolding windowOverhangExtents
   window-overhangs-within =
-      extents-within (ofKind overhang) (λ (o : WindowShadingObject). windowOverhangHeight (o .size) (o .distance) (sun .tanAltitude) (sun .cosDifference)) xs ys h
+      extents-within (ofKind overhang) (λ (o : WindowShadingObject). windowOverhangHeight (o .size) (o .distance) (sun .«tan_altitude») (sun .«cos_difference»)) xs ys h
 
   pub right-fins-within : Within (rightFinExtents sun xs) (rightFinExtents sun ys)
   unfolding rightFinExtents
   right-fins-within =
-      extents-within (ofKind rightFin) (λ (o : WindowShadingObject). rightFinWidth (o .size) (o .distance) (sun .difference) (sun .tanDifference)) xs ys h
+      extents-within (ofKind rightFin) (λ (o : WindowShadingObject). rightFinWidth (o .size) (o .distance) (sun .difference) (sun .«tan_difference»)) xs ys h
 
   pub left-fins-within : Within (leftFinExtents sun xs) (leftFinExtents sun ys)
   unfolding leftFinExtents
   left-fins-within =
-      extents-within (ofKind leftFin) (λ (o : WindowShadingObject). leftFinWidth (o .size) (o .distance) (sun .difference) (sun .tanDifference)) xs ys h
+      extents-within (ofKind leftFin) (λ (o : WindowShadingObject). leftFinWidth (o .size) (o .distance) (sun .difference) (sun .«tan_difference»)) xs ys h
 
 -- ---- from fewer objects (xs, ws) to more (ys, vs)
 
-module _ {surface : Surface} {sun : Sun} {xs ys : List ShadingObject} {ws vs : List WindowShadingObject}
+module _ {surface : Surface} {sun : SunOnSurface} {xs ys : List ShadingObject} {ws vs : List WindowShadingObject}
     (a : AcceptedSurface surface) (few : NoNanExtent surface sun xs ws) (many : NoNanExtent surface sun ys vs) (h : Holds ys xs) (k : Holds vs ws) where
   pub overhang-grows : overhangShade surface sun xs ws ≼ overhangShade surface sun ys vs
   unfolding overhangShade

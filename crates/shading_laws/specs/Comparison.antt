@@ -15,7 +15,8 @@ use Rattle.extents.specs.Extents.{outsideSolarBeam}
 use Rattle.segments.specs.Segments.{found, segmentOf}
 use Rattle.segments.specs.SameSectors.{SameBounds}
 use Rattle.objects.specs.Objects.{counted, ofKind, obstacle}
-use Rattle.shading.specs.Factor.{Sun, sunOn, nearObstacleHeight, obstacleExtents, overhangExtents, windowOverhangExtents, rightFinExtents, leftFinExtents}
+use Rattle.shading.specs.declared.sun_on_surface.SunOnSurface.{SunOnSurface}
+use Rattle.shading.specs.Factor.{sunOn, nearObstacleHeight, obstacleExtents, overhangExtents, windowOverhangExtents, rightFinExtents, leftFinExtents}
 
 -- an accepted surface: height and width from 0.001 to 1000, base height from 0 to 1000, each a double
 pub record AcceptedSurface (surface : Surface) : Type 0 where
@@ -34,7 +35,7 @@ abbrev pub AllNumbers : List Float → Type 0
 AllNumbers xs = (x : Float) → List·Memᴰ x xs → Number x
 
 -- no shade extent is NaN
-pub record NoNanExtent (surface : Surface) (sun : Sun) (distants : List ShadingObject) (window : List WindowShadingObject) : Type 0 where
+pub record NoNanExtent (surface : Surface) (sun : SunOnSurface) (distants : List ShadingObject) (window : List WindowShadingObject) : Type 0 where
   pub obstacles : AllNumbers (obstacleExtents surface sun distants)
   pub overhangs : AllNumbers (overhangExtents surface sun distants)
   pub window-overhangs : AllNumbers (windowOverhangExtents sun window)
