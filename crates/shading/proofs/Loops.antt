@@ -17,7 +17,8 @@ use Rattle.objects.specs.declared.sectors.ShadingObject.{ShadingObject}
 use Rattle.shading.specs.declared.distant.DistantShades.{DistantShades}
 use Rattle.objects.specs.declared.window.WindowShadingObject.{WindowShadingObject}
 use Rattle.shading.specs.declared.window.WindowShades.{WindowShades}
-use Rattle.objects.specs.Objects.{obstacle, isObstacle, isOverhang, ofKind, overhang, rightFin, leftFin, reveal}
+use Rattle.objects.specs.declared.window.WindowShadingType.the-variants.{Obstacle, Overhang, SideFinRight, SideFinLeft, Reveal}
+use Rattle.objects.specs.Objects.{isObstacle, isOverhang, ofKind}
 use Rattle.shading.specs.declared.sun_on_surface.SunOnSurface.{SunOnSurface}
 use Rattle.shading.specs.Factor.{extents, leastOf, obstacleExtents, overhangExtents, windowOverhangExtents, rightFinExtents, leftFinExtents, hasReveal}
 use Rattle.shading.specs.Steps.{distantStep, windowStep}
@@ -101,23 +102,23 @@ module _ (sun : SunOnSurface) (shades : WindowShades) (objects : List WindowShad
   pub window-overhang-next : largestOf (windowStep sun shades (getD objects i d) .overhang) (windowOverhangExtents sun (drop (i + 1) (take n objects)))
       ≡ largestOf (shades .overhang) (windowOverhangExtents sun (drop i (take n objects)))
   unfolding windowStep windowOverhangExtents
-  window-overhang-next = rw (← (getD-take n objects i d h)) (sym (next largestOf maxOf2 largest (ofKind overhang) _ (shades .overhang) (take n objects) i d inside))
+  window-overhang-next = rw (← (getD-take n objects i d h)) (sym (next largestOf maxOf2 largest (ofKind Overhang) _ (shades .overhang) (take n objects) i d inside))
 
   pub right-next : largestOf (windowStep sun shades (getD objects i d) .right) (rightFinExtents sun (drop (i + 1) (take n objects)))
       ≡ largestOf (shades .right) (rightFinExtents sun (drop i (take n objects)))
   unfolding windowStep rightFinExtents
-  right-next = rw (← (getD-take n objects i d h)) (sym (next largestOf maxOf2 largest (ofKind rightFin) _ (shades .right) (take n objects) i d inside))
+  right-next = rw (← (getD-take n objects i d h)) (sym (next largestOf maxOf2 largest (ofKind SideFinRight) _ (shades .right) (take n objects) i d inside))
 
   pub left-next : largestOf (windowStep sun shades (getD objects i d) .left) (leftFinExtents sun (drop (i + 1) (take n objects)))
       ≡ largestOf (shades .left) (leftFinExtents sun (drop i (take n objects)))
   unfolding windowStep leftFinExtents
-  left-next = rw (← (getD-take n objects i d h)) (sym (next largestOf maxOf2 largest (ofKind leftFin) _ (shades .left) (take n objects) i d inside))
+  left-next = rw (← (getD-take n objects i d h)) (sym (next largestOf maxOf2 largest (ofKind SideFinLeft) _ (shades .left) (take n objects) i d inside))
 
   pub reveal-next : windowStep sun shades (getD objects i d) .reveal || hasReveal (drop (i + 1) (take n objects)) ≡ shades .reveal || hasReveal (drop i (take n objects))
   unfolding windowStep hasReveal
   reveal-next =
       rw (← (getD-take n objects i d h), drop-cons (take n objects) i d inside, add-one i)
-      (go (ofKind reveal (getD (take n objects) i d)) (shades .reveal) (hasReveal (drop (suc i) (take n objects))))
+      (go (ofKind Reveal (getD (take n objects) i d)) (shades .reveal) (hasReveal (drop (suc i) (take n objects))))
     where
       go : (b r t : Bool) → cond b true r || t ≡ r || (b || t)
       go true true t = refl
@@ -128,15 +129,15 @@ module _ (sun : SunOnSurface) (shades : WindowShades) (objects : List WindowShad
 module _ (sun : SunOnSurface) (first : Float) (l : List WindowShadingObject) (i : ℕ) (e : i ≡ length l) where
   pub window-overhang-end : largestOf first (windowOverhangExtents sun (drop i l)) ≡ first
   unfolding windowOverhangExtents
-  window-overhang-end = rw e (end largestOf maxOf2 largest (ofKind overhang) _ first l)
+  window-overhang-end = rw e (end largestOf maxOf2 largest (ofKind Overhang) _ first l)
 
   pub right-end : largestOf first (rightFinExtents sun (drop i l)) ≡ first
   unfolding rightFinExtents
-  right-end = rw e (end largestOf maxOf2 largest (ofKind rightFin) _ first l)
+  right-end = rw e (end largestOf maxOf2 largest (ofKind SideFinRight) _ first l)
 
   pub left-end : largestOf first (leftFinExtents sun (drop i l)) ≡ first
   unfolding leftFinExtents
-  left-end = rw e (end largestOf maxOf2 largest (ofKind leftFin) _ first l)
+  left-end = rw e (end largestOf maxOf2 largest (ofKind SideFinLeft) _ first l)
 
 pub reveal-end : (b : Bool) (l : List WindowShadingObject) (i : ℕ) → i ≡ length l → b || hasReveal (drop i l) ≡ b
 unfolding hasReveal
@@ -146,11 +147,11 @@ reveal-end b l i e = rw (e, drop-length l) (or-false b)
 
 module _ (extent : WindowShadingObject → Float) (first : Float) (objects : List WindowShadingObject) (n i : ℕ) where
   pub near-next : (d : WindowShadingObject) → i < n → n ≤ length objects
-      → leastOf (cond (ofKind obstacle (getD objects i d)) (floatMin first (extent (getD objects i d))) first) (extents (ofKind obstacle) extent (drop (i + 1) (take n objects)))
-      ≡ leastOf first (extents (ofKind obstacle) extent (drop i (take n objects)))
+      → leastOf (cond (ofKind Obstacle (getD objects i d)) (floatMin first (extent (getD objects i d))) first) (extents (ofKind Obstacle) extent (drop (i + 1) (take n objects)))
+      ≡ leastOf first (extents (ofKind Obstacle) extent (drop i (take n objects)))
   near-next d h k =
       let m : i < length (take n objects) = rw (length-take-le n objects k) h in
-      rw (← (getD-take n objects i d h)) (sym (next leastOf floatMin least (ofKind obstacle) extent first (take n objects) i d m))
+      rw (← (getD-take n objects i d h)) (sym (next leastOf floatMin least (ofKind Obstacle) extent first (take n objects) i d m))
 
-  pub near-end : i ≡ length (take n objects) → leastOf first (extents (ofKind obstacle) extent (drop i (take n objects))) ≡ first
-  near-end e = rw e (end leastOf floatMin least (ofKind obstacle) extent first (take n objects))
+  pub near-end : i ≡ length (take n objects) → leastOf first (extents (ofKind Obstacle) extent (drop i (take n objects))) ≡ first
+  near-end e = rw e (end leastOf floatMin least (ofKind Obstacle) extent first (take n objects))

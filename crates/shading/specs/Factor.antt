@@ -12,7 +12,8 @@ use Rattle.objects.specs.declared.window.WindowShadingObject.{WindowShadingObje
 use Rattle.objects.specs.declared.answers.Refusal.the-variants as refusal
 use Rattle.objects.specs.declared.answers.FactorAnswer.{FactorAnswer}
 use Rattle.objects.specs.declared.answers.FactorAnswer.the-variants.{Factor, Refused}
-use Rattle.objects.specs.Objects.{ofKind, obstacle, overhang, rightFin, leftFin, reveal, isObstacle, isOverhang, counted}
+use Rattle.objects.specs.declared.window.WindowShadingType.the-variants.{Obstacle, Overhang, SideFinRight, SideFinLeft, Reveal}
+use Rattle.objects.specs.Objects.{ofKind, isObstacle, isOverhang, counted}
 use Rattle.shading.specs.declared.sun_on_surface.SunOnSurface.{SunOnSurface}
 use Rattle.orientation.specs.Orientation.{orientation180}
 use Rattle.extents.specs.Extents.{outsideSolarBeam, obstacleHeight, overhangHeight, windowOverhangHeight, rightFinWidth, leftFinWidth}
@@ -48,15 +49,15 @@ overhangExtents surface sun =
 unfoldable pub windowOverhangExtents : SunOnSurface → List WindowShadingObject → List Float
 unfolding extents ofKind windowOverhangHeight
 windowOverhangExtents sun =
-    extents (ofKind overhang) (λ o. windowOverhangHeight (o .size) (o .distance) (sun .«tan_altitude») (sun .«cos_difference»))
+    extents (ofKind Overhang) (λ o. windowOverhangHeight (o .size) (o .distance) (sun .«tan_altitude») (sun .«cos_difference»))
 
 unfoldable pub rightFinExtents : SunOnSurface → List WindowShadingObject → List Float
 unfolding extents ofKind rightFinWidth
-rightFinExtents sun = extents (ofKind rightFin) (λ o. rightFinWidth (o .size) (o .distance) (sun .difference) (sun .«tan_difference»))
+rightFinExtents sun = extents (ofKind SideFinRight) (λ o. rightFinWidth (o .size) (o .distance) (sun .difference) (sun .«tan_difference»))
 
 unfoldable pub leftFinExtents : SunOnSurface → List WindowShadingObject → List Float
 unfolding extents ofKind leftFinWidth
-leftFinExtents sun = extents (ofKind leftFin) (λ o. leftFinWidth (o .size) (o .distance) (sun .difference) (sun .«tan_difference»))
+leftFinExtents sun = extents (ofKind SideFinLeft) (λ o. leftFinWidth (o .size) (o .distance) (sun .difference) (sun .«tan_difference»))
 
 -- ---- what is left in the sun
 
@@ -117,14 +118,14 @@ unfolding overhangShade sunlitHeight sunlitWidth sunlitPart nearFactor leastOf e
 reductionFactor surface sun distants window =
     let hkOverhang = overhangShade surface sun distants window in
     let wkSun = sunlitWidth surface sun window in
-    leastOf (sunlitPart surface (sunlitHeight surface sun distants hkOverhang) wkSun) (extents (ofKind obstacle) (nearFactor surface sun hkOverhang wkSun) window)
+    leastOf (sunlitPart surface (sunlitHeight surface sun distants hkOverhang) wkSun) (extents (ofKind Obstacle) (nearFactor surface sun hkOverhang wkSun) window)
 
 -- ---- the factor, or a refusal
 
 unfoldable pub hasReveal : List WindowShadingObject → Bool
 unfolding ofKind
 hasReveal [] = false
-hasReveal (o ∷ rest) = ofKind reveal o || hasReveal rest
+hasReveal (o ∷ rest) = ofKind Reveal o || hasReveal rest
 
 -- once the walk has come to a sector: a reveal is refused
 unfoldable pub factorIn : Surface → SunOnSurface → List WindowShadingObject → Segment → FactorAnswer

@@ -9,7 +9,8 @@ use Rattle.shading.specs.declared.distant.DistantShades.{DistantShades}
 use Rattle.objects.specs.declared.window.WindowShadingObject.{WindowShadingObject}
 use Rattle.shading.specs.declared.window.WindowShades.{WindowShades}
 use Rattle.extents.specs.Extents.{obstacleHeight, overhangHeight, windowOverhangHeight, rightFinWidth, leftFinWidth}
-use Rattle.objects.specs.Objects.{isObstacle, isOverhang, ofKind, overhang, rightFin, leftFin, reveal}
+use Rattle.objects.specs.declared.window.WindowShadingType.the-variants.{Overhang, SideFinRight, SideFinLeft, Reveal}
+use Rattle.objects.specs.Objects.{isObstacle, isOverhang, ofKind}
 
 unfoldable pub distantStep : Surface → SunOnSurface → DistantShades → ShadingObject → DistantShades
 unfolding isObstacle isOverhang
@@ -34,8 +35,8 @@ withLeftFin shades width = record { overhang = shades .overhang; right = shades 
 unfoldable pub windowStep : SunOnSurface → WindowShades → WindowShadingObject → WindowShades
 unfolding ofKind
 windowStep sun shades o = record {
-  overhang = cond (ofKind overhang o) (maxOf2 (shades .overhang) (windowOverhangHeight (o .size) (o .distance) (sun .«tan_altitude») (sun .«cos_difference»))) (shades .overhang);
-  right = cond (ofKind rightFin o) (maxOf2 (shades .right) (rightFinWidth (o .size) (o .distance) (sun .difference) (sun .«tan_difference»))) (shades .right);
-  left = cond (ofKind leftFin o) (maxOf2 (shades .left) (leftFinWidth (o .size) (o .distance) (sun .difference) (sun .«tan_difference»))) (shades .left);
-  reveal = cond (ofKind reveal o) true (shades .reveal);
+  overhang = cond (ofKind Overhang o) (maxOf2 (shades .overhang) (windowOverhangHeight (o .size) (o .distance) (sun .«tan_altitude») (sun .«cos_difference»))) (shades .overhang);
+  right = cond (ofKind SideFinRight o) (maxOf2 (shades .right) (rightFinWidth (o .size) (o .distance) (sun .difference) (sun .«tan_difference»))) (shades .right);
+  left = cond (ofKind SideFinLeft o) (maxOf2 (shades .left) (leftFinWidth (o .size) (o .distance) (sun .difference) (sun .«tan_difference»))) (shades .left);
+  reveal = cond (ofKind Reveal o) true (shades .reveal);
 }

@@ -2,7 +2,8 @@
 ghost use mathlib.Core.Path.{_≡_};
 ghost use mathlib.Core.Bool.{cond};
 ghost use Rattle.doubles.specs.Functions.{floatMin};
-ghost use Rattle.objects.specs.Objects.{ofKind, obstacle, placed};
+ghost use Rattle.objects.specs.declared.window.WindowShadingType.the-variants.{Obstacle};
+ghost use Rattle.objects.specs.Objects.{ofKind, placed};
 ghost use Rattle.shading.specs.Factor.{sunlitPart, sunlitBetween, nearFactor, leastOf, extents, factorIn};
 ghost use Rattle.segments.specs.Segments.{found};
 use crate::distant;
@@ -54,7 +55,7 @@ fn with_object(
     wk_sun: f64,
     object: WindowShadingObject,
 ) -> f64
-    ensures { λ r. ⌜ r ≡ cond (ofKind obstacle object) (floatMin factor (nearFactor surface sun «hk_ovh» «wk_sun» object)) factor ⌝ }
+    ensures { λ r. ⌜ r ≡ cond (ofKind Obstacle object) (floatMin factor (nearFactor surface sun «hk_ovh» «wk_sun» object)) factor ⌝ }
 {
     let object_type = object.object_type;
     match object_type {
@@ -77,7 +78,7 @@ fn least_factor(
     wk_sun: f64,
     window: WindowShading,
 ) -> f64
-    ensures { λ r. ⌜ r ≡ leastOf first (extents (ofKind obstacle) (nearFactor surface sun «hk_ovh» «wk_sun») (placed window)) ⌝ }
+    ensures { λ r. ⌜ r ≡ leastOf first (extents (ofKind Obstacle) (nearFactor surface sun «hk_ovh» «wk_sun») (placed window)) ⌝ }
 {
     let objects = window.objects;
     let n = objects::counted_places(window.count, 16);

@@ -17,7 +17,8 @@ use Rattle.objects.specs.declared.surface.Surface.{Surface}
 use Rattle.objects.specs.declared.sectors.ShadingObject.{ShadingObject}
 use Rattle.objects.specs.declared.window.WindowShadingObject.{WindowShadingObject}
 use Rattle.extents.specs.Extents.{obstacleHeight}
-use Rattle.objects.specs.Objects.{ofKind, obstacle}
+use Rattle.objects.specs.declared.window.WindowShadingType.the-variants.{Obstacle}
+use Rattle.objects.specs.Objects.{ofKind}
 use Rattle.shading.specs.declared.sun_on_surface.SunOnSurface.{SunOnSurface}
 use Rattle.shading.specs.Factor.{extents, obstacleExtents, overhangExtents, windowOverhangExtents, rightFinExtents, leftFinExtents, overhangShade, sunlitBetween, sunlitHeight, sunlitWidth, sunlitPart, nearFactor, reductionFactor, nearObstacleHeight}
 use Rattle.shading_laws.specs.Comparison.{AcceptedSurface, NoNanExtent, AcceptedNear}
@@ -60,7 +61,7 @@ unfoldable pub near : Surface → SunOnSurface → List ShadingObject → List W
 near surface sun distants window = nearFactor surface sun (overhangShade surface sun distants window) (sunlitWidth surface sun window)
 
 unfoldable pub nears : Surface → SunOnSurface → List ShadingObject → List WindowShadingObject → List Float
-nears surface sun distants window = extents (ofKind obstacle) (near surface sun distants window) window
+nears surface sun distants window = extents (ofKind Obstacle) (near surface sun distants window) window
 
 module _ {surface : Surface} {sun : SunOnSurface} {distants : List ShadingObject} {window : List WindowShadingObject}
     (a : AcceptedSurface surface) (n : NoNanExtent surface sun distants window) where
@@ -99,14 +100,14 @@ module _ {surface : Surface} {sun : SunOnSurface} {distants : List ShadingObject
   base-le-one = part-le-one (height-side a) (width-side a) height-between width-between
 
   module _ (b : AcceptedNear window) where
-    pub near-height-between : (o : WindowShadingObject) → List·Memᴰ o window → T (ofKind obstacle o)
+    pub near-height-between : (o : WindowShadingObject) → List·Memᴰ o window → T (ofKind Obstacle o)
         → Between (whole 2000) (nearHeight (surface .height) (nearShade surface sun o) (overhangShade surface sun distants window) (o .transparency))
     near-height-between o m t =
         near-between (height-side a) (near-shade-between surface sun o a (n .near-obstacles o m t)) overhang-between
         (record { low = b .transparency-from o m t; high = b .transparency-to o m t })
 
     -- not negative, and no more is said: it may be above 1 by a rounding
-    pub near-nonneg : (o : WindowShadingObject) → List·Memᴰ o window → T (ofKind obstacle o) → whole 0 ≼ near surface sun distants window o
+    pub near-nonneg : (o : WindowShadingObject) → List·Memᴰ o window → T (ofKind Obstacle o) → whole 0 ≼ near surface sun distants window o
     unfolding near
     near-nonneg o m t =
         rw (near-factor-is surface sun (overhangShade surface sun distants window) (sunlitWidth surface sun window) o)
@@ -115,7 +116,7 @@ module _ {surface : Surface} {sun : SunOnSurface} {distants : List ShadingObject
     nears-nonneg : (x : Float) → List·Memᴰ x (nears surface sun distants window) → whole 0 ≼ x
     unfolding nears
     nears-nonneg x m =
-        let e : Extent (ofKind obstacle) (near surface sun distants window) window x = extents-from (ofKind obstacle) (near surface sun distants window) window x m in
+        let e : Extent (ofKind Obstacle) (near surface sun distants window) window x = extents-from (ofKind Obstacle) (near surface sun distants window) window x m in
         rw (e .value) (near-nonneg (e .object) (e .member) (e .of-kind))
 
     pub nears-numbers : Numbers (base surface sun distants window ∷ nears surface sun distants window)

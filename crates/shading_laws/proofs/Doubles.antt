@@ -10,7 +10,8 @@ use Rattle.doubles.proofs.MinMax.{float-min-fits}
 use Rattle.objects.specs.declared.surface.Surface.{Surface}
 use Rattle.objects.specs.declared.sectors.ShadingObject.{ShadingObject}
 use Rattle.objects.specs.declared.window.WindowShadingObject.{WindowShadingObject}
-use Rattle.objects.specs.Objects.{ofKind, obstacle}
+use Rattle.objects.specs.declared.window.WindowShadingType.the-variants.{Obstacle}
+use Rattle.objects.specs.Objects.{ofKind}
 use Rattle.shading.specs.declared.sun_on_surface.SunOnSurface.{SunOnSurface}
 use Rattle.shading.specs.Factor.{overhangShade, sunlitHeight, sunlitWidth, sunlitPart, nearFactor, leastOf, reductionFactor}
 use Rattle.shading_laws.proofs.Members.{Extent, extents-from}
@@ -37,5 +38,5 @@ factor-fits surface sun distants window =
     least-fits (base surface sun distants window) (nears surface sun distants window)
     (part-fits (surface .height) (surface .width) (sunlitHeight surface sun distants (overhangShade surface sun distants window)) (sunlitWidth surface sun window))
     (λ x m.
-    let e : Extent (ofKind obstacle) (near surface sun distants window) window x = extents-from (ofKind obstacle) (near surface sun distants window) window x m in
+    let e : Extent (ofKind Obstacle) (near surface sun distants window) window x = extents-from (ofKind Obstacle) (near surface sun distants window) window x m in
     subst Fits (sym (e .value)) (near-fits surface sun (overhangShade surface sun distants window) (sunlitWidth surface sun window) (e .object)))

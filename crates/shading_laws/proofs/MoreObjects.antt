@@ -15,7 +15,8 @@ use Rattle.objects.specs.declared.surface.Surface.{Surface}
 use Rattle.objects.specs.declared.sectors.ShadingObject.{ShadingObject}
 use Rattle.objects.specs.declared.window.WindowShadingObject.{WindowShadingObject}
 use Rattle.extents.specs.Extents.{obstacleHeight, overhangHeight, windowOverhangHeight, rightFinWidth, leftFinWidth}
-use Rattle.objects.specs.Objects.{ofKind, isObstacle, isOverhang, obstacle, overhang, rightFin, leftFin}
+use Rattle.objects.specs.declared.window.WindowShadingType.the-variants.{Obstacle, Overhang, SideFinRight, SideFinLeft}
+use Rattle.objects.specs.Objects.{ofKind, isObstacle, isOverhang}
 use Rattle.shading.specs.declared.sun_on_surface.SunOnSurface.{SunOnSurface}
 use Rattle.shading.specs.Factor.{obstacleExtents, overhangExtents, windowOverhangExtents, rightFinExtents, leftFinExtents, overhangShade, sunlitBetween, sunlitHeight, sunlitWidth, sunlitPart, reductionFactor}
 use Rattle.shading_laws.specs.Comparison.{AcceptedSurface, NoNanExtent, AcceptedNear, Holds}
@@ -40,17 +41,17 @@ module _ (sun : SunOnSurface) {xs ys : List WindowShadingObject} (h : Holds ys x
   pub window-overhangs-within : Within (windowOverhangExtents sun xs) (windowOverhangExtents sun ys)
   unfolding windowOverhangExtents
   window-overhangs-within =
-      extents-within (ofKind overhang) (λ (o : WindowShadingObject). windowOverhangHeight (o .size) (o .distance) (sun .«tan_altitude») (sun .«cos_difference»)) xs ys h
+      extents-within (ofKind Overhang) (λ (o : WindowShadingObject). windowOverhangHeight (o .size) (o .distance) (sun .«tan_altitude») (sun .«cos_difference»)) xs ys h
 
   pub right-fins-within : Within (rightFinExtents sun xs) (rightFinExtents sun ys)
   unfolding rightFinExtents
   right-fins-within =
-      extents-within (ofKind rightFin) (λ (o : WindowShadingObject). rightFinWidth (o .size) (o .distance) (sun .difference) (sun .«tan_difference»)) xs ys h
+      extents-within (ofKind SideFinRight) (λ (o : WindowShadingObject). rightFinWidth (o .size) (o .distance) (sun .difference) (sun .«tan_difference»)) xs ys h
 
   pub left-fins-within : Within (leftFinExtents sun xs) (leftFinExtents sun ys)
   unfolding leftFinExtents
   left-fins-within =
-      extents-within (ofKind leftFin) (λ (o : WindowShadingObject). leftFinWidth (o .size) (o .distance) (sun .difference) (sun .«tan_difference»)) xs ys h
+      extents-within (ofKind SideFinLeft) (λ (o : WindowShadingObject). leftFinWidth (o .size) (o .distance) (sun .difference) (sun .«tan_difference»)) xs ys h
 
 -- ---- from fewer objects (xs, ws) to more (ys, vs)
 
@@ -93,7 +94,7 @@ module _ {surface : Surface} {sun : SunOnSurface} {xs ys : List ShadingObject} {
       (high (height-side a) (width-side a) (height-between a few)) (width-between a few) height-falls width-falls
 
   module _ (b : AcceptedNear ws) (c : AcceptedNear vs) where
-    near-falls-by : (o : WindowShadingObject) → List·Memᴰ o ws → T (ofKind obstacle o) → near surface sun ys vs o ≼ near surface sun xs ws o
+    near-falls-by : (o : WindowShadingObject) → List·Memᴰ o ws → T (ofKind Obstacle o) → near surface sun ys vs o ≼ near surface sun xs ws o
     unfolding near
     near-falls-by o m t =
         rw (
@@ -109,18 +110,18 @@ module _ {surface : Surface} {sun : SunOnSurface} {xs ys : List ShadingObject} {
     least-bound : (x : Float) → List·Memᴰ x (base surface sun ys vs ∷ nears surface sun ys vs) → smallestOf (base surface sun ys vs) (nears surface sun ys vs) ≼ x
     least-bound = smallest-bound (base surface sun ys vs) (nears surface sun ys vs) (nears-numbers a many c)
 
-    of-near : (x : Float) → Extent (ofKind obstacle) (near surface sun xs ws) ws x → smallestOf (base surface sun ys vs) (nears surface sun ys vs) ≼ x
+    of-near : (x : Float) → Extent (ofKind Obstacle) (near surface sun xs ws) ws x → smallestOf (base surface sun ys vs) (nears surface sun ys vs) ≼ x
     unfolding nears
     of-near x e =
         rw (e .value)
         (le-trans
-        (least-bound (near surface sun ys vs (e .object)) (List·Memᴰ·tail (extents-into (ofKind obstacle) (near surface sun ys vs) vs (e .object) (k (e .object) (e .member)) (e .of-kind))))
+        (least-bound (near surface sun ys vs (e .object)) (List·Memᴰ·tail (extents-into (ofKind Obstacle) (near surface sun ys vs) vs (e .object) (k (e .object) (e .member)) (e .of-kind))))
         (near-falls-by (e .object) (e .member) (e .of-kind)))
 
     of-any : (x : Float) → (x ≡ base surface sun xs ws) ⊎ List·Memᴰ x (nears surface sun xs ws) → smallestOf (base surface sun ys vs) (nears surface sun ys vs) ≼ x
     unfolding nears
     of-any x (inl e) = rw e (le-trans (least-bound (base surface sun ys vs) (List·Memᴰ·head refl)) base-falls)
-    of-any x (inr m) = of-near x (extents-from (ofKind obstacle) (near surface sun xs ws) ws x m)
+    of-any x (inr m) = of-near x (extents-from (ofKind Obstacle) (near surface sun xs ws) ws x m)
 
     -- a list that holds all objects of another gives no larger a factor
     pub factor-more-objects : reductionFactor surface sun ys vs ≼ reductionFactor surface sun xs ws

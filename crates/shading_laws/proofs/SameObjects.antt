@@ -13,7 +13,8 @@ use Rattle.doubles.proofs.Ranges.{Between}
 use Rattle.objects.specs.declared.surface.Surface.{Surface}
 use Rattle.objects.specs.declared.sectors.ShadingObject.{ShadingObject}
 use Rattle.objects.specs.declared.window.WindowShadingObject.{WindowShadingObject}
-use Rattle.objects.specs.Objects.{ofKind, obstacle}
+use Rattle.objects.specs.declared.window.WindowShadingType.the-variants.{Obstacle}
+use Rattle.objects.specs.Objects.{ofKind}
 use Rattle.shading.specs.declared.sun_on_surface.SunOnSurface.{SunOnSurface}
 use Rattle.shading.specs.Factor.{obstacleExtents, rightFinExtents, leftFinExtents, overhangShade, sunlitBetween, sunlitHeight, sunlitWidth, sunlitPart, reductionFactor}
 use Rattle.shading_laws.specs.Comparison.{AcceptedSurface, NoNanExtent, AcceptedNear, Holds}
@@ -57,7 +58,7 @@ module _ {surface : Surface} {sun : SunOnSurface} {xs : List ShadingObject} {ws 
   unfolding base sunlitPart part
   base-unsigned = part-unsigned (height-side a) (width-side a) height-unsigned width-unsigned
 
-  near-unsigned : (o : WindowShadingObject) → List·Memᴰ o ws → T (ofKind obstacle o) → Unsigned (near surface sun xs ws o)
+  near-unsigned : (o : WindowShadingObject) → List·Memᴰ o ws → T (ofKind Obstacle o) → Unsigned (near surface sun xs ws o)
   unfolding near
   near-unsigned o m t =
       subst Unsigned (sym (near-factor-is surface sun (overhangShade surface sun xs ws) (sunlitWidth surface sun ws) o))
@@ -70,7 +71,7 @@ module _ {surface : Surface} {sun : SunOnSurface} {xs : List ShadingObject} {ws 
   unfolding nears
   any-unsigned x (inl e) = subst Unsigned (sym e) base-unsigned
   any-unsigned x (inr m) =
-      let e : Extent (ofKind obstacle) (near surface sun xs ws) ws x = extents-from (ofKind obstacle) (near surface sun xs ws) ws x m in
+      let e : Extent (ofKind Obstacle) (near surface sun xs ws) ws x = extents-from (ofKind Obstacle) (near surface sun xs ws) ws x m in
       subst Unsigned (sym (e .value)) (near-unsigned (e .object) (e .member) (e .of-kind))
 
   -- the factor is never −0.0

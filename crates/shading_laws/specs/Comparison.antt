@@ -14,7 +14,8 @@ use Rattle.objects.specs.declared.window.WindowShadingObject.{WindowShadingObje
 use Rattle.extents.specs.Extents.{outsideSolarBeam}
 use Rattle.segments.specs.Segments.{found, segmentOf}
 use Rattle.segments.specs.SameSectors.{SameBounds}
-use Rattle.objects.specs.Objects.{counted, ofKind, obstacle}
+use Rattle.objects.specs.declared.window.WindowShadingType.the-variants.{Obstacle}
+use Rattle.objects.specs.Objects.{counted, ofKind}
 use Rattle.shading.specs.declared.sun_on_surface.SunOnSurface.{SunOnSurface}
 use Rattle.shading.specs.Factor.{sunOn, nearObstacleHeight, obstacleExtents, overhangExtents, windowOverhangExtents, rightFinExtents, leftFinExtents}
 
@@ -41,7 +42,7 @@ pub record NoNanExtent (surface : Surface) (sun : SunOnSurface) (distants : List
   pub window-overhangs : AllNumbers (windowOverhangExtents sun window)
   pub right-fins : AllNumbers (rightFinExtents sun window)
   pub left-fins : AllNumbers (leftFinExtents sun window)
-  pub near-obstacles : (o : WindowShadingObject) → List·Memᴰ o window → T (ofKind obstacle o) → Number (nearObstacleHeight surface sun o)
+  pub near-obstacles : (o : WindowShadingObject) → List·Memᴰ o window → T (ofKind Obstacle o) → Number (nearObstacleHeight surface sun o)
 
 -- no shade extent at a step is NaN: those are computed inside the beam, of the sector that is found
 pub record NoNanAt (surface : Surface) (altitude azimuth : Float) (sectors : List ShadingSegment) (window : List WindowShadingObject) : Type 0 where
@@ -50,8 +51,8 @@ pub record NoNanAt (surface : Surface) (altitude azimuth : Float) (sectors : Lis
 
 -- every near obstacle's transparency is from 0 to 1; −0.0 is in
 pub record AcceptedNear (window : List WindowShadingObject) : Type 0 where
-  pub transparency-from : (o : WindowShadingObject) → List·Memᴰ o window → T (ofKind obstacle o) → whole 0 ≼ o .transparency
-  pub transparency-to : (o : WindowShadingObject) → List·Memᴰ o window → T (ofKind obstacle o) → o .transparency ≼ whole 1
+  pub transparency-from : (o : WindowShadingObject) → List·Memᴰ o window → T (ofKind Obstacle o) → whole 0 ≼ o .transparency
+  pub transparency-to : (o : WindowShadingObject) → List·Memᴰ o window → T (ofKind Obstacle o) → o .transparency ≼ whole 1
 
 -- ys holds all objects of xs
 abbrev pub Holds : {Object : Type 0} → List Object → List Object → Type 0

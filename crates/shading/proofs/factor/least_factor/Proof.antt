@@ -2,7 +2,8 @@ use mathlib.Core.Path.{_≡_, refl, sym, _∙_}
 use Prim.Native.Nat.{_≤_, _-_}
 use native.Mathlib.Omega.{arith}
 use lib.ListN.{length, take, drop}
-use Rattle.objects.specs.Objects.{ofKind, obstacle, placed}
+use Rattle.objects.specs.declared.window.WindowShadingType.the-variants.{Obstacle}
+use Rattle.objects.specs.Objects.{ofKind, placed}
 use Rattle.shading.specs.Factor.{leastOf, extents, nearFactor}
 use Rattle.words.proofs.Lists.{unmapped}
 use Rattle.shading.proofs.Loops.{counted-first, at-end, near-next, near-end}
@@ -13,8 +14,8 @@ abbrev Inv-loop : tie.InvT-loop
 Inv-loop first surface sun hk-ovh wk-sun objects n factor₀ i₀ factor i =
     (i ≤ n)
     × (n ≤ 16)
-    × (leastOf factor (extents (ofKind obstacle) (nearFactor surface sun hk-ovh wk-sun) (drop i (take n objects)))
-    ≡ leastOf first (extents (ofKind obstacle) (nearFactor surface sun hk-ovh wk-sun) (take n objects)))
+    × (leastOf factor (extents (ofKind Obstacle) (nearFactor surface sun hk-ovh wk-sun) (drop i (take n objects)))
+    ≡ leastOf first (extents (ofKind Obstacle) (nearFactor surface sun hk-ovh wk-sun) (take n objects)))
 
 abbrev μ-loop : tie.MeasureT-loop
 μ-loop first surface sun hk-ovh wk-sun objects n factor₀ i₀ factor i = n - i
