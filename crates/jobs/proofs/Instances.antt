@@ -33,12 +33,13 @@ use Rattle.objects.specs.declared.answers.FactorAnswer.the-variants as factor
 use Rattle.words.specs.Lists.{firstFine}
 use Rattle.object_checks.specs.Checks.{within, aboveZero, surfaceFine, recordsFine, windowValuesFine, windowRecordFine, windowFine, objectValuesFine, objectFine, objectUnused, tripleFine, boundsFine, sectorRecordFine, sectorsFine}
 use Rattle.objects.specs.Records.{recordsFrom, distantKind, objectAt, objectsFrom, segmentAt, sectorsOf, windowObjectsOf}
-use Rattle.extents.specs.Extents.{withinRight, outsideSolarBeam, obstacleHeight}
+use Rattle.beam.specs.Beam.{within90, outsideSolarBeam}
+use Rattle.extents.specs.Extents.{obstacleHeight}
 use Rattle.segments.specs.Segments.{found, betweenEnds, holdsAzimuth, visit, walkFrom, segmentOf}
 use Rattle.objects.specs.Objects.{isObstacle, isOverhang, counted}
 use Rattle.shading.specs.declared.sun_on_surface.SunOnSurface.{SunOnSurface}
 use Rattle.shading.specs.Factor.{extents, sunOn, obstacleExtents, overhangExtents, windowOverhangExtents, rightFinExtents, leftFinExtents, overhangShade, sunlitBetween, sunlitHeight, sunlitWidth, sunlitPart, leastOf, reductionFactor, hasReveal, factorIn, shadingFactor}
-use Rattle.shading_laws.specs.Comparison.{AllNumbers, NoNanExtent, Holds}
+use Rattle.shading_laws.specs.Premises.{AllNumbers, NoNanExtent, Holds}
 use Rattle.jobs.specs.declared.answers.Checked.the-variants as check
 use Rattle.jobs.specs.Series.{inSeries, readSeries}
 use Rattle.jobs.specs.Job.{Job, indexAt, readingAt}
@@ -113,7 +114,7 @@ unfolding lists doubles sine cosine tangent isAngle turns quarters quadrant rema
 sun = 0
 
 shade : ℕ
-unfolding sun withinRight wrappedOnce outsideSolarBeam obstacleHeight betweenEnds holdsAzimuth visit walkFrom segmentOf extents isObstacle isOverhang sunOn obstacleExtents overhangExtents
+unfolding sun within90 wrappedOnce outsideSolarBeam obstacleHeight betweenEnds holdsAzimuth visit walkFrom segmentOf extents isObstacle isOverhang sunOn obstacleExtents overhangExtents
     windowOverhangExtents rightFinExtents leftFinExtents overhangShade sunlitBetween sunlitHeight sunlitWidth sunlitPart leastOf reductionFactor hasReveal counted factorIn
     shadingFactor shadingAt
 shade = 0

@@ -19,7 +19,7 @@ use Rattle.objects.specs.declared.answers.FactorAnswer.the-variants.{Factor}
 use Rattle.objects.specs.Objects.{counted}
 use Rattle.shading.specs.Factor.{shadingFactor}
 use Rattle.objects.specs.Records.{sectorsOf, windowObjectsOf}
-use Rattle.shading_laws.specs.Comparison.{NoNanAt}
+use Rattle.shading_laws.specs.Premises.{NoNanAt}
 use Rattle.shading_laws.proofs.Answers.{answer-nonneg, answer-le-one, answer-no-objects, answers-more-objects, answers-same-objects}
 use Rattle.jobs.specs.Series.{readSeries}
 use Rattle.jobs.specs.Job.{Job, indexAt, readingAt}

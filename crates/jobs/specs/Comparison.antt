@@ -10,7 +10,7 @@ use Rattle.words.specs.Words.{wordCount, wordAt, doubleAt}
 use Rattle.simulation_time.specs.Steps.{stepCount, timeAt}
 use Rattle.objects.specs.declared.surface.Surface.{Surface}
 use Rattle.objects.specs.Records.{recordsFrom, sectorsOf, windowObjectsOf}
-use Rattle.shading_laws.specs.Comparison.{Holds, NoNanAt}
+use Rattle.shading_laws.specs.Premises.{Holds, NoNanAt}
 use Rattle.jobs.specs.Job.{Job}
 use Rattle.jobs.specs.Step.{sunAt}
 use Rattle.jobs.specs.Run.{Ran, runOf, numberFor, countFor, sumFor}

@@ -21,7 +21,7 @@ use Rattle.objects.specs.declared.window.WindowShadingType.the-variants.{Obstac
 use Rattle.objects.specs.Objects.{isObstacle, isOverhang, ofKind}
 use Rattle.shading.specs.declared.sun_on_surface.SunOnSurface.{SunOnSurface}
 use Rattle.shading.specs.Factor.{extents, leastOf, obstacleExtents, overhangExtents, windowOverhangExtents, rightFinExtents, leftFinExtents, hasReveal}
-use Rattle.shading.specs.Steps.{distantStep, windowStep}
+use Rattle.shading.specs.ObjectSteps.{distantStep, windowStep}
 
 -- a value kept over a list, one member after the other
 record Keeps (keep : Float → List Float → Float) (op : Float → Float → Float) : Type 0 where

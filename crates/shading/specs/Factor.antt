@@ -16,7 +16,8 @@ use Rattle.objects.specs.declared.window.WindowShadingType.the-variants.{Obstac
 use Rattle.objects.specs.Objects.{ofKind, isObstacle, isOverhang, counted}
 use Rattle.shading.specs.declared.sun_on_surface.SunOnSurface.{SunOnSurface}
 use Rattle.orientation.specs.Orientation.{orientation180}
-use Rattle.extents.specs.Extents.{outsideSolarBeam, obstacleHeight, overhangHeight, windowOverhangHeight, rightFinWidth, leftFinWidth}
+use Rattle.beam.specs.Beam.{outsideSolarBeam}
+use Rattle.extents.specs.Extents.{obstacleHeight, overhangHeight, windowOverhangHeight, rightFinWidth, leftFinWidth}
 use Rattle.segments.specs.Segments.{Segment, found, gap, turned, noSector, segmentOf}
 
 -- ---- the shade extents of a list of objects
@@ -118,7 +119,8 @@ unfolding overhangShade sunlitHeight sunlitWidth sunlitPart nearFactor leastOf e
 reductionFactor surface sun distants window =
     let hkOverhang = overhangShade surface sun distants window in
     let wkSun = sunlitWidth surface sun window in
-    leastOf (sunlitPart surface (sunlitHeight surface sun distants hkOverhang) wkSun) (extents (ofKind Obstacle) (nearFactor surface sun hkOverhang wkSun) window)
+    leastOf (sunlitPart surface (sunlitHeight surface sun distants hkOverhang) wkSun)
+    (extents (ofKind Obstacle) (nearFactor surface sun hkOverhang wkSun) window)
 
 -- ---- the factor, or a refusal
 

@@ -4,7 +4,7 @@ ghost use Rattle.doubles.specs.Arithmetic.{whole};
 ghost use Rattle.doubles.specs.Functions.{largestOf};
 ghost use Rattle.objects.specs.Objects.{counted};
 ghost use Rattle.shading.specs.Factor.{obstacleExtents, overhangExtents};
-ghost use Rattle.shading.specs.Steps.{distantStep};
+ghost use Rattle.shading.specs.ObjectSteps.{distantStep};
 use crate::sun_on_surface::SunOnSurface;
 use objects::sectors::ShadingObject;
 use objects::sectors::ShadingObjectType;

@@ -4,7 +4,7 @@ ghost use Rattle.doubles.specs.Arithmetic.{whole};
 ghost use Rattle.doubles.specs.Functions.{largestOf};
 ghost use Rattle.objects.specs.Objects.{placed};
 ghost use Rattle.shading.specs.Factor.{windowOverhangExtents, rightFinExtents, leftFinExtents, hasReveal};
-ghost use Rattle.shading.specs.Steps.{withOverhang, withRightFin, withLeftFin, windowStep};
+ghost use Rattle.shading.specs.ObjectSteps.{withOverhang, withRightFin, withLeftFin, windowStep};
 use crate::sun_on_surface::SunOnSurface;
 use objects::window::WindowShading;
 use objects::window::WindowShadingObject;

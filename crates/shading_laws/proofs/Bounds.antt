@@ -21,8 +21,8 @@ use Rattle.objects.specs.declared.window.WindowShadingType.the-variants.{Obstac
 use Rattle.objects.specs.Objects.{ofKind}
 use Rattle.shading.specs.declared.sun_on_surface.SunOnSurface.{SunOnSurface}
 use Rattle.shading.specs.Factor.{extents, obstacleExtents, overhangExtents, windowOverhangExtents, rightFinExtents, leftFinExtents, overhangShade, sunlitBetween, sunlitHeight, sunlitWidth, sunlitPart, nearFactor, reductionFactor, nearObstacleHeight}
-use Rattle.shading_laws.specs.Comparison.{AcceptedSurface, NoNanExtent, AcceptedNear}
-use Rattle.shading_laws.proofs.Steps.{Side, cut-between, remains-between, part, part-nonneg, part-le-one, nearHeight, near-between, side-number, high}
+use Rattle.shading_laws.specs.Premises.{AcceptedSurface, NoNanExtent, AcceptedNear}
+use Rattle.shading_laws.proofs.Sides.{Side, cut-between, remains-between, part, part-nonneg, part-le-one, nearHeight, near-between, side-number, high}
 use Rattle.shading_laws.proofs.Members.{Extent, extents-from, least-is}
 
 pub height-side : {surface : Surface} → AcceptedSurface surface → Side (surface .height)

@@ -15,7 +15,7 @@ use Rattle.objects.specs.Objects.{ofKind}
 use Rattle.shading.specs.declared.sun_on_surface.SunOnSurface.{SunOnSurface}
 use Rattle.shading.specs.Factor.{overhangShade, sunlitHeight, sunlitWidth, sunlitPart, nearFactor, leastOf, reductionFactor}
 use Rattle.shading_laws.proofs.Members.{Extent, extents-from}
-use Rattle.shading_laws.proofs.Steps.{part, nearHeight}
+use Rattle.shading_laws.proofs.Sides.{part, nearHeight}
 use Rattle.shading_laws.proofs.Bounds.{base, near, nears, nearShade, near-factor-is}
 
 least-fits : (first : Float) (xs : List Float) → Fits first → ((x : Float) → List·Memᴰ x xs → Fits x) → Fits (leastOf first xs)

@@ -1,6 +1,6 @@
 -- `Answers` has the laws of the answer, `Bounds`, `NoObjects`, `MoreObjects` and `SameObjects` those of its parts; what
--- they assume stands in `Comparison` of specs/.
-pub mod Steps
+-- they assume stands in `Premises` of specs/.
+pub mod Sides
 pub mod Members
 pub mod Bounds
 pub mod Doubles

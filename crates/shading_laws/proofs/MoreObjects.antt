@@ -19,8 +19,8 @@ use Rattle.objects.specs.declared.window.WindowShadingType.the-variants.{Obstac
 use Rattle.objects.specs.Objects.{ofKind, isObstacle, isOverhang}
 use Rattle.shading.specs.declared.sun_on_surface.SunOnSurface.{SunOnSurface}
 use Rattle.shading.specs.Factor.{obstacleExtents, overhangExtents, windowOverhangExtents, rightFinExtents, leftFinExtents, overhangShade, sunlitBetween, sunlitHeight, sunlitWidth, sunlitPart, reductionFactor}
-use Rattle.shading_laws.specs.Comparison.{AcceptedSurface, NoNanExtent, AcceptedNear, Holds}
-use Rattle.shading_laws.proofs.Steps.{side-number, remains-falls, part, part-mono, near-falls, high}
+use Rattle.shading_laws.specs.Premises.{AcceptedSurface, NoNanExtent, AcceptedNear, Holds}
+use Rattle.shading_laws.proofs.Sides.{side-number, remains-falls, part, part-mono, near-falls, high}
 use Rattle.shading_laws.proofs.Members.{Extent, extents-from, extents-into, extents-within}
 use Rattle.shading_laws.proofs.Bounds.{height-side, width-side, base, near, nears, near-shade-between, near-factor-is, overhang-numbers, overhang-between, obstacle-between, right-between, left-between, height-between, width-between, near-height-between, nears-numbers, factor-is}
 

@@ -12,8 +12,8 @@ use Rattle.doubles.proofs.Bounds.{positive-nonzero}
 use Rattle.objects.specs.declared.surface.Surface.{Surface}
 use Rattle.shading.specs.declared.sun_on_surface.SunOnSurface.{SunOnSurface}
 use Rattle.shading.specs.Factor.{extents, obstacleExtents, overhangExtents, windowOverhangExtents, rightFinExtents, leftFinExtents, overhangShade, sunlitBetween, sunlitHeight, sunlitWidth, sunlitPart, leastOf, reductionFactor}
-use Rattle.shading_laws.specs.Comparison.{AcceptedSurface}
-use Rattle.shading_laws.proofs.Steps.{Side, side-positive, side-nonneg, part, area-positive, area-finite}
+use Rattle.shading_laws.specs.Premises.{AcceptedSurface}
+use Rattle.shading_laws.proofs.Sides.{Side, side-positive, side-nonneg, part, area-positive, area-finite}
 use Rattle.shading_laws.proofs.Bounds.{height-side, width-side}
 
 not-negative : {side : Float} → Side side → lt side (whole 0) ≡ false

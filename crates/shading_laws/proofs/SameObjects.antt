@@ -17,8 +17,8 @@ use Rattle.objects.specs.declared.window.WindowShadingType.the-variants.{Obstac
 use Rattle.objects.specs.Objects.{ofKind}
 use Rattle.shading.specs.declared.sun_on_surface.SunOnSurface.{SunOnSurface}
 use Rattle.shading.specs.Factor.{obstacleExtents, rightFinExtents, leftFinExtents, overhangShade, sunlitBetween, sunlitHeight, sunlitWidth, sunlitPart, reductionFactor}
-use Rattle.shading_laws.specs.Comparison.{AcceptedSurface, NoNanExtent, AcceptedNear, Holds}
-use Rattle.shading_laws.proofs.Steps.{Side, side-positive, side-finite, area-positive, part, nearHeight, near-shape, covered-between, through-between}
+use Rattle.shading_laws.specs.Premises.{AcceptedSurface, NoNanExtent, AcceptedNear, Holds}
+use Rattle.shading_laws.proofs.Sides.{Side, side-positive, side-finite, area-positive, part, nearHeight, near-shape, covered-between, through-between}
 use Rattle.shading_laws.proofs.Members.{Extent, extents-from}
 use Rattle.shading_laws.proofs.Bounds.{height-side, width-side, base, near, nears, near-shade-between, near-factor-is, overhang-between, factor-is}
 use Rattle.shading_laws.proofs.Doubles.{factor-fits}

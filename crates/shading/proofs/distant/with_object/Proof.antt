@@ -1,4 +1,4 @@
-use Rattle.shading.specs.Steps.{distantStep}
+use Rattle.shading.specs.ObjectSteps.{distantStep}
 use borrow.Author.Needs.{needs}
 use Rattle.shading.proofs.distant.with_object.Statement.{statement}
 use Rattle.shading.proofs.distant.with_object.Tie as tie

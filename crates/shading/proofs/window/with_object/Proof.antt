@@ -1,4 +1,4 @@
-use Rattle.shading.specs.Steps.{withOverhang, withRightFin, withLeftFin, windowStep}
+use Rattle.shading.specs.ObjectSteps.{withOverhang, withRightFin, withLeftFin, windowStep}
 use borrow.Author.Needs.{needs}
 use Rattle.shading.proofs.window.with_object.Statement.{statement}
 use Rattle.shading.proofs.window.with_object.Tie as tie

@@ -11,7 +11,7 @@ use Rattle.objects.specs.declared.surface.Surface.{Surface}
 use Rattle.objects.specs.declared.sectors.ShadingObject.{ShadingObject}
 use Rattle.objects.specs.declared.sectors.ShadingSegment.{ShadingSegment}
 use Rattle.objects.specs.declared.window.WindowShadingObject.{WindowShadingObject}
-use Rattle.extents.specs.Extents.{outsideSolarBeam}
+use Rattle.beam.specs.Beam.{outsideSolarBeam}
 use Rattle.segments.specs.Segments.{found, segmentOf}
 use Rattle.segments.specs.SameSectors.{SameBounds}
 use Rattle.objects.specs.declared.window.WindowShadingType.the-variants.{Obstacle}
@@ -46,7 +46,8 @@ pub record NoNanExtent (surface : Surface) (sun : SunOnSurface) (distants : List
 
 -- no shade extent at a step is NaN: those are computed inside the beam, of the sector that is found
 pub record NoNanAt (surface : Surface) (altitude azimuth : Float) (sectors : List ShadingSegment) (window : List WindowShadingObject) : Type 0 where
-  pub at-found : outsideSolarBeam (surface .tilt) (surface .orientation) altitude azimuth ≡ false → (s : ShadingSegment) → segmentOf azimuth sectors ≡ found s
+  pub at-found : outsideSolarBeam (surface .tilt) (surface .orientation) altitude azimuth ≡ false
+      → (s : ShadingSegment) → segmentOf azimuth sectors ≡ found s
       → NoNanExtent surface (sunOn surface altitude azimuth) (counted s) window
 
 -- every near obstacle's transparency is from 0 to 1; −0.0 is in

@@ -15,7 +15,10 @@ use Rattle.objects.specs.Objects.{isObstacle, isOverhang, ofKind}
 unfoldable pub distantStep : Surface → SunOnSurface → DistantShades → ShadingObject → DistantShades
 unfolding isObstacle isOverhang
 distantStep surface sun shades o = record {
-  obstacle = cond (isObstacle o) (maxOf2 (shades .obstacle) (obstacleHeight (surface .«base_height») (o .height) (o .distance) (sun .«tan_altitude»))) (shades .obstacle);
+  obstacle =
+      cond (isObstacle o)
+      (maxOf2 (shades .obstacle) (obstacleHeight (surface .«base_height») (o .height) (o .distance) (sun .«tan_altitude»)))
+      (shades .obstacle);
   overhang =
       cond (isOverhang o)
       (maxOf2 (shades .overhang) (overhangHeight (surface .height) (surface .«base_height») (o .height) (o .distance) (sun .«tan_altitude»)))
@@ -24,19 +27,31 @@ distantStep surface sun shades o = record {
 
 -- one of the window's extents moved past another, the rest as it was
 unfoldable pub withOverhang : WindowShades → Float → WindowShades
-withOverhang shades height = record { overhang = maxOf2 (shades .overhang) height; right = shades .right; left = shades .left; reveal = shades .reveal }
+withOverhang shades height =
+    record { overhang = maxOf2 (shades .overhang) height; right = shades .right; left = shades .left; reveal = shades .reveal }
 
 unfoldable pub withRightFin : WindowShades → Float → WindowShades
-withRightFin shades width = record { overhang = shades .overhang; right = maxOf2 (shades .right) width; left = shades .left; reveal = shades .reveal }
+withRightFin shades width =
+    record { overhang = shades .overhang; right = maxOf2 (shades .right) width; left = shades .left; reveal = shades .reveal }
 
 unfoldable pub withLeftFin : WindowShades → Float → WindowShades
-withLeftFin shades width = record { overhang = shades .overhang; right = shades .right; left = maxOf2 (shades .left) width; reveal = shades .reveal }
+withLeftFin shades width =
+    record { overhang = shades .overhang; right = shades .right; left = maxOf2 (shades .left) width; reveal = shades .reveal }
 
 unfoldable pub windowStep : SunOnSurface → WindowShades → WindowShadingObject → WindowShades
 unfolding ofKind
 windowStep sun shades o = record {
-  overhang = cond (ofKind Overhang o) (maxOf2 (shades .overhang) (windowOverhangHeight (o .size) (o .distance) (sun .«tan_altitude») (sun .«cos_difference»))) (shades .overhang);
-  right = cond (ofKind SideFinRight o) (maxOf2 (shades .right) (rightFinWidth (o .size) (o .distance) (sun .difference) (sun .«tan_difference»))) (shades .right);
-  left = cond (ofKind SideFinLeft o) (maxOf2 (shades .left) (leftFinWidth (o .size) (o .distance) (sun .difference) (sun .«tan_difference»))) (shades .left);
+  overhang =
+      cond (ofKind Overhang o)
+      (maxOf2 (shades .overhang) (windowOverhangHeight (o .size) (o .distance) (sun .«tan_altitude») (sun .«cos_difference»)))
+      (shades .overhang);
+  right =
+      cond (ofKind SideFinRight o)
+      (maxOf2 (shades .right) (rightFinWidth (o .size) (o .distance) (sun .difference) (sun .«tan_difference»)))
+      (shades .right);
+  left =
+      cond (ofKind SideFinLeft o)
+      (maxOf2 (shades .left) (leftFinWidth (o .size) (o .distance) (sun .difference) (sun .«tan_difference»)))
+      (shades .left);
   reveal = cond (ofKind Reveal o) true (shades .reveal);
 }
