@@ -1,22 +1,10 @@
--- The beam test and the shade extents of ISO 52016-1 Annex F, in the Rust's order of operations: the height or width that one object
+-- The shade extents of ISO 52016-1 Annex F, in the Rust's order of operations: the height or width that one object
 -- shades. Angles are in degrees, lengths in metres. `tanAltitude` is the tangent of the sun's altitude, and `difference` the
 -- sun's azimuth less the surface's orientation from south, not wrapped.
-use mathlib.Core.Bool.{Bool, cond, not, _&&_, _||_}
-use lib.Ieee.{Float, neg, lt, le}
+use mathlib.Core.Bool.{Bool, cond}
+use lib.Ieee.{Float, lt}
 use Rattle.doubles.specs.Arithmetic.{_⊕_, _⊖_, _⊗_, _⊘_, whole}
 use Rattle.doubles.specs.Functions.{floatMax}
-use Rattle.orientation.specs.Orientation.{orientation180, wrappedOnce}
-
--- from −90 to 90; NaN is not
-unfoldable pub withinRight : Float → Bool
-unfolding whole neg
-withinRight x = le (neg (whole 90)) x && le x (whole 90)
-
--- the sun is behind the surface, beside it or NaN
-unfoldable pub outsideSolarBeam : Float → Float → Float → Float → Bool
-unfolding withinRight
-outsideSolarBeam tilt orientation altitude azimuth =
-    not (withinRight (wrappedOnce (orientation180 orientation ⊖ azimuth))) || not (withinRight (tilt ⊖ altitude))
 
 -- the height that an obstacle shades, distant or near
 unfoldable pub obstacleHeight : Float → Float → Float → Float → Float

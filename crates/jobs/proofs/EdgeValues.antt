@@ -23,7 +23,7 @@ use Rattle.objects.specs.declared.window.WindowShadingType.the-variants as near
 use Rattle.objects.specs.declared.answers.FactorAnswer.{FactorAnswer}
 use Rattle.objects.specs.declared.answers.FactorAnswer.the-variants.{Factor, Refused}
 use Rattle.objects.specs.Objects.{counted}
-use Rattle.extents.specs.Extents.{outsideSolarBeam}
+use Rattle.beam.specs.Beam.{outsideSolarBeam}
 use Rattle.segments.specs.Segments.{segmentOf}
 use Rattle.shading.specs.Factor.{sunOn, reductionFactor, hasReveal, factorIn, shadingFactor}
 

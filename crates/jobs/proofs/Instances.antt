@@ -35,11 +35,13 @@ use Rattle.objects.specs.declared.answers.FactorAnswer.the-variants as factor
 use Rattle.words.specs.Lists.{firstFine}
 use Rattle.object_checks.specs.Checks.{surfaceFine, recordsFine, windowValuesFine, windowRecordFine, windowFine, objectValuesFine, objectFine, objectUnused, tripleFine, boundsFine, sectorRecordFine, sectorsFine}
 use Rattle.objects.specs.Records.{recordsFrom, distantKind, objectAt, objectsFrom, segmentAt, sectorsOf, windowObjectsOf}
-use Rattle.extents.specs.Extents.{withinRight, outsideSolarBeam, obstacleHeight}
+use Rattle.beam.specs.Beam.{within90, outsideSolarBeam}
+use Rattle.extents.specs.Extents.{obstacleHeight}
 use Rattle.segments.specs.Segments.{found, betweenEnds, holdsAzimuth, visit, walkFrom, segmentOf}
 use Rattle.objects.specs.Objects.{isObstacle, isOverhang, counted}
-use Rattle.shading.specs.Factor.{Sun, extents, sunOn, obstacleExtents, overhangExtents, windowOverhangExtents, rightFinExtents, leftFinExtents, overhangShade, sunlitBetween, sunlitHeight, sunlitWidth, sunlitPart, leastOf, reductionFactor, hasReveal, factorIn, shadingFactor}
-use Rattle.shading_laws.specs.Comparison.{AllNumbers, NoNanExtent, Holds}
+use Rattle.shading.specs.declared.sun_on_surface.SunOnSurface.{SunOnSurface}
+use Rattle.shading.specs.Factor.{extents, sunOn, obstacleExtents, overhangExtents, windowOverhangExtents, rightFinExtents, leftFinExtents, overhangShade, sunlitBetween, sunlitHeight, sunlitWidth, sunlitPart, leastOf, reductionFactor, hasReveal, factorIn, shadingFactor}
+use Rattle.shading_laws.specs.Premises.{AllNumbers, NoNanExtent, Holds}
 use Rattle.jobs.specs.declared.answers.Checked.the-variants as check
 use Rattle.jobs.specs.Series.{inSeries, readSeries}
 use Rattle.jobs.specs.Job.{Job, indexAt, readingAt}
@@ -114,7 +116,7 @@ unfolding lists doubles sine cosine tangent isAngle quarterTurns quadrant remain
 sun = 0
 
 shade : ℕ
-unfolding sun withinRight wrappedOnce outsideSolarBeam obstacleHeight betweenEnds holdsAzimuth visit walkFrom segmentOf extents isObstacle isOverhang sunOn obstacleExtents overhangExtents
+unfolding sun within90 wrappedOnce outsideSolarBeam obstacleHeight betweenEnds holdsAzimuth visit walkFrom segmentOf extents isObstacle isOverhang sunOn obstacleExtents overhangExtents
     windowOverhangExtents rightFinExtents leftFinExtents overhangShade sunlitBetween sunlitHeight sunlitWidth sunlitPart leastOf reductionFactor hasReveal counted factorIn
     shadingFactor shadingAt
 shade = 0
@@ -170,10 +172,10 @@ all-numbers (y ∷ xs) t x m =
     ]
 
 -- with nothing at the window
-fine-extents : Surface → Sun → List ShadingObject → Bool
+fine-extents : Surface → SunOnSurface → List ShadingObject → Bool
 fine-extents surface sun distants = numbers (obstacleExtents surface sun distants) && numbers (overhangExtents surface sun distants)
 
-no-nan-extent : (surface : Surface) (sun : Sun) (distants : List ShadingObject) → T (fine-extents surface sun distants) → NoNanExtent surface sun distants []
+no-nan-extent : (surface : Surface) (sun : SunOnSurface) (distants : List ShadingObject) → T (fine-extents surface sun distants) → NoNanExtent surface sun distants []
 unfolding fine-extents windowOverhangExtents rightFinExtents leftFinExtents extents
 no-nan-extent surface sun distants t = record {
   obstacles = all-numbers (obstacleExtents surface sun distants) (and-l (numbers (obstacleExtents surface sun distants)) (numbers (overhangExtents surface sun distants)) t);
@@ -185,7 +187,7 @@ no-nan-extent surface sun distants t = record {
 }
 
 -- the sun on the surface at the one step
-sunThen : Job → Sun
+sunThen : Job → SunOnSurface
 sunThen job = let hour = sunAt (job .site) (job .run .start) in sunOn (job .surface) (hour .altitude) (hour .azimuth)
 
 -- one step, one sector, and nothing at the window
@@ -225,11 +227,11 @@ unfolding jobWith
 alike = record { sites = refl; runs = refl; surfaces = refl; diffuses = same-series hundred; directs = same-series hundred; reflectivities = same-series quarter }
 
 bounded : BoundedAlike bare built
-unfolding lists
+unfolding lists le
 bounded = record {
   lengths = refl;
-  starts = λ i h. let z : i ≡ 0 = omega arith in rw z;
-  ends = λ i h. let z : i ≡ 0 = omega arith in rw z;
+  starts = λ i h. let z : i ≡ 0 = omega arith in rw z (record { below = record { holds = tt }; above = record { holds = tt } });
+  ends = λ i h. let z : i ≡ 0 = omega arith in rw z (record { below = record { holds = tt }; above = record { holds = tt } });
 }
 
 holds-none : {Object : Type 0} (ys : List Object) → Holds ys []
@@ -259,5 +261,5 @@ comparable = record {
 }
 
 -- so the claim speaks of them, and says that the obstacle makes no step's factor larger
-factors : (i : ℕ) → i < countOf (runOf (jobWith bare) (zeros 6)) → factorAt (runOf (jobWith built) (zeros 6)) i ≼ factorAt (runOf (jobWith bare) (zeros 6)) i
-factors = two-jobs-compared (jobWith bare) (jobWith built) (zeros 6) (zeros 6) comparable .more-factors more
+factors : (i : ℕ) → i < countOf (runOf (jobWith built) (zeros 6)) → factorAt (runOf (jobWith built) (zeros 6)) i ≼ factorAt (runOf (jobWith bare) (zeros 6)) i
+factors = two-jobs-compared (jobWith bare) (jobWith built) (zeros 6) (zeros 6) comparable .second-more more .factors

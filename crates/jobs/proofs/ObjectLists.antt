@@ -21,7 +21,7 @@ use Rattle.object_checks.specs.Checks.{tripleFine, boundsFine, sectorRecordFine
 use Rattle.objects.specs.Objects.{counted}
 use Rattle.objects.specs.Records.{recordsFrom, distantKind, objectAt, objectsFrom, segmentAt, sectorsOf, windowKind, windowObjectAt, windowObjectsOf}
 use Rattle.segments.specs.SameSectors.{SameBounds, PlaceByPlace, none, and-then}
-use Rattle.shading_laws.specs.Comparison.{Holds, MoreInSector, SameInSector}
+use Rattle.shading_laws.specs.Premises.{Holds, MoreInSector, SameInSector}
 use Rattle.object_checks.proofs.Accepted.{length-records, member-records}
 use Rattle.object_checks.proofs.AcceptedSectors.{counted-objects, sector-record}
 use Rattle.jobs.specs.Comparison.{sectorCount, BoundedAlike, triple, sectorObjects, windowObject, windowObjects}

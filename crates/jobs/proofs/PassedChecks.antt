@@ -22,7 +22,7 @@ use Rattle.objects.specs.declared.answers.Refusal.{Refusal}
 use Rattle.objects.specs.declared.answers.Refusal.the-variants as refusal
 use Rattle.object_checks.specs.Checks.{surfaceFine, sectorsFine, windowFine}
 use Rattle.objects.specs.Records.{windowObjectsOf}
-use Rattle.shading_laws.specs.Comparison.{AcceptedSurface, AcceptedNear}
+use Rattle.shading_laws.specs.Premises.{AcceptedSurface, AcceptedNear}
 use Rattle.object_checks.proofs.Accepted.{within-range, base-range, height-range, width-range}
 use Rattle.object_checks.proofs.AcceptedWindow.{window-in-range}
 use Rattle.jobs.specs.declared.answers.Checked.{Checked}

@@ -19,20 +19,20 @@ use Rattle.objects.specs.declared.answers.FactorAnswer.the-variants.{Factor}
 use Rattle.objects.specs.Objects.{counted}
 use Rattle.shading.specs.Factor.{shadingFactor}
 use Rattle.objects.specs.Records.{sectorsOf, windowObjectsOf}
-use Rattle.shading_laws.specs.Comparison.{NoNanAt}
+use Rattle.shading_laws.specs.Premises.{NoNanAt}
 use Rattle.shading_laws.proofs.Answers.{answer-nonneg, answer-le-one, answer-no-objects, answers-more-objects, answers-same-objects}
 use Rattle.jobs.specs.Series.{readSeries}
 use Rattle.jobs.specs.Job.{Job, indexAt, readingAt}
 use Rattle.jobs.specs.Step.{sunAt, irradianceAt, shadingAt}
 use Rattle.jobs.specs.Run.{Ran, withRow, countFor, sumFor}
-use Rattle.jobs.specs.Comparison.{factorAt, directAt, countOf, sumOf, unshadedSum, Alike, BoundedAlike, HoldsAll, SameObjects, NoObjects, NoNan, Doubles, FiniteDirect, Lawful, Compared, TwoJobsCompared}
+use Rattle.jobs.specs.Comparison.{factorAt, directAt, countOf, sumOf, unshadedSum, SameSeries, Alike, BoundedAlike, HoldsAll, SameObjects, NoObjects, NoNan, Doubles, FiniteDirect, Lawful, NoLarger, Compared, TwoJobsCompared}
 use Rattle.jobs.proofs.StepRows.{StepRow, step-row, row-fits, row-direct-nonneg}
 use Rattle.jobs.proofs.PassedChecks.{diffuse-nonneg, surface-accepted, near-accepted}
 use Rattle.jobs.proofs.RunLaws.{rowAt, sumTo, done, AcceptedRun, accepted-run, done-rows}
 use Rattle.doubles.proofs.Exact.{one-times}
 use Rattle.jobs.proofs.Sums.{total, total-same, total-nonneg, total-mono, Part, Amount, part-nonneg, part-mono, part-le}
 use Rattle.jobs.proofs.ObjectLists.{more-in-sectors, same-in-sectors, window-holds, no-window, none-counted}
-use Rattle.segments.proofs.SameWalks.{found-has}
+use Rattle.segments.proofs.SameWalks.{level-back, found-has}
 
 -- ---- what an accepted run leaves
 
@@ -204,30 +204,62 @@ module _ {j k : Job} {r s : List ℕ} (l : Alike j k) (a : AcceptedRun j r) (b :
     second-doubles : Doubles (k .surface)
     second-doubles = subst Doubles (l .surfaces) d
 
-    shaded-more : HoldsAll k j → FiniteDirect (done j r) → (i : ℕ) → i < stepCount (j .run) → shaded k i ≼ shaded j i
-    unfolding shaded
-    shaded-more o f i h =
-        rw (← directs-alike i h)
-        (part-mono (part a d n i h) (part b second-doubles m i (rw (← counts-alike) h)) (amount a d n f i h) (factors-more o i h))
+    module _ (o : HoldsAll k j) where
+      -- at a step of the second
+      of-first : {i : ℕ} → i < stepCount (k .run) → i < stepCount (j .run)
+      of-first h = rw counts-alike h
 
-    shaded-low : HoldsAll k j → FiniteDirect (done j r) → (i : ℕ) → i < stepCount (j .run) → whole 0 ≼ shaded k i
-    unfolding shaded
-    shaded-low o f i h = rw (← directs-alike i h) (part-nonneg (part b second-doubles m i (rw (← counts-alike) h)) (amount a d n f i h))
+      shaded-more : FiniteDirect (done k s) → (i : ℕ) → i < stepCount (k .run) → shaded k i ≼ shaded j i
+      unfolding shaded
+      shaded-more f i h =
+          rw (directs-alike i (of-first h)) (part-mono (part a d n i (of-first h)) (part b second-doubles m i h) (amount b second-doubles m f i h) (factors-more o i (of-first h)))
 
-    compared : Compared j k (done j r) (done k s)
-    unfolding countOf countFor done
-    compared =
-        let count : ℕ = stepCount (j .run) in
-        record {
-          first = lawful a d n;
-          second = lawful b second-doubles m;
-          counts = counts-alike;
-          directs = λ i h. direct-is a i h ∙ directs-alike i h ∙ sym (direct-is b i (rw (← counts-alike) h));
-          same-factors = λ o i h. factor-is a i h ∙ factors-same o i h ∙ sym (factor-is b i (rw (← counts-alike) h));
-          same-sums = λ o. sum-done a ∙ total-same (shaded j) (shaded k) count (shaded-same o) ∙ ap (total (shaded k)) counts-alike ∙ sym (sum-done b);
-          more-factors = λ o i h. rw (factor-is a i h, factor-is b i (rw (← counts-alike) h)) (factors-more o i h);
-          more-sums = λ o f. rw (sum-done a, sum-done b, ← counts-alike) (total-mono (shaded k) (shaded j) count (shaded-low o f) (shaded-more o f));
-        }
+      -- more objects: nowhere larger
+      no-larger : NoLarger (done k s) (done j r)
+      unfolding countOf countFor done
+      no-larger = record {
+        factors = λ i h. rw (factor-is b i h, factor-is a i (of-first h)) (factors-more o i (of-first h));
+        sums = λ f. rw (sum-done a, sum-done b, counts-alike) (total-mono (shaded k) (shaded j) (stepCount (k .run)) (shaded-nonneg b second-doubles m f) (shaded-more f));
+      }
+
+-- alike and bounded alike, the other way round
+series-back : {l m : List ℕ} → SameSeries l m → SameSeries m l
+series-back e = record { lengths = sym (e .lengths); values = λ i. sym (e .values i) }
+
+alike-back : {j k : Job} → Alike j k → Alike k j
+alike-back l = record {
+  sites = sym (l .sites);
+  runs = sym (l .runs);
+  surfaces = sym (l .surfaces);
+  diffuses = series-back (l .diffuses);
+  directs = series-back (l .directs);
+  reflectivities = series-back (l .reflectivities);
+}
+
+bounded-back : {l m : List ℕ} → BoundedAlike l m → BoundedAlike m l
+bounded-back b = record {
+  lengths = sym (b .lengths);
+  starts = λ i h. level-back (b .starts i (rw (b .lengths) h));
+  ends = λ i h. level-back (b .ends i (rw (b .lengths) h));
+}
+
+module _ {j k : Job} {r s : List ℕ} (l : Alike j k) (a : AcceptedRun j r) (b : AcceptedRun k s) (d : Doubles (j .surface)) (n : NoNan j) (m : NoNan k)
+    (c : BoundedAlike (j .sectors) (k .sectors)) where
+  compared : Compared j k (done j r) (done k s)
+  unfolding countOf countFor done
+  compared =
+      let count : ℕ = stepCount (j .run) in
+      let same : stepCount (j .run) ≡ stepCount (k .run) = counts-alike l a b in
+      record {
+        first = lawful a d n;
+        second = lawful b (second-doubles l a b d n m c) m;
+        counts = same;
+        directs = λ i h. direct-is a i h ∙ directs-alike l a b i h ∙ sym (direct-is b i (rw (← same) h));
+        same-factors = λ o i h. factor-is a i h ∙ factors-same l a b d n m c o i h ∙ sym (factor-is b i (rw (← same) h));
+        same-sums = λ o. sum-done a ∙ total-same (shaded j) (shaded k) count (shaded-same l a b d n m c o) ∙ ap (total (shaded k)) same ∙ sym (sum-done b);
+        second-more = no-larger l a b d n m c;
+        first-more = no-larger (alike-back l) b a (second-doubles l a b d n m c) m n (bounded-back c);
+      }
 
 -- ---- the claim
 

@@ -5,12 +5,12 @@ use mathlib.Core.List.{List, [], _∷_}
 use Prim.Native.Nat.{ℕ, zero, suc, _+_, _*_, _/_, _<_}
 use lib.Ieee.{Float}
 use Rattle.doubles.specs.Arithmetic.{_⊕_, whole}
-use Rattle.doubles.specs.Order.{_≼_, Finite, Fits}
+use Rattle.doubles.specs.Order.{_≼_, _≈_, Finite, Fits}
 use Rattle.words.specs.Words.{wordCount, wordAt, doubleAt}
 use Rattle.simulation_time.specs.Steps.{stepCount, timeAt}
 use Rattle.objects.specs.declared.surface.Surface.{Surface}
 use Rattle.objects.specs.Records.{recordsFrom, sectorsOf, windowObjectsOf}
-use Rattle.shading_laws.specs.Comparison.{Holds, NoNanAt}
+use Rattle.shading_laws.specs.Premises.{Holds, NoNanAt}
 use Rattle.jobs.specs.Job.{Job}
 use Rattle.jobs.specs.Step.{sunAt}
 use Rattle.jobs.specs.Run.{Ran, runOf, numberFor, countFor, sumFor}
@@ -56,14 +56,14 @@ pub record Alike (j k : Job) : Type 0 where
   pub directs : SameSeries (j .direct) (k .direct)
   pub reflectivities : SameSeries (j .reflectivity) (k .reflectivity)
 
--- sectors bounded alike: the lists are equally long, and sectors at the same place have the same start and end
+-- sectors bounded alike: the lists are equally long, and sectors at the same place start and end alike, as numbers: 0.0 and −0.0 do
 unfoldable pub sectorCount : List ℕ → ℕ
 sectorCount l = wordCount l / 27
 
 pub record BoundedAlike (l m : List ℕ) : Type 0 where
   pub lengths : sectorCount l ≡ sectorCount m
-  pub starts : (i : ℕ) → i < sectorCount l → doubleAt l (27 * i) ≡ doubleAt m (27 * i)
-  pub ends : (i : ℕ) → i < sectorCount l → doubleAt l (27 * i + 1) ≡ doubleAt m (27 * i + 1)
+  pub starts : (i : ℕ) → i < sectorCount l → doubleAt l (27 * i) ≈ doubleAt m (27 * i)
+  pub ends : (i : ℕ) → i < sectorCount l → doubleAt l (27 * i + 1) ≈ doubleAt m (27 * i + 1)
 
 -- An object is a counted triple of a sector, or a window object. Two are the same where all their words are: so it is its words.
 unfoldable pub triple : List ℕ → ℕ → List ℕ
@@ -99,7 +99,8 @@ pub record NoNan (job : Job) : Type 0 where
       → let sun = sunAt (job .site) (timeAt (job .run) i) in
       NoNanAt (job .surface) (sun .altitude) (sun .azimuth) (sectorsOf (job .sectors)) (windowObjectsOf (job .window))
 
--- The surface's lengths are doubles, as every number is that a call passes: the type `Float` has other values too, which no double is.
+-- The surface's lengths are doubles. `pilgartze_run` ensures this of every surface that it is passed, so nobody has to see to it: it
+-- stands here because the type `Float` has other values too, which no double is.
 pub record Doubles (surface : Surface) : Type 0 where
   pub base-fits : Fits (surface .«base_height»)
   pub height-fits : Fits (surface .height)
@@ -122,8 +123,13 @@ pub record Lawful (job : Job) (left : Ran) : Type 0 where
   pub sum-to : FiniteDirect left → sumOf left ≼ unshadedSum left (countOf left)
   pub sum-unshaded : NoObjects job → sumOf left ≡ unshadedSum left (countOf left)
 
+-- one run nowhere larger than another: no factor is, nor, where every direct value is finite, the sum
+pub record NoLarger (a b : Ran) : Type 0 where
+  pub factors : (i : ℕ) → i < countOf a → factorAt a i ≼ factorAt b i
+  pub sums : FiniteDirect a → sumOf a ≼ sumOf b
+
 -- Of both: as many steps and the same direct values; the same objects, in any order and number, give the same factors and the same
--- sum, bit for bit; more objects never give a larger factor or sum.
+-- sum, bit for bit; more objects never give a larger factor or sum, whichever of the two has them.
 pub record Compared (j k : Job) (a b : Ran) : Type 0 where
   pub first : Lawful j a
   pub second : Lawful k b
@@ -131,8 +137,8 @@ pub record Compared (j k : Job) (a b : Ran) : Type 0 where
   pub directs : (i : ℕ) → i < countOf a → directAt a i ≡ directAt b i
   pub same-factors : SameObjects j k → (i : ℕ) → i < countOf a → factorAt a i ≡ factorAt b i
   pub same-sums : SameObjects j k → sumOf a ≡ sumOf b
-  pub more-factors : HoldsAll k j → (i : ℕ) → i < countOf a → factorAt b i ≼ factorAt a i
-  pub more-sums : HoldsAll k j → FiniteDirect a → sumOf b ≼ sumOf a
+  pub second-more : HoldsAll k j → NoLarger b a
+  pub first-more : HoldsAll j k → NoLarger a b
 
 -- two jobs that may be compared, whatever results lists were lent
 pub record Comparable (j k : Job) (r s : List ℕ) : Type 0 where

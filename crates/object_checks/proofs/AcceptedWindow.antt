@@ -16,20 +16,20 @@ use Rattle.doubles.specs.Ranges.{within, aboveZero}
 use Rattle.words.specs.Words.{wordCount, wordAt, doubleAt}
 use Rattle.objects.specs.declared.window.WindowShadingObject.{WindowShadingObject}
 use Rattle.objects.specs.declared.window.WindowShadingType.the-variants as near
-use Rattle.objects.specs.Objects.{kindIs, ofKind, obstacle}
+use Rattle.objects.specs.Objects.{kindNumber, ofKind}
 use Rattle.object_checks.specs.Checks.{windowValuesFine, windowRecordFine, windowFine}
 use Rattle.objects.specs.Records.{windowKind, windowObjectAt, windowObjectsOf, windowOf}
 use Rattle.object_checks.proofs.Accepted.{both-of, either-of, within-range, above-range, few-records, record-fine, take-records, member-records}
 
 -- a kind word that reads as an obstacle is 0
-others : (a b d : Bool) → T (kindIs obstacle (cond a near.Overhang (cond b near.SideFinRight (cond d near.SideFinLeft near.Reveal)))) → ⊥
-unfolding kindIs
+others : (a b d : Bool) → T (eqb 0 (kindNumber (cond a near.Overhang (cond b near.SideFinRight (cond d near.SideFinLeft near.Reveal))))) → ⊥
+unfolding kindNumber
 others true b d t = t
 others false true d t = t
 others false false true t = t
 others false false false t = t
 
-obstacle-word : (kind : ℕ) → T (kindIs obstacle (windowKind kind)) → kind ≡ 0
+obstacle-word : (kind : ℕ) → T (eqb 0 (kindNumber (windowKind kind))) → kind ≡ 0
 unfolding windowKind
 obstacle-word kind t =
     elim (decLt 0 kind) [
@@ -76,7 +76,7 @@ module _ (kind : ℕ) (size distance transparency : Float) (spare : ℕ) (t : T 
 pub record WindowInRange (o : WindowShadingObject) : Type 0 where
   pub size-range : (whole 0 ≺ o .size) × (o .size ≼ whole 1000)
   pub distance-range : (whole 0 ≼ o .distance) × (o .distance ≼ whole 10000)
-  pub transparency-range : T (ofKind obstacle o) → (whole 0 ≼ o .transparency) × (o .transparency ≼ whole 1)
+  pub transparency-range : T (ofKind near.Obstacle o) → (whole 0 ≼ o .transparency) × (o .transparency ≼ whole 1)
 
 place-in-range : (l : List ℕ) (i : ℕ) → T (windowRecordFine l i) → WindowInRange (windowObjectAt l i)
 unfolding windowRecordFine windowObjectAt ofKind

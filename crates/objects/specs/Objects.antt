@@ -1,6 +1,8 @@
 -- The kinds of objects, and which objects of a sector or at the window are counted.
 use mathlib.Core.Bool.{Bool, true, false}
 use mathlib.Core.List.{List}
+use Prim.Native.Nat.{ℕ}
+use lib.Dec.{eqb}
 use lib.ListN.{take}
 use Rattle.objects.specs.declared.sectors.ShadingObject.{ShadingObject}
 use Rattle.objects.specs.declared.sectors.ShadingObjectType.the-variants as distant
@@ -18,20 +20,17 @@ isObstacle o = elim (o .«object_type») [ distant.Obstacle ↦ true | distant.O
 unfoldable pub isOverhang : ShadingObject → Bool
 isOverhang o = elim (o .«object_type») [ distant.Obstacle ↦ false | distant.Overhang ↦ true ]
 
--- one of the five kinds at the window
-pub data Kind : Type 0 where
-  obstacle overhang rightFin leftFin reveal : Kind
+-- the number of a kind at the window, as in the lent words
+unfoldable pub kindNumber : WindowShadingType → ℕ
+kindNumber near.Obstacle = 0
+kindNumber near.Overhang = 1
+kindNumber near.SideFinRight = 2
+kindNumber near.SideFinLeft = 3
+kindNumber near.Reveal = 4
 
-unfoldable pub kindIs : Kind → WindowShadingType → Bool
-kindIs obstacle t = elim t [ near.Obstacle ↦ true | near.Overhang ↦ false | near.SideFinRight ↦ false | near.SideFinLeft ↦ false | near.Reveal ↦ false ]
-kindIs overhang t = elim t [ near.Obstacle ↦ false | near.Overhang ↦ true | near.SideFinRight ↦ false | near.SideFinLeft ↦ false | near.Reveal ↦ false ]
-kindIs rightFin t = elim t [ near.Obstacle ↦ false | near.Overhang ↦ false | near.SideFinRight ↦ true | near.SideFinLeft ↦ false | near.Reveal ↦ false ]
-kindIs leftFin t = elim t [ near.Obstacle ↦ false | near.Overhang ↦ false | near.SideFinRight ↦ false | near.SideFinLeft ↦ true | near.Reveal ↦ false ]
-kindIs reveal t = elim t [ near.Obstacle ↦ false | near.Overhang ↦ false | near.SideFinRight ↦ false | near.SideFinLeft ↦ false | near.Reveal ↦ true ]
-
-unfoldable pub ofKind : Kind → WindowShadingObject → Bool
-unfolding kindIs
-ofKind k o = kindIs k (o .«object_type»)
+unfoldable pub ofKind : WindowShadingType → WindowShadingObject → Bool
+unfolding kindNumber
+ofKind kind o = eqb (kindNumber kind) (kindNumber (o .«object_type»))
 
 -- the counted objects of a sector
 unfoldable pub counted : ShadingSegment → List ShadingObject

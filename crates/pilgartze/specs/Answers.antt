@@ -1,4 +1,5 @@
 -- Answers as they cross to C: the specification's numbers, 0 where accepted; on a refusal all else is 0.
+use mathlib.Core.List.{List}
 use lib.Ieee.{Float}
 use lib.IntN.{ℤ}
 use Prim.Native.Nat.{ℕ}
@@ -11,7 +12,8 @@ use Rattle.objects.specs.declared.answers.FactorAnswer.the-variants.{Factor, Re
 use Rattle.objects.specs.Refusals.{numberOf}
 use Rattle.jobs.specs.declared.answers.RunAnswer.{RunAnswer}
 use Rattle.jobs.specs.declared.answers.Reading.{Reading}
-use Rattle.jobs.specs.Run.{numberFor, stepFor, countFor, sumFor}
+use Rattle.jobs.specs.Run.{Ran, numberFor, stepFor, countFor, sumFor}
+use Rattle.single_steps.specs.Single.{Called, singleNumber}
 use Rattle.pilgartze.specs.declared.Answer.{Answer}
 use Rattle.pilgartze.specs.declared.ShadingFactor.{ShadingFactor}
 
@@ -22,6 +24,14 @@ unfoldable pub factorFor : FactorAnswer → ShadingFactor
 unfolding whole
 factorFor (Factor x) = record { number = 0; factor = x }
 factorFor (Refused r) = record { number = numberOf r; factor = whole 0 }
+
+-- ---- what a call leaves: its answer, and the results list at exit
+
+unfoldable pub runLeaves : Ran → Answer × List ℕ
+runLeaves left = (answerFor (left .answer), left .results)
+
+unfoldable pub callLeaves : Called → ℕ × List ℕ
+callLeaves left = (singleNumber (left .answer), left .results)
 
 -- ---- records of the numbers that a call passes
 
@@ -40,7 +50,8 @@ abbrev pub timesOf : Float → Float → Float → Run
 timesOf start end step = record { start = start; end = end; step = step }
 
 abbrev pub surfaceOf : Float → Float → Float → Float → Float → Surface
-surfaceOf tilt orientation base height width = record { tilt = tilt; orientation = orientation; «base_height» = base; height = height; width = width }
+surfaceOf tilt orientation base height width =
+    record { tilt = tilt; orientation = orientation; «base_height» = base; height = height; width = width }
 
 abbrev pub readingOf : Float → Float → Float → Reading
 readingOf diffuse direct reflectivity = record { diffuse = diffuse; direct = direct; reflectivity = reflectivity }

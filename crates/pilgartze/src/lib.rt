@@ -4,8 +4,9 @@ ghost use mathlib.Core.Path.{_≡_};
 ghost use Rattle.shading.specs.Call.{factorCall};
 ghost use Rattle.jobs.specs.Job.{jobOf};
 ghost use Rattle.jobs.specs.Run.{runOf};
-ghost use Rattle.single_steps.specs.Single.{singleNumber, stepCall, irradianceCall};
-ghost use Rattle.pilgartze.specs.Answers.{answerFor, factorFor, siteOf, timesOf, surfaceOf, readingOf};
+ghost use Rattle.jobs.specs.Comparison.{Doubles};
+ghost use Rattle.single_steps.specs.Single.{stepCall, irradianceCall};
+ghost use Rattle.pilgartze.specs.Answers.{answerFor, factorFor, runLeaves, callLeaves, siteOf, timesOf, surfaceOf, readingOf};
 ghost use Rattle.pilgartze.specs.Version.{version};
 use jobs::answers::Reading;
 use jobs::answers::RunAnswer;
@@ -65,6 +66,40 @@ fn factor_for(answer: FactorAnswer) -> ShadingFactor
     }
 }
 
+fn site_of(
+    latitude: f64,
+    longitude: f64,
+    timezone: i64,
+    start_day: u64,
+    series_step: f64,
+    leap_year: u64,
+    direct_beam_conversion: u64,
+) -> Site
+    ensures { λ r. ⌜ r ≡ siteOf latitude longitude timezone «start_day» «series_step» «leap_year» «direct_beam_conversion» ⌝ }
+{
+    Site {
+        latitude: latitude,
+        longitude: longitude,
+        timezone: timezone,
+        start_day: start_day,
+        time_series_step: series_step,
+        leap_year: leap_year,
+        direct_beam_conversion: direct_beam_conversion,
+    }
+}
+
+fn surface_of(tilt: f64, orientation: f64, base_height: f64, height: f64, width: f64) -> Surface
+    ensures { λ r. ⌜ r ≡ surfaceOf tilt orientation «base_height» height width ⌝ }
+{
+    Surface {
+        tilt: tilt,
+        orientation: orientation,
+        base_height: base_height,
+        height: height,
+        width: width,
+    }
+}
+
 // The version of the library that is linked: 1.0.0, as the header's PILGARTZE_VERSION.
 #[no_mangle]
 pub extern "C" fn pilgartze_version() -> u64
@@ -73,7 +108,8 @@ pub extern "C" fn pilgartze_version() -> u64
     1000000
 }
 
-// A run: a row of six doubles for each step, and the sum of factor times direct.
+// A run: a row of six doubles for each step, and the sum of factor times direct. The surface's lengths are doubles, which is what two
+// jobs compared ask of them (`Comparison` of `jobs`).
 #[no_mangle]
 pub extern "C" fn pilgartze_run(
     latitude: f64,
@@ -98,30 +134,28 @@ pub extern "C" fn pilgartze_run(
     window: &[u8],
     results: &mut [u8],
 ) -> Answer
-    ensures { λ r. ⌜ r ≡ answerFor (runOf (jobOf (siteOf latitude longitude timezone «start_day» «series_step» «leap_year» «direct_beam_conversion») (timesOf start end step) (surfaceOf tilt orientation «base_height» height width) (now (diffuse .entry)) (now (direct .entry)) (now (reflectivity .entry)) (now (sectors .entry)) (now (window .entry))) (now (results .entry)) .answer) ⌝ }
-    ensures { λ _. ⌜ now (results .exit) ≡ runOf (jobOf (siteOf latitude longitude timezone «start_day» «series_step» «leap_year» «direct_beam_conversion») (timesOf start end step) (surfaceOf tilt orientation «base_height» height width) (now (diffuse .entry)) (now (direct .entry)) (now (reflectivity .entry)) (now (sectors .entry)) (now (window .entry))) (now (results .entry)) .results ⌝ }
+    ensures { λ r. ⌜ (r, now (results .exit)) ≡ runLeaves (runOf
+        (jobOf (siteOf latitude longitude timezone «start_day» «series_step» «leap_year» «direct_beam_conversion»)
+        (timesOf start end step) (surfaceOf tilt orientation «base_height» height width)
+        (now (diffuse .entry)) (now (direct .entry)) (now (reflectivity .entry)) (now (sectors .entry)) (now (window .entry)))
+        (now (results .entry))) ⌝ }
+    ensures { λ _. ⌜ Doubles (surfaceOf tilt orientation «base_height» height width) ⌝ }
 {
-    let site = Site {
-        latitude: latitude,
-        longitude: longitude,
-        timezone: timezone,
-        start_day: start_day,
-        time_series_step: series_step,
-        leap_year: leap_year,
-        direct_beam_conversion: direct_beam_conversion,
-    };
+    let site = site_of(
+        latitude,
+        longitude,
+        timezone,
+        start_day,
+        series_step,
+        leap_year,
+        direct_beam_conversion,
+    );
     let times = Run {
         start: start,
         end: end,
         step: step,
     };
-    let surface = Surface {
-        tilt: tilt,
-        orientation: orientation,
-        base_height: base_height,
-        height: height,
-        width: width,
-    };
+    let surface = surface_of(tilt, orientation, base_height, height, width);
     answer_for(runs::run::run_job(
         site,
         times,
@@ -158,25 +192,21 @@ pub extern "C" fn pilgartze_step(
     window: &[u8],
     results: &mut [u8],
 ) -> u64
-    ensures { λ r. ⌜ r ≡ singleNumber (stepCall (siteOf latitude longitude timezone «start_day» «series_step» «leap_year» «direct_beam_conversion») time (surfaceOf tilt orientation «base_height» height width) (readingOf diffuse direct reflectivity) (now (sectors .entry)) (now (window .entry)) (now (results .entry)) .answer) ⌝ }
-    ensures { λ _. ⌜ now (results .exit) ≡ stepCall (siteOf latitude longitude timezone «start_day» «series_step» «leap_year» «direct_beam_conversion») time (surfaceOf tilt orientation «base_height» height width) (readingOf diffuse direct reflectivity) (now (sectors .entry)) (now (window .entry)) (now (results .entry)) .results ⌝ }
+    ensures { λ r. ⌜ (r, now (results .exit)) ≡ callLeaves (stepCall
+        (siteOf latitude longitude timezone «start_day» «series_step» «leap_year» «direct_beam_conversion») time
+        (surfaceOf tilt orientation «base_height» height width) (readingOf diffuse direct reflectivity)
+        (now (sectors .entry)) (now (window .entry)) (now (results .entry))) ⌝ }
 {
-    let site = Site {
-        latitude: latitude,
-        longitude: longitude,
-        timezone: timezone,
-        start_day: start_day,
-        time_series_step: series_step,
-        leap_year: leap_year,
-        direct_beam_conversion: direct_beam_conversion,
-    };
-    let surface = Surface {
-        tilt: tilt,
-        orientation: orientation,
-        base_height: base_height,
-        height: height,
-        width: width,
-    };
+    let site = site_of(
+        latitude,
+        longitude,
+        timezone,
+        start_day,
+        series_step,
+        leap_year,
+        direct_beam_conversion,
+    );
+    let surface = surface_of(tilt, orientation, base_height, height, width);
     let reading = Reading {
         diffuse: diffuse,
         direct: direct,
@@ -214,25 +244,21 @@ pub extern "C" fn pilgartze_irradiance(
     reflectivity: f64,
     results: &mut [u8],
 ) -> u64
-    ensures { λ r. ⌜ r ≡ singleNumber (irradianceCall (siteOf latitude longitude timezone «start_day» «series_step» «leap_year» «direct_beam_conversion») time (surfaceOf tilt orientation «base_height» height width) (readingOf diffuse direct reflectivity) (now (results .entry)) .answer) ⌝ }
-    ensures { λ _. ⌜ now (results .exit) ≡ irradianceCall (siteOf latitude longitude timezone «start_day» «series_step» «leap_year» «direct_beam_conversion») time (surfaceOf tilt orientation «base_height» height width) (readingOf diffuse direct reflectivity) (now (results .entry)) .results ⌝ }
+    ensures { λ r. ⌜ (r, now (results .exit)) ≡ callLeaves (irradianceCall
+        (siteOf latitude longitude timezone «start_day» «series_step» «leap_year» «direct_beam_conversion») time
+        (surfaceOf tilt orientation «base_height» height width) (readingOf diffuse direct reflectivity)
+        (now (results .entry))) ⌝ }
 {
-    let site = Site {
-        latitude: latitude,
-        longitude: longitude,
-        timezone: timezone,
-        start_day: start_day,
-        time_series_step: series_step,
-        leap_year: leap_year,
-        direct_beam_conversion: direct_beam_conversion,
-    };
-    let surface = Surface {
-        tilt: tilt,
-        orientation: orientation,
-        base_height: base_height,
-        height: height,
-        width: width,
-    };
+    let site = site_of(
+        latitude,
+        longitude,
+        timezone,
+        start_day,
+        series_step,
+        leap_year,
+        direct_beam_conversion,
+    );
+    let surface = surface_of(tilt, orientation, base_height, height, width);
     let reading = Reading {
         diffuse: diffuse,
         direct: direct,
@@ -260,14 +286,9 @@ pub extern "C" fn pilgartze_factor(
     sectors: &[u8],
     window: &[u8],
 ) -> ShadingFactor
-    ensures { λ r. ⌜ r ≡ factorFor (factorCall altitude azimuth (surfaceOf tilt orientation «base_height» height width) (now (sectors .entry)) (now (window .entry))) ⌝ }
+    ensures { λ r. ⌜ r ≡ factorFor (factorCall altitude azimuth (surfaceOf tilt orientation «base_height» height width)
+        (now (sectors .entry)) (now (window .entry))) ⌝ }
 {
-    let surface = Surface {
-        tilt: tilt,
-        orientation: orientation,
-        base_height: base_height,
-        height: height,
-        width: width,
-    };
+    let surface = surface_of(tilt, orientation, base_height, height, width);
     factor_for(shading::step::factor_call(altitude, azimuth, surface, sectors, window))
 }

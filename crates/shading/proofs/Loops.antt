@@ -17,9 +17,11 @@ use Rattle.objects.specs.declared.sectors.ShadingObject.{ShadingObject}
 use Rattle.shading.specs.declared.distant.DistantShades.{DistantShades}
 use Rattle.objects.specs.declared.window.WindowShadingObject.{WindowShadingObject}
 use Rattle.shading.specs.declared.window.WindowShades.{WindowShades}
-use Rattle.objects.specs.Objects.{obstacle, isObstacle, isOverhang, ofKind, overhang, rightFin, leftFin, reveal}
-use Rattle.shading.specs.Factor.{Sun, extents, leastOf, obstacleExtents, overhangExtents, windowOverhangExtents, rightFinExtents, leftFinExtents, hasReveal}
-use Rattle.shading.specs.Steps.{distantStep, windowStep}
+use Rattle.objects.specs.declared.window.WindowShadingType.the-variants.{Obstacle, Overhang, SideFinRight, SideFinLeft, Reveal}
+use Rattle.objects.specs.Objects.{isObstacle, isOverhang, ofKind}
+use Rattle.shading.specs.declared.sun_on_surface.SunOnSurface.{SunOnSurface}
+use Rattle.shading.specs.Factor.{extents, leastOf, obstacleExtents, overhangExtents, windowOverhangExtents, rightFinExtents, leftFinExtents, hasReveal}
+use Rattle.shading.specs.ObjectSteps.{distantStep, windowStep}
 
 -- a value kept over a list, one member after the other
 record Keeps (keep : Float → List Float → Float) (op : Float → Float → Float) : Type 0 where
@@ -55,7 +57,7 @@ least = record { none = λ first. refl; more = λ first x xs. refl }
 
 -- ---- a sector's objects: the first n of them
 
-module _ (surface : Surface) (sun : Sun) (shades : DistantShades) (objects : List ShadingObject) (n i : ℕ) (d : ShadingObject) (h : i < n) (k : n ≤ length objects) where
+module _ (surface : Surface) (sun : SunOnSurface) (shades : DistantShades) (objects : List ShadingObject) (n i : ℕ) (d : ShadingObject) (h : i < n) (k : n ≤ length objects) where
   within : i < length (take n objects)
   within = rw (length-take-le n objects k) h
 
@@ -83,40 +85,40 @@ counted-first l count k n e m = go (decLe count k)
 pub at-end : {X : Type 0} (n i : ℕ) (l : List X) → i ≡ n → n ≤ length l → i ≡ length (take n l)
 at-end n i l e h = e ∙ sym (length-take-le n l h)
 
-pub obstacle-end : (surface : Surface) (sun : Sun) (first : Float) (l : List ShadingObject) (i : ℕ) → i ≡ length l → largestOf first (obstacleExtents surface sun (drop i l)) ≡ first
+pub obstacle-end : (surface : Surface) (sun : SunOnSurface) (first : Float) (l : List ShadingObject) (i : ℕ) → i ≡ length l → largestOf first (obstacleExtents surface sun (drop i l)) ≡ first
 unfolding obstacleExtents
 obstacle-end surface sun first l i e = rw e (end largestOf maxOf2 largest isObstacle _ first l)
 
-pub overhang-end : (surface : Surface) (sun : Sun) (first : Float) (l : List ShadingObject) (i : ℕ) → i ≡ length l → largestOf first (overhangExtents surface sun (drop i l)) ≡ first
+pub overhang-end : (surface : Surface) (sun : SunOnSurface) (first : Float) (l : List ShadingObject) (i : ℕ) → i ≡ length l → largestOf first (overhangExtents surface sun (drop i l)) ≡ first
 unfolding overhangExtents
 overhang-end surface sun first l i e = rw e (end largestOf maxOf2 largest isOverhang _ first l)
 
 -- ---- the objects at the window: the first n of them
 
-module _ (sun : Sun) (shades : WindowShades) (objects : List WindowShadingObject) (n i : ℕ) (d : WindowShadingObject) (h : i < n) (k : n ≤ length objects) where
+module _ (sun : SunOnSurface) (shades : WindowShades) (objects : List WindowShadingObject) (n i : ℕ) (d : WindowShadingObject) (h : i < n) (k : n ≤ length objects) where
   inside : i < length (take n objects)
   inside = rw (length-take-le n objects k) h
 
   pub window-overhang-next : largestOf (windowStep sun shades (getD objects i d) .overhang) (windowOverhangExtents sun (drop (i + 1) (take n objects)))
       ≡ largestOf (shades .overhang) (windowOverhangExtents sun (drop i (take n objects)))
   unfolding windowStep windowOverhangExtents
-  window-overhang-next = rw (← (getD-take n objects i d h)) (sym (next largestOf maxOf2 largest (ofKind overhang) _ (shades .overhang) (take n objects) i d inside))
+  window-overhang-next = rw (← (getD-take n objects i d h)) (sym (next largestOf maxOf2 largest (ofKind Overhang) _ (shades .overhang) (take n objects) i d inside))
 
   pub right-next : largestOf (windowStep sun shades (getD objects i d) .right) (rightFinExtents sun (drop (i + 1) (take n objects)))
       ≡ largestOf (shades .right) (rightFinExtents sun (drop i (take n objects)))
   unfolding windowStep rightFinExtents
-  right-next = rw (← (getD-take n objects i d h)) (sym (next largestOf maxOf2 largest (ofKind rightFin) _ (shades .right) (take n objects) i d inside))
+  right-next = rw (← (getD-take n objects i d h)) (sym (next largestOf maxOf2 largest (ofKind SideFinRight) _ (shades .right) (take n objects) i d inside))
 
   pub left-next : largestOf (windowStep sun shades (getD objects i d) .left) (leftFinExtents sun (drop (i + 1) (take n objects)))
       ≡ largestOf (shades .left) (leftFinExtents sun (drop i (take n objects)))
   unfolding windowStep leftFinExtents
-  left-next = rw (← (getD-take n objects i d h)) (sym (next largestOf maxOf2 largest (ofKind leftFin) _ (shades .left) (take n objects) i d inside))
+  left-next = rw (← (getD-take n objects i d h)) (sym (next largestOf maxOf2 largest (ofKind SideFinLeft) _ (shades .left) (take n objects) i d inside))
 
   pub reveal-next : windowStep sun shades (getD objects i d) .reveal || hasReveal (drop (i + 1) (take n objects)) ≡ shades .reveal || hasReveal (drop i (take n objects))
   unfolding windowStep hasReveal
   reveal-next =
       rw (← (getD-take n objects i d h), drop-cons (take n objects) i d inside, add-one i)
-      (go (ofKind reveal (getD (take n objects) i d)) (shades .reveal) (hasReveal (drop (suc i) (take n objects))))
+      (go (ofKind Reveal (getD (take n objects) i d)) (shades .reveal) (hasReveal (drop (suc i) (take n objects))))
     where
       go : (b r t : Bool) → cond b true r || t ≡ r || (b || t)
       go true true t = refl
@@ -124,18 +126,18 @@ module _ (sun : Sun) (shades : WindowShades) (objects : List WindowShadingObject
       go false true t = refl
       go false false t = refl
 
-module _ (sun : Sun) (first : Float) (l : List WindowShadingObject) (i : ℕ) (e : i ≡ length l) where
+module _ (sun : SunOnSurface) (first : Float) (l : List WindowShadingObject) (i : ℕ) (e : i ≡ length l) where
   pub window-overhang-end : largestOf first (windowOverhangExtents sun (drop i l)) ≡ first
   unfolding windowOverhangExtents
-  window-overhang-end = rw e (end largestOf maxOf2 largest (ofKind overhang) _ first l)
+  window-overhang-end = rw e (end largestOf maxOf2 largest (ofKind Overhang) _ first l)
 
   pub right-end : largestOf first (rightFinExtents sun (drop i l)) ≡ first
   unfolding rightFinExtents
-  right-end = rw e (end largestOf maxOf2 largest (ofKind rightFin) _ first l)
+  right-end = rw e (end largestOf maxOf2 largest (ofKind SideFinRight) _ first l)
 
   pub left-end : largestOf first (leftFinExtents sun (drop i l)) ≡ first
   unfolding leftFinExtents
-  left-end = rw e (end largestOf maxOf2 largest (ofKind leftFin) _ first l)
+  left-end = rw e (end largestOf maxOf2 largest (ofKind SideFinLeft) _ first l)
 
 pub reveal-end : (b : Bool) (l : List WindowShadingObject) (i : ℕ) → i ≡ length l → b || hasReveal (drop i l) ≡ b
 unfolding hasReveal
@@ -145,11 +147,11 @@ reveal-end b l i e = rw (e, drop-length l) (or-false b)
 
 module _ (extent : WindowShadingObject → Float) (first : Float) (objects : List WindowShadingObject) (n i : ℕ) where
   pub near-next : (d : WindowShadingObject) → i < n → n ≤ length objects
-      → leastOf (cond (ofKind obstacle (getD objects i d)) (floatMin first (extent (getD objects i d))) first) (extents (ofKind obstacle) extent (drop (i + 1) (take n objects)))
-      ≡ leastOf first (extents (ofKind obstacle) extent (drop i (take n objects)))
+      → leastOf (cond (ofKind Obstacle (getD objects i d)) (floatMin first (extent (getD objects i d))) first) (extents (ofKind Obstacle) extent (drop (i + 1) (take n objects)))
+      ≡ leastOf first (extents (ofKind Obstacle) extent (drop i (take n objects)))
   near-next d h k =
       let m : i < length (take n objects) = rw (length-take-le n objects k) h in
-      rw (← (getD-take n objects i d h)) (sym (next leastOf floatMin least (ofKind obstacle) extent first (take n objects) i d m))
+      rw (← (getD-take n objects i d h)) (sym (next leastOf floatMin least (ofKind Obstacle) extent first (take n objects) i d m))
 
-  pub near-end : i ≡ length (take n objects) → leastOf first (extents (ofKind obstacle) extent (drop i (take n objects))) ≡ first
-  near-end e = rw e (end leastOf floatMin least (ofKind obstacle) extent first (take n objects))
+  pub near-end : i ≡ length (take n objects) → leastOf first (extents (ofKind Obstacle) extent (drop i (take n objects))) ≡ first
+  near-end e = rw e (end leastOf floatMin least (ofKind Obstacle) extent first (take n objects))

@@ -12,9 +12,12 @@ use Rattle.objects.specs.declared.window.WindowShadingObject.{WindowShadingObje
 use Rattle.objects.specs.declared.answers.Refusal.the-variants as refusal
 use Rattle.objects.specs.declared.answers.FactorAnswer.{FactorAnswer}
 use Rattle.objects.specs.declared.answers.FactorAnswer.the-variants.{Factor, Refused}
-use Rattle.objects.specs.Objects.{ofKind, obstacle, overhang, rightFin, leftFin, reveal, isObstacle, isOverhang, counted}
+use Rattle.objects.specs.declared.window.WindowShadingType.the-variants.{Obstacle, Overhang, SideFinRight, SideFinLeft, Reveal}
+use Rattle.objects.specs.Objects.{ofKind, isObstacle, isOverhang, counted}
+use Rattle.shading.specs.declared.sun_on_surface.SunOnSurface.{SunOnSurface}
 use Rattle.orientation.specs.Orientation.{orientation180}
-use Rattle.extents.specs.Extents.{outsideSolarBeam, obstacleHeight, overhangHeight, windowOverhangHeight, rightFinWidth, leftFinWidth}
+use Rattle.beam.specs.Beam.{outsideSolarBeam}
+use Rattle.extents.specs.Extents.{obstacleHeight, overhangHeight, windowOverhangHeight, rightFinWidth, leftFinWidth}
 use Rattle.segments.specs.Segments.{Segment, found, gap, turned, noSector, segmentOf}
 
 -- ---- the shade extents of a list of objects
@@ -24,50 +27,43 @@ unfoldable pub extents : {Object : Type 0} → (Object → Bool) → (Object →
 extents kind extent [] = []
 extents kind extent (o ∷ rest) = let later = extents kind extent rest in cond (kind o) (extent o ∷ later) later
 
--- The sun as the extents need it: the tangent of its altitude, its azimuth less the surface's orientation from south, not wrapped,
--- and that difference's cosine and tangent.
-pub record Sun : Type 0 where
-  pub tanAltitude : Float
-  pub difference : Float
-  pub cosDifference : Float
-  pub tanDifference : Float
-
-unfoldable pub sunOn : Surface → Float → Float → Sun
+-- the sun as the extents need it; its azimuth less the surface's orientation from south is not wrapped
+unfoldable pub sunOn : Surface → Float → Float → SunOnSurface
 sunOn surface altitude azimuth =
     let difference = azimuth ⊖ orientation180 (surface .orientation) in
     record {
-      tanAltitude = tangent (toRadians altitude);
+      «tan_altitude» = tangent (toRadians altitude);
       difference = difference;
-      cosDifference = cosine (toRadians difference);
-      tanDifference = tangent (toRadians difference);
+      «cos_difference» = cosine (toRadians difference);
+      «tan_difference» = tangent (toRadians difference);
     }
 
-unfoldable pub obstacleExtents : Surface → Sun → List ShadingObject → List Float
+unfoldable pub obstacleExtents : Surface → SunOnSurface → List ShadingObject → List Float
 unfolding extents isObstacle obstacleHeight
-obstacleExtents surface sun = extents isObstacle (λ o. obstacleHeight (surface .«base_height») (o .height) (o .distance) (sun .tanAltitude))
+obstacleExtents surface sun = extents isObstacle (λ o. obstacleHeight (surface .«base_height») (o .height) (o .distance) (sun .«tan_altitude»))
 
-unfoldable pub overhangExtents : Surface → Sun → List ShadingObject → List Float
+unfoldable pub overhangExtents : Surface → SunOnSurface → List ShadingObject → List Float
 unfolding extents isOverhang overhangHeight
 overhangExtents surface sun =
-    extents isOverhang (λ o. overhangHeight (surface .height) (surface .«base_height») (o .height) (o .distance) (sun .tanAltitude))
+    extents isOverhang (λ o. overhangHeight (surface .height) (surface .«base_height») (o .height) (o .distance) (sun .«tan_altitude»))
 
-unfoldable pub windowOverhangExtents : Sun → List WindowShadingObject → List Float
+unfoldable pub windowOverhangExtents : SunOnSurface → List WindowShadingObject → List Float
 unfolding extents ofKind windowOverhangHeight
 windowOverhangExtents sun =
-    extents (ofKind overhang) (λ o. windowOverhangHeight (o .size) (o .distance) (sun .tanAltitude) (sun .cosDifference))
+    extents (ofKind Overhang) (λ o. windowOverhangHeight (o .size) (o .distance) (sun .«tan_altitude») (sun .«cos_difference»))
 
-unfoldable pub rightFinExtents : Sun → List WindowShadingObject → List Float
+unfoldable pub rightFinExtents : SunOnSurface → List WindowShadingObject → List Float
 unfolding extents ofKind rightFinWidth
-rightFinExtents sun = extents (ofKind rightFin) (λ o. rightFinWidth (o .size) (o .distance) (sun .difference) (sun .tanDifference))
+rightFinExtents sun = extents (ofKind SideFinRight) (λ o. rightFinWidth (o .size) (o .distance) (sun .difference) (sun .«tan_difference»))
 
-unfoldable pub leftFinExtents : Sun → List WindowShadingObject → List Float
+unfoldable pub leftFinExtents : SunOnSurface → List WindowShadingObject → List Float
 unfolding extents ofKind leftFinWidth
-leftFinExtents sun = extents (ofKind leftFin) (λ o. leftFinWidth (o .size) (o .distance) (sun .difference) (sun .tanDifference))
+leftFinExtents sun = extents (ofKind SideFinLeft) (λ o. leftFinWidth (o .size) (o .distance) (sun .difference) (sun .«tan_difference»))
 
 -- ---- what is left in the sun
 
 -- the height that the largest overhang shades, distant or at the window, up to the surface's own
-unfoldable pub overhangShade : Surface → Sun → List ShadingObject → List WindowShadingObject → Float
+unfoldable pub overhangShade : Surface → SunOnSurface → List ShadingObject → List WindowShadingObject → Float
 unfolding overhangExtents windowOverhangExtents largestOf minOf2 whole
 overhangShade surface sun distants window =
     minOf2 (surface .height) (largestOf (whole 0) (overhangExtents surface sun distants ++ windowOverhangExtents sun window))
@@ -78,14 +74,14 @@ unfolding maxOf2 whole
 sunlitBetween all one other = maxOf2 (whole 0) (all ⊖ (one ⊕ other))
 
 -- the height between the largest obstacle's shade and the largest overhang's
-unfoldable pub sunlitHeight : Surface → Sun → List ShadingObject → Float → Float
+unfoldable pub sunlitHeight : Surface → SunOnSurface → List ShadingObject → Float → Float
 unfolding obstacleExtents largestOf minOf2 whole sunlitBetween
 sunlitHeight surface sun distants hkOverhang =
     let hkObstacle = minOf2 (surface .height) (largestOf (whole 0) (obstacleExtents surface sun distants)) in
     sunlitBetween (surface .height) hkObstacle hkOverhang
 
 -- the width between the largest fins' shades
-unfoldable pub sunlitWidth : Surface → Sun → List WindowShadingObject → Float
+unfoldable pub sunlitWidth : Surface → SunOnSurface → List WindowShadingObject → Float
 unfolding rightFinExtents leftFinExtents largestOf minOf2 whole sunlitBetween
 sunlitWidth surface sun window =
     let wkRight = minOf2 (surface .width) (largestOf (whole 0) (rightFinExtents sun window)) in
@@ -97,12 +93,12 @@ unfoldable pub sunlitPart : Surface → Float → Float → Float
 sunlitPart surface height width = height ⊗ width ⊘ (surface .height ⊗ surface .width)
 
 -- a near obstacle's own shade
-unfoldable pub nearObstacleHeight : Surface → Sun → WindowShadingObject → Float
+unfoldable pub nearObstacleHeight : Surface → SunOnSurface → WindowShadingObject → Float
 unfolding obstacleHeight
-nearObstacleHeight surface sun o = obstacleHeight (surface .«base_height») (o .size) (o .distance) (sun .tanAltitude)
+nearObstacleHeight surface sun o = obstacleHeight (surface .«base_height») (o .size) (o .distance) (sun .«tan_altitude»)
 
 -- the factor that a near obstacle allows: what it lets through counts by its transparency
-unfoldable pub nearFactor : Surface → Sun → Float → Float → WindowShadingObject → Float
+unfoldable pub nearFactor : Surface → SunOnSurface → Float → Float → WindowShadingObject → Float
 unfolding nearObstacleHeight floatMin floatMax sunlitPart whole
 nearFactor surface sun hkOverhang wkSun o =
     let hkObstacle = floatMin (surface .height) (nearObstacleHeight surface sun o) in
@@ -118,22 +114,23 @@ leastOf first [] = first
 leastOf first (x ∷ xs) = leastOf (floatMin first x) xs
 
 -- distant objects and those at the window first, and last the near obstacles, each against the largest overhang
-unfoldable pub reductionFactor : Surface → Sun → List ShadingObject → List WindowShadingObject → Float
+unfoldable pub reductionFactor : Surface → SunOnSurface → List ShadingObject → List WindowShadingObject → Float
 unfolding overhangShade sunlitHeight sunlitWidth sunlitPart nearFactor leastOf extents ofKind
 reductionFactor surface sun distants window =
     let hkOverhang = overhangShade surface sun distants window in
     let wkSun = sunlitWidth surface sun window in
-    leastOf (sunlitPart surface (sunlitHeight surface sun distants hkOverhang) wkSun) (extents (ofKind obstacle) (nearFactor surface sun hkOverhang wkSun) window)
+    leastOf (sunlitPart surface (sunlitHeight surface sun distants hkOverhang) wkSun)
+    (extents (ofKind Obstacle) (nearFactor surface sun hkOverhang wkSun) window)
 
 -- ---- the factor, or a refusal
 
 unfoldable pub hasReveal : List WindowShadingObject → Bool
 unfolding ofKind
 hasReveal [] = false
-hasReveal (o ∷ rest) = ofKind reveal o || hasReveal rest
+hasReveal (o ∷ rest) = ofKind Reveal o || hasReveal rest
 
 -- once the walk has come to a sector: a reveal is refused
-unfoldable pub factorIn : Surface → Sun → List WindowShadingObject → Segment → FactorAnswer
+unfoldable pub factorIn : Surface → SunOnSurface → List WindowShadingObject → Segment → FactorAnswer
 factorIn surface sun window (found s) = cond (hasReveal window) (Refused refusal.Reveal) (Factor (reductionFactor surface sun (counted s) window))
 factorIn surface sun window gap = Refused refusal.Gap
 factorIn surface sun window turned = Refused refusal.Turned

@@ -1,3 +1,3 @@
 pub mod Factor
-pub mod Steps
+pub mod ObjectSteps
 pub mod Call

@@ -4,7 +4,7 @@ ghost use Rattle.doubles.specs.Arithmetic.{whole};
 ghost use Rattle.doubles.specs.Functions.{largestOf};
 ghost use Rattle.objects.specs.Objects.{counted};
 ghost use Rattle.shading.specs.Factor.{obstacleExtents, overhangExtents};
-ghost use Rattle.shading.specs.Steps.{distantStep, sunOf};
+ghost use Rattle.shading.specs.ObjectSteps.{distantStep};
 use crate::sun_on_surface::SunOnSurface;
 use objects::sectors::ShadingObject;
 use objects::sectors::ShadingObjectType;
@@ -23,7 +23,7 @@ fn with_object(
     sun: SunOnSurface,
     object: ShadingObject,
 ) -> DistantShades
-    ensures { λ r. ⌜ r ≡ distantStep surface (sunOf sun) shades object ⌝ }
+    ensures { λ r. ⌜ r ≡ distantStep surface sun shades object ⌝ }
 {
     let object_type = object.object_type;
     match object_type {
@@ -57,8 +57,8 @@ fn with_object(
 
 // The largest shades of a sector's counted objects.
 pub fn distant_shades(surface: Surface, sun: SunOnSurface, segment: ShadingSegment) -> DistantShades
-    ensures { λ r. ⌜ (r .obstacle ≡ largestOf (whole 0) (obstacleExtents surface (sunOf sun) (counted segment)))
-        × (r .overhang ≡ largestOf (whole 0) (overhangExtents surface (sunOf sun) (counted segment))) ⌝ }
+    ensures { λ r. ⌜ (r .obstacle ≡ largestOf (whole 0) (obstacleExtents surface sun (counted segment)))
+        × (r .overhang ≡ largestOf (whole 0) (overhangExtents surface sun (counted segment))) ⌝ }
 {
     let objects = segment.shading_objects;
     let n = objects::counted_places(segment.count, 8);

@@ -2,10 +2,10 @@
 ghost use mathlib.Core.Path.{_≡_};
 ghost use mathlib.Core.Bool.{cond};
 ghost use Rattle.doubles.specs.Functions.{floatMin};
-ghost use Rattle.objects.specs.Objects.{ofKind, obstacle, placed};
+ghost use Rattle.objects.specs.declared.window.WindowShadingType.the-variants.{Obstacle};
+ghost use Rattle.objects.specs.Objects.{ofKind, placed};
 ghost use Rattle.shading.specs.Factor.{sunlitPart, sunlitBetween, nearFactor, leastOf, extents, factorIn};
 ghost use Rattle.segments.specs.Segments.{found};
-ghost use Rattle.shading.specs.Steps.{sunOf};
 use crate::distant;
 use crate::sun_on_surface::SunOnSurface;
 use crate::window;
@@ -32,7 +32,7 @@ fn near_factor(
     wk_sun: f64,
     object: WindowShadingObject,
 ) -> f64
-    ensures { λ r. ⌜ r ≡ nearFactor surface (sunOf sun) «hk_ovh» «wk_sun» object ⌝ }
+    ensures { λ r. ⌜ r ≡ nearFactor surface sun «hk_ovh» «wk_sun» object ⌝ }
 {
     let new_shade_height = extents::obstacle_shading_height(
         surface.base_height,
@@ -55,7 +55,7 @@ fn with_object(
     wk_sun: f64,
     object: WindowShadingObject,
 ) -> f64
-    ensures { λ r. ⌜ r ≡ cond (ofKind obstacle object) (floatMin factor (nearFactor surface (sunOf sun) «hk_ovh» «wk_sun» object)) factor ⌝ }
+    ensures { λ r. ⌜ r ≡ cond (ofKind Obstacle object) (floatMin factor (nearFactor surface sun «hk_ovh» «wk_sun» object)) factor ⌝ }
 {
     let object_type = object.object_type;
     match object_type {
@@ -78,7 +78,7 @@ fn least_factor(
     wk_sun: f64,
     window: WindowShading,
 ) -> f64
-    ensures { λ r. ⌜ r ≡ leastOf first (extents (ofKind obstacle) (nearFactor surface (sunOf sun) «hk_ovh» «wk_sun») (placed window)) ⌝ }
+    ensures { λ r. ⌜ r ≡ leastOf first (extents (ofKind Obstacle) (nearFactor surface sun «hk_ovh» «wk_sun») (placed window)) ⌝ }
 {
     let objects = window.objects;
     let n = objects::counted_places(window.count, 16);
@@ -106,7 +106,7 @@ pub fn factor_in(
     segment: ShadingSegment,
     window: WindowShading,
 ) -> FactorAnswer
-    ensures { λ r. ⌜ r ≡ factorIn surface (sunOf sun) (placed window) (found segment) ⌝ }
+    ensures { λ r. ⌜ r ≡ factorIn surface sun (placed window) (found segment) ⌝ }
 {
     let distant = distant::distant_shades(surface, sun, segment);
     let near = window::window_shades(sun, distant.overhang, window);

@@ -8,7 +8,6 @@ ghost use Rattle.shading.specs.Call.{sunFine, factorCall};
 ghost use Rattle.objects.specs.Records.{sectorsOf};
 use crate::factor;
 use crate::sun_on_surface;
-use extents::beam;
 use objects::answers::FactorAnswer;
 use objects::answers::Refusal;
 use objects::records;

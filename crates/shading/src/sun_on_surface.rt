@@ -1,7 +1,6 @@
 // The sun as it stands to the surface.
 ghost use mathlib.Core.Path.{_≡_};
 ghost use Rattle.shading.specs.Factor.{sunOn};
-ghost use Rattle.shading.specs.Steps.{sunOf};
 use objects::surface::Surface;
 
 // In an hour: the tangent of its altitude, its azimuth less the surface's orientation from south, not wrapped, and that difference's
@@ -14,7 +13,7 @@ pub struct SunOnSurface {
 }
 
 pub fn sun_on(surface: Surface, altitude: f64, azimuth: f64) -> SunOnSurface
-    ensures { λ r. ⌜ sunOf r ≡ sunOn surface altitude azimuth ⌝ }
+    ensures { λ r. ⌜ r ≡ sunOn surface altitude azimuth ⌝ }
 {
     let difference = azimuth - orientation::transform_to_180(surface.orientation);
     let radians = doubles::to_radians(difference);

@@ -4,7 +4,7 @@ ghost use Rattle.doubles.specs.Arithmetic.{whole};
 ghost use Rattle.doubles.specs.Functions.{largestOf};
 ghost use Rattle.objects.specs.Objects.{placed};
 ghost use Rattle.shading.specs.Factor.{windowOverhangExtents, rightFinExtents, leftFinExtents, hasReveal};
-ghost use Rattle.shading.specs.Steps.{sunOf, withOverhang, withRightFin, withLeftFin, windowStep};
+ghost use Rattle.shading.specs.ObjectSteps.{withOverhang, withRightFin, withLeftFin, windowStep};
 use crate::sun_on_surface::SunOnSurface;
 use objects::window::WindowShading;
 use objects::window::WindowShadingObject;
@@ -52,7 +52,7 @@ fn with_left_fin(shades: WindowShades, width: f64) -> WindowShades
 }
 
 fn with_object(shades: WindowShades, sun: SunOnSurface, object: WindowShadingObject) -> WindowShades
-    ensures { λ r. ⌜ r ≡ windowStep (sunOf sun) shades object ⌝ }
+    ensures { λ r. ⌜ r ≡ windowStep sun shades object ⌝ }
 {
     let size = object.size;
     let away = object.distance;
@@ -82,9 +82,9 @@ fn with_object(shades: WindowShades, sun: SunOnSurface, object: WindowShadingObj
 
 // The largest extents of the objects at the window; the overhangs' from that of the distant ones on.
 pub fn window_shades(sun: SunOnSurface, overhang: f64, window: WindowShading) -> WindowShades
-    ensures { λ r. ⌜ (r .overhang ≡ largestOf overhang (windowOverhangExtents (sunOf sun) (placed window)))
-        × (r .right ≡ largestOf (whole 0) (rightFinExtents (sunOf sun) (placed window)))
-        × (r .left ≡ largestOf (whole 0) (leftFinExtents (sunOf sun) (placed window)))
+    ensures { λ r. ⌜ (r .overhang ≡ largestOf overhang (windowOverhangExtents sun (placed window)))
+        × (r .right ≡ largestOf (whole 0) (rightFinExtents sun (placed window)))
+        × (r .left ≡ largestOf (whole 0) (leftFinExtents sun (placed window)))
         × (r .reveal ≡ hasReveal (placed window)) ⌝ }
 {
     let objects = window.objects;

@@ -16,12 +16,12 @@ use Rattle.objects.specs.declared.answers.Refusal.{Refusal}
 use Rattle.objects.specs.declared.answers.Refusal.the-variants as refusal
 use Rattle.objects.specs.declared.answers.FactorAnswer.{FactorAnswer}
 use Rattle.objects.specs.declared.answers.FactorAnswer.the-variants.{Factor, Refused}
-use Rattle.extents.specs.Extents.{outsideSolarBeam}
+use Rattle.beam.specs.Beam.{outsideSolarBeam}
 use Rattle.segments.specs.Segments.{Segment, found, gap, turned, noSector, segmentOf}
 use Rattle.objects.specs.Objects.{counted}
 use Rattle.shading.specs.Factor.{sunOn, hasReveal, reductionFactor, factorIn, shadingFactor}
 use Rattle.segments.specs.SameSectors.{SameBounds, PlaceByPlace}
-use Rattle.shading_laws.specs.Comparison.{AcceptedSurface, NoNanAt, AcceptedNear, Holds, MoreInSector, SameInSector}
+use Rattle.shading_laws.specs.Premises.{AcceptedSurface, NoNanAt, AcceptedNear, Holds, MoreInSector, SameInSector}
 use Rattle.segments.proofs.SameWalks.{SameWalk, both-found, both-gap, both-turned, both-none, segment-alike}
 use Rattle.shading_laws.proofs.Bounds.{factor-nonneg, factor-le-one}
 use Rattle.shading_laws.proofs.NoObjects.{factor-no-objects}

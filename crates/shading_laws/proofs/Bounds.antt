@@ -17,10 +17,12 @@ use Rattle.objects.specs.declared.surface.Surface.{Surface}
 use Rattle.objects.specs.declared.sectors.ShadingObject.{ShadingObject}
 use Rattle.objects.specs.declared.window.WindowShadingObject.{WindowShadingObject}
 use Rattle.extents.specs.Extents.{obstacleHeight}
-use Rattle.objects.specs.Objects.{ofKind, obstacle}
-use Rattle.shading.specs.Factor.{Sun, extents, obstacleExtents, overhangExtents, windowOverhangExtents, rightFinExtents, leftFinExtents, overhangShade, sunlitBetween, sunlitHeight, sunlitWidth, sunlitPart, nearFactor, reductionFactor, nearObstacleHeight}
-use Rattle.shading_laws.specs.Comparison.{AcceptedSurface, NoNanExtent, AcceptedNear}
-use Rattle.shading_laws.proofs.Steps.{Side, cut-between, remains-between, part, part-nonneg, part-le-one, nearHeight, near-between, side-number, high}
+use Rattle.objects.specs.declared.window.WindowShadingType.the-variants.{Obstacle}
+use Rattle.objects.specs.Objects.{ofKind}
+use Rattle.shading.specs.declared.sun_on_surface.SunOnSurface.{SunOnSurface}
+use Rattle.shading.specs.Factor.{extents, obstacleExtents, overhangExtents, windowOverhangExtents, rightFinExtents, leftFinExtents, overhangShade, sunlitBetween, sunlitHeight, sunlitWidth, sunlitPart, nearFactor, reductionFactor, nearObstacleHeight}
+use Rattle.shading_laws.specs.Premises.{AcceptedSurface, NoNanExtent, AcceptedNear}
+use Rattle.shading_laws.proofs.Sides.{Side, cut-between, remains-between, part, part-nonneg, part-le-one, nearHeight, near-between, side-number, high}
 use Rattle.shading_laws.proofs.Members.{Extent, extents-from, least-is}
 
 pub height-side : {surface : Surface} → AcceptedSurface surface → Side (surface .height)
@@ -35,33 +37,33 @@ unfolding obstacleHeight
 obstacle-nonneg base height distance tanAltitude n = cut-below (whole 0) (height ⊖ base ⊖ distance ⊗ tanAltitude) zero-number n
 
 -- a near obstacle's shade, cut off at the height
-unfoldable pub nearShade : Surface → Sun → WindowShadingObject → Float
+unfoldable pub nearShade : Surface → SunOnSurface → WindowShadingObject → Float
 nearShade surface sun o = floatMin (surface .height) (nearObstacleHeight surface sun o)
 
-pub near-shade-between : (surface : Surface) (sun : Sun) (o : WindowShadingObject) → AcceptedSurface surface
+pub near-shade-between : (surface : Surface) (sun : SunOnSurface) (o : WindowShadingObject) → AcceptedSurface surface
     → Number (nearObstacleHeight surface sun o) → Between (surface .height) (nearShade surface sun o)
 unfolding nearShade nearObstacleHeight
 near-shade-between surface sun o a n =
     subst (Between (surface .height)) (sym (float-min-is (side-number (height-side a)) n))
-    (cut-between (height-side a) (obstacle-nonneg (surface .«base_height») (o .size) (o .distance) (sun .tanAltitude) n))
+    (cut-between (height-side a) (obstacle-nonneg (surface .«base_height») (o .size) (o .distance) (sun .«tan_altitude») n))
 
-pub near-factor-is : (surface : Surface) (sun : Sun) (hkOverhang wkSun : Float) (o : WindowShadingObject)
+pub near-factor-is : (surface : Surface) (sun : SunOnSurface) (hkOverhang wkSun : Float) (o : WindowShadingObject)
     → nearFactor surface sun hkOverhang wkSun o ≡ part (surface .height) (surface .width) (nearHeight (surface .height) (nearShade surface sun o) hkOverhang (o .transparency)) wkSun
 unfolding nearFactor part nearHeight nearShade nearObstacleHeight sunlitPart
 near-factor-is surface sun hkOverhang wkSun o = refl
 
 -- the part in the sun before the near obstacles
-unfoldable pub base : Surface → Sun → List ShadingObject → List WindowShadingObject → Float
+unfoldable pub base : Surface → SunOnSurface → List ShadingObject → List WindowShadingObject → Float
 base surface sun distants window = sunlitPart surface (sunlitHeight surface sun distants (overhangShade surface sun distants window)) (sunlitWidth surface sun window)
 
 -- the factors that the near obstacles allow
-unfoldable pub near : Surface → Sun → List ShadingObject → List WindowShadingObject → WindowShadingObject → Float
+unfoldable pub near : Surface → SunOnSurface → List ShadingObject → List WindowShadingObject → WindowShadingObject → Float
 near surface sun distants window = nearFactor surface sun (overhangShade surface sun distants window) (sunlitWidth surface sun window)
 
-unfoldable pub nears : Surface → Sun → List ShadingObject → List WindowShadingObject → List Float
-nears surface sun distants window = extents (ofKind obstacle) (near surface sun distants window) window
+unfoldable pub nears : Surface → SunOnSurface → List ShadingObject → List WindowShadingObject → List Float
+nears surface sun distants window = extents (ofKind Obstacle) (near surface sun distants window) window
 
-module _ {surface : Surface} {sun : Sun} {distants : List ShadingObject} {window : List WindowShadingObject}
+module _ {surface : Surface} {sun : SunOnSurface} {distants : List ShadingObject} {window : List WindowShadingObject}
     (a : AcceptedSurface surface) (n : NoNanExtent surface sun distants window) where
   pub overhang-numbers : Numbers (overhangExtents surface sun distants ++ windowOverhangExtents sun window)
   overhang-numbers = append-numbers (overhangExtents surface sun distants) (windowOverhangExtents sun window) (n .overhangs) (n .window-overhangs)
@@ -98,14 +100,14 @@ module _ {surface : Surface} {sun : Sun} {distants : List ShadingObject} {window
   base-le-one = part-le-one (height-side a) (width-side a) height-between width-between
 
   module _ (b : AcceptedNear window) where
-    pub near-height-between : (o : WindowShadingObject) → List·Memᴰ o window → T (ofKind obstacle o)
+    pub near-height-between : (o : WindowShadingObject) → List·Memᴰ o window → T (ofKind Obstacle o)
         → Between (whole 2000) (nearHeight (surface .height) (nearShade surface sun o) (overhangShade surface sun distants window) (o .transparency))
     near-height-between o m t =
         near-between (height-side a) (near-shade-between surface sun o a (n .near-obstacles o m t)) overhang-between
         (record { low = b .transparency-from o m t; high = b .transparency-to o m t })
 
     -- not negative, and no more is said: it may be above 1 by a rounding
-    pub near-nonneg : (o : WindowShadingObject) → List·Memᴰ o window → T (ofKind obstacle o) → whole 0 ≼ near surface sun distants window o
+    pub near-nonneg : (o : WindowShadingObject) → List·Memᴰ o window → T (ofKind Obstacle o) → whole 0 ≼ near surface sun distants window o
     unfolding near
     near-nonneg o m t =
         rw (near-factor-is surface sun (overhangShade surface sun distants window) (sunlitWidth surface sun window) o)
@@ -114,7 +116,7 @@ module _ {surface : Surface} {sun : Sun} {distants : List ShadingObject} {window
     nears-nonneg : (x : Float) → List·Memᴰ x (nears surface sun distants window) → whole 0 ≼ x
     unfolding nears
     nears-nonneg x m =
-        let e : Extent (ofKind obstacle) (near surface sun distants window) window x = extents-from (ofKind obstacle) (near surface sun distants window) window x m in
+        let e : Extent (ofKind Obstacle) (near surface sun distants window) window x = extents-from (ofKind Obstacle) (near surface sun distants window) window x m in
         rw (e .value) (near-nonneg (e .object) (e .member) (e .of-kind))
 
     pub nears-numbers : Numbers (base surface sun distants window ∷ nears surface sun distants window)

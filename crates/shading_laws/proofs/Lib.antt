@@ -1,11 +1,10 @@
--- `Answers` has the laws of the answer, `Bounds`, `NoObjects`, `MoreObjects`, `SameObjects` and `Refusals` those of its parts; what
--- they assume stands in `Comparison` of specs/.
-pub mod Steps
+-- `Answers` has the laws of the answer, `Bounds`, `NoObjects`, `MoreObjects` and `SameObjects` those of its parts; what
+-- they assume stands in `Premises` of specs/.
+pub mod Sides
 pub mod Members
 pub mod Bounds
 pub mod Doubles
 pub mod NoObjects
 pub mod MoreObjects
 pub mod SameObjects
-pub mod Refusals
 pub mod Answers

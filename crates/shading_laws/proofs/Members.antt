@@ -10,7 +10,7 @@ use Rattle.doubles.specs.Order.{Number}
 use Rattle.doubles.proofs.Order.{left-number}
 use Rattle.doubles.proofs.Folds.{Numbers, Within, min-left}
 use Rattle.shading.specs.Factor.{extents, leastOf}
-use Rattle.shading_laws.specs.Comparison.{Holds}
+use Rattle.shading_laws.specs.Premises.{Holds}
 use Rattle.doubles.proofs.MinMax.{float-min-is}
 
 -- an extent of a list is that of one of its objects

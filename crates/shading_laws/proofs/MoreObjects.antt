@@ -15,45 +15,47 @@ use Rattle.objects.specs.declared.surface.Surface.{Surface}
 use Rattle.objects.specs.declared.sectors.ShadingObject.{ShadingObject}
 use Rattle.objects.specs.declared.window.WindowShadingObject.{WindowShadingObject}
 use Rattle.extents.specs.Extents.{obstacleHeight, overhangHeight, windowOverhangHeight, rightFinWidth, leftFinWidth}
-use Rattle.objects.specs.Objects.{ofKind, isObstacle, isOverhang, obstacle, overhang, rightFin, leftFin}
-use Rattle.shading.specs.Factor.{Sun, obstacleExtents, overhangExtents, windowOverhangExtents, rightFinExtents, leftFinExtents, overhangShade, sunlitBetween, sunlitHeight, sunlitWidth, sunlitPart, reductionFactor}
-use Rattle.shading_laws.specs.Comparison.{AcceptedSurface, NoNanExtent, AcceptedNear, Holds}
-use Rattle.shading_laws.proofs.Steps.{side-number, remains-falls, part, part-mono, near-falls, high}
+use Rattle.objects.specs.declared.window.WindowShadingType.the-variants.{Obstacle, Overhang, SideFinRight, SideFinLeft}
+use Rattle.objects.specs.Objects.{ofKind, isObstacle, isOverhang}
+use Rattle.shading.specs.declared.sun_on_surface.SunOnSurface.{SunOnSurface}
+use Rattle.shading.specs.Factor.{obstacleExtents, overhangExtents, windowOverhangExtents, rightFinExtents, leftFinExtents, overhangShade, sunlitBetween, sunlitHeight, sunlitWidth, sunlitPart, reductionFactor}
+use Rattle.shading_laws.specs.Premises.{AcceptedSurface, NoNanExtent, AcceptedNear, Holds}
+use Rattle.shading_laws.proofs.Sides.{side-number, remains-falls, part, part-mono, near-falls, high}
 use Rattle.shading_laws.proofs.Members.{Extent, extents-from, extents-into, extents-within}
 use Rattle.shading_laws.proofs.Bounds.{height-side, width-side, base, near, nears, near-shade-between, near-factor-is, overhang-numbers, overhang-between, obstacle-between, right-between, left-between, height-between, width-between, near-height-between, nears-numbers, factor-is}
 
 -- ---- more objects, more extents
 
-module _ (surface : Surface) (sun : Sun) {xs ys : List ShadingObject} (h : Holds ys xs) where
+module _ (surface : Surface) (sun : SunOnSurface) {xs ys : List ShadingObject} (h : Holds ys xs) where
   pub obstacles-within : Within (obstacleExtents surface sun xs) (obstacleExtents surface sun ys)
   unfolding obstacleExtents
   obstacles-within =
-      extents-within isObstacle (λ (o : ShadingObject). obstacleHeight (surface .«base_height») (o .height) (o .distance) (sun .tanAltitude)) xs ys h
+      extents-within isObstacle (λ (o : ShadingObject). obstacleHeight (surface .«base_height») (o .height) (o .distance) (sun .«tan_altitude»)) xs ys h
 
   pub overhangs-within : Within (overhangExtents surface sun xs) (overhangExtents surface sun ys)
   unfolding overhangExtents
   overhangs-within =
-      extents-within isOverhang (λ (o : ShadingObject). overhangHeight (surface .height) (surface .«base_height») (o .height) (o .distance) (sun .tanAltitude)) xs ys h
+      extents-within isOverhang (λ (o : ShadingObject). overhangHeight (surface .height) (surface .«base_height») (o .height) (o .distance) (sun .«tan_altitude»)) xs ys h
 
-module _ (sun : Sun) {xs ys : List WindowShadingObject} (h : Holds ys xs) where
+module _ (sun : SunOnSurface) {xs ys : List WindowShadingObject} (h : Holds ys xs) where
   pub window-overhangs-within : Within (windowOverhangExtents sun xs) (windowOverhangExtents sun ys)
   unfolding windowOverhangExtents
   window-overhangs-within =
-      extents-within (ofKind overhang) (λ (o : WindowShadingObject). windowOverhangHeight (o .size) (o .distance) (sun .tanAltitude) (sun .cosDifference)) xs ys h
+      extents-within (ofKind Overhang) (λ (o : WindowShadingObject). windowOverhangHeight (o .size) (o .distance) (sun .«tan_altitude») (sun .«cos_difference»)) xs ys h
 
   pub right-fins-within : Within (rightFinExtents sun xs) (rightFinExtents sun ys)
   unfolding rightFinExtents
   right-fins-within =
-      extents-within (ofKind rightFin) (λ (o : WindowShadingObject). rightFinWidth (o .size) (o .distance) (sun .difference) (sun .tanDifference)) xs ys h
+      extents-within (ofKind SideFinRight) (λ (o : WindowShadingObject). rightFinWidth (o .size) (o .distance) (sun .difference) (sun .«tan_difference»)) xs ys h
 
   pub left-fins-within : Within (leftFinExtents sun xs) (leftFinExtents sun ys)
   unfolding leftFinExtents
   left-fins-within =
-      extents-within (ofKind leftFin) (λ (o : WindowShadingObject). leftFinWidth (o .size) (o .distance) (sun .difference) (sun .tanDifference)) xs ys h
+      extents-within (ofKind SideFinLeft) (λ (o : WindowShadingObject). leftFinWidth (o .size) (o .distance) (sun .difference) (sun .«tan_difference»)) xs ys h
 
 -- ---- from fewer objects (xs, ws) to more (ys, vs)
 
-module _ {surface : Surface} {sun : Sun} {xs ys : List ShadingObject} {ws vs : List WindowShadingObject}
+module _ {surface : Surface} {sun : SunOnSurface} {xs ys : List ShadingObject} {ws vs : List WindowShadingObject}
     (a : AcceptedSurface surface) (few : NoNanExtent surface sun xs ws) (many : NoNanExtent surface sun ys vs) (h : Holds ys xs) (k : Holds vs ws) where
   pub overhang-grows : overhangShade surface sun xs ws ≼ overhangShade surface sun ys vs
   unfolding overhangShade
@@ -92,7 +94,7 @@ module _ {surface : Surface} {sun : Sun} {xs ys : List ShadingObject} {ws vs : L
       (high (height-side a) (width-side a) (height-between a few)) (width-between a few) height-falls width-falls
 
   module _ (b : AcceptedNear ws) (c : AcceptedNear vs) where
-    near-falls-by : (o : WindowShadingObject) → List·Memᴰ o ws → T (ofKind obstacle o) → near surface sun ys vs o ≼ near surface sun xs ws o
+    near-falls-by : (o : WindowShadingObject) → List·Memᴰ o ws → T (ofKind Obstacle o) → near surface sun ys vs o ≼ near surface sun xs ws o
     unfolding near
     near-falls-by o m t =
         rw (
@@ -108,18 +110,18 @@ module _ {surface : Surface} {sun : Sun} {xs ys : List ShadingObject} {ws vs : L
     least-bound : (x : Float) → List·Memᴰ x (base surface sun ys vs ∷ nears surface sun ys vs) → smallestOf (base surface sun ys vs) (nears surface sun ys vs) ≼ x
     least-bound = smallest-bound (base surface sun ys vs) (nears surface sun ys vs) (nears-numbers a many c)
 
-    of-near : (x : Float) → Extent (ofKind obstacle) (near surface sun xs ws) ws x → smallestOf (base surface sun ys vs) (nears surface sun ys vs) ≼ x
+    of-near : (x : Float) → Extent (ofKind Obstacle) (near surface sun xs ws) ws x → smallestOf (base surface sun ys vs) (nears surface sun ys vs) ≼ x
     unfolding nears
     of-near x e =
         rw (e .value)
         (le-trans
-        (least-bound (near surface sun ys vs (e .object)) (List·Memᴰ·tail (extents-into (ofKind obstacle) (near surface sun ys vs) vs (e .object) (k (e .object) (e .member)) (e .of-kind))))
+        (least-bound (near surface sun ys vs (e .object)) (List·Memᴰ·tail (extents-into (ofKind Obstacle) (near surface sun ys vs) vs (e .object) (k (e .object) (e .member)) (e .of-kind))))
         (near-falls-by (e .object) (e .member) (e .of-kind)))
 
     of-any : (x : Float) → (x ≡ base surface sun xs ws) ⊎ List·Memᴰ x (nears surface sun xs ws) → smallestOf (base surface sun ys vs) (nears surface sun ys vs) ≼ x
     unfolding nears
     of-any x (inl e) = rw e (le-trans (least-bound (base surface sun ys vs) (List·Memᴰ·head refl)) base-falls)
-    of-any x (inr m) = of-near x (extents-from (ofKind obstacle) (near surface sun xs ws) ws x m)
+    of-any x (inr m) = of-near x (extents-from (ofKind Obstacle) (near surface sun xs ws) ws x m)
 
     -- a list that holds all objects of another gives no larger a factor
     pub factor-more-objects : reductionFactor surface sun ys vs ≼ reductionFactor surface sun xs ws

@@ -10,9 +10,10 @@ use Rattle.doubles.proofs.Order.{lt-excludes}
 use Rattle.doubles.proofs.Exact.{sub-zero-same, div-self}
 use Rattle.doubles.proofs.Bounds.{positive-nonzero}
 use Rattle.objects.specs.declared.surface.Surface.{Surface}
-use Rattle.shading.specs.Factor.{Sun, extents, obstacleExtents, overhangExtents, windowOverhangExtents, rightFinExtents, leftFinExtents, overhangShade, sunlitBetween, sunlitHeight, sunlitWidth, sunlitPart, leastOf, reductionFactor}
-use Rattle.shading_laws.specs.Comparison.{AcceptedSurface}
-use Rattle.shading_laws.proofs.Steps.{Side, side-positive, side-nonneg, part, area-positive, area-finite}
+use Rattle.shading.specs.declared.sun_on_surface.SunOnSurface.{SunOnSurface}
+use Rattle.shading.specs.Factor.{extents, obstacleExtents, overhangExtents, windowOverhangExtents, rightFinExtents, leftFinExtents, overhangShade, sunlitBetween, sunlitHeight, sunlitWidth, sunlitPart, leastOf, reductionFactor}
+use Rattle.shading_laws.specs.Premises.{AcceptedSurface}
+use Rattle.shading_laws.proofs.Sides.{Side, side-positive, side-nonneg, part, area-positive, area-finite}
 use Rattle.shading_laws.proofs.Bounds.{height-side, width-side}
 
 not-negative : {side : Float} → Side side → lt side (whole 0) ≡ false
@@ -38,7 +39,7 @@ all-of-it : {height width : Float} → Side height → Side width → part heigh
 unfolding part
 all-of-it h w = div-self (area-finite h w) (positive-nonzero (area-positive h w))
 
-module _ (surface : Surface) (a : AcceptedSurface surface) (sun : Sun) where
+module _ (surface : Surface) (a : AcceptedSurface surface) (sun : SunOnSurface) where
   no-overhang : overhangShade surface sun [] [] ≡ whole 0
   unfolding overhangShade overhangExtents windowOverhangExtents extents largestOf
   no-overhang = no-shade (height-side a)

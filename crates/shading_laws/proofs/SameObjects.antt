@@ -13,10 +13,12 @@ use Rattle.doubles.proofs.Ranges.{Between}
 use Rattle.objects.specs.declared.surface.Surface.{Surface}
 use Rattle.objects.specs.declared.sectors.ShadingObject.{ShadingObject}
 use Rattle.objects.specs.declared.window.WindowShadingObject.{WindowShadingObject}
-use Rattle.objects.specs.Objects.{ofKind, obstacle}
-use Rattle.shading.specs.Factor.{Sun, obstacleExtents, rightFinExtents, leftFinExtents, overhangShade, sunlitBetween, sunlitHeight, sunlitWidth, sunlitPart, reductionFactor}
-use Rattle.shading_laws.specs.Comparison.{AcceptedSurface, NoNanExtent, AcceptedNear, Holds}
-use Rattle.shading_laws.proofs.Steps.{Side, side-positive, side-finite, area-positive, part, nearHeight, near-shape, covered-between, through-between}
+use Rattle.objects.specs.declared.window.WindowShadingType.the-variants.{Obstacle}
+use Rattle.objects.specs.Objects.{ofKind}
+use Rattle.shading.specs.declared.sun_on_surface.SunOnSurface.{SunOnSurface}
+use Rattle.shading.specs.Factor.{obstacleExtents, rightFinExtents, leftFinExtents, overhangShade, sunlitBetween, sunlitHeight, sunlitWidth, sunlitPart, reductionFactor}
+use Rattle.shading_laws.specs.Premises.{AcceptedSurface, NoNanExtent, AcceptedNear, Holds}
+use Rattle.shading_laws.proofs.Sides.{Side, side-positive, side-finite, area-positive, part, nearHeight, near-shape, covered-between, through-between}
 use Rattle.shading_laws.proofs.Members.{Extent, extents-from}
 use Rattle.shading_laws.proofs.Bounds.{height-side, width-side, base, near, nears, near-shade-between, near-factor-is, overhang-between, factor-is}
 use Rattle.shading_laws.proofs.Doubles.{factor-fits}
@@ -39,7 +41,7 @@ near-height-unsigned {height} {a} {o} {t} H b c d =
     subst Unsigned (sym (near-shape H t (b .low) (c .low)))
     (add-unsigned (remains-unsigned a o H) (through-between H (covered-between H b c) d .low))
 
-module _ {surface : Surface} {sun : Sun} {xs : List ShadingObject} {ws : List WindowShadingObject}
+module _ {surface : Surface} {sun : SunOnSurface} {xs : List ShadingObject} {ws : List WindowShadingObject}
     (a : AcceptedSurface surface) (n : NoNanExtent surface sun xs ws) (b : AcceptedNear ws) where
   width-unsigned : Unsigned (sunlitWidth surface sun ws)
   unfolding sunlitWidth sunlitBetween
@@ -56,7 +58,7 @@ module _ {surface : Surface} {sun : Sun} {xs : List ShadingObject} {ws : List Wi
   unfolding base sunlitPart part
   base-unsigned = part-unsigned (height-side a) (width-side a) height-unsigned width-unsigned
 
-  near-unsigned : (o : WindowShadingObject) → List·Memᴰ o ws → T (ofKind obstacle o) → Unsigned (near surface sun xs ws o)
+  near-unsigned : (o : WindowShadingObject) → List·Memᴰ o ws → T (ofKind Obstacle o) → Unsigned (near surface sun xs ws o)
   unfolding near
   near-unsigned o m t =
       subst Unsigned (sym (near-factor-is surface sun (overhangShade surface sun xs ws) (sunlitWidth surface sun ws) o))
@@ -69,7 +71,7 @@ module _ {surface : Surface} {sun : Sun} {xs : List ShadingObject} {ws : List Wi
   unfolding nears
   any-unsigned x (inl e) = subst Unsigned (sym e) base-unsigned
   any-unsigned x (inr m) =
-      let e : Extent (ofKind obstacle) (near surface sun xs ws) ws x = extents-from (ofKind obstacle) (near surface sun xs ws) ws x m in
+      let e : Extent (ofKind Obstacle) (near surface sun xs ws) ws x = extents-from (ofKind Obstacle) (near surface sun xs ws) ws x m in
       subst Unsigned (sym (e .value)) (near-unsigned (e .object) (e .member) (e .of-kind))
 
   -- the factor is never −0.0
@@ -79,7 +81,7 @@ module _ {surface : Surface} {sun : Sun} {xs : List ShadingObject} {ws : List Wi
       (any-unsigned (smallestOf (base surface sun xs ws) (nears surface sun xs ws)) (List·Memᴰ·cases-cons (smallest-member (base surface sun xs ws) (nears surface sun xs ws))))
 
 -- the same objects, in any order and number
-pub factor-same-objects : {surface : Surface} {sun : Sun} {xs ys : List ShadingObject} {ws vs : List WindowShadingObject}
+pub factor-same-objects : {surface : Surface} {sun : SunOnSurface} {xs ys : List ShadingObject} {ws vs : List WindowShadingObject}
     → AcceptedSurface surface → NoNanExtent surface sun xs ws → NoNanExtent surface sun ys vs → AcceptedNear ws → AcceptedNear vs
     → Holds ys xs → Holds xs ys → Holds vs ws → Holds ws vs → reductionFactor surface sun xs ws ≡ reductionFactor surface sun ys vs
 factor-same-objects {surface} {sun} {xs} {ys} {ws} {vs} a n m b c h h′ k k′ =

@@ -1,1 +1,1 @@
-pub mod Comparison
+pub mod Premises

@@ -1,9 +1,10 @@
 -- `pilgartze_factor` meets its contract.
-use mathlib.Core.Path.{_∙_, ap}
-use Rattle.pilgartze.specs.Answers.{factorFor}
 use borrow.Author.Needs.{needs}
 use Rattle.pilgartze.proofs.pilgartze_factor.Statement.{statement}
 use Rattle.pilgartze.proofs.pilgartze_factor.Tie as tie
+
+surface-of-requires : tie.Need-surface-of-requires
+surface-of-requires c κs = search needs
 
 factor-call-requires : tie.Need-factor-call-requires
 factor-call-requires c κs = search needs
@@ -12,7 +13,7 @@ factor-for-requires : tie.Need-factor-for-requires
 factor-for-requires c κs = search needs
 
 returns : tie.Need-returns
-returns c = c .factor-for .ensures ∙ ap factorFor (c .before .factor-call .ensures)
+returns c = rw (c .factor-for .ensures, c .before .factor-call .ensures, c .before .before .surface-of .ensures)
 
 pub pilgartze-factor-spec : {M : Type 1} → statement M
-pilgartze-factor-spec = tie.close (tie.spec factor-call-requires factor-for-requires returns)
+pilgartze-factor-spec = tie.close (tie.spec surface-of-requires factor-call-requires factor-for-requires returns)

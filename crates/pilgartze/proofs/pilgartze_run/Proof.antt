@@ -1,10 +1,17 @@
 -- `pilgartze_run` meets its contract.
 use mathlib.Core.Path.{_∙_, ap}
+use denote.Floats.{passes}
 use mir.Facts.{toZ-ofZ}
-use Rattle.pilgartze.specs.Answers.{answerFor}
+use Rattle.pilgartze.specs.Answers.{answerFor, runLeaves}
 use borrow.Author.Needs.{needs}
 use Rattle.pilgartze.proofs.pilgartze_run.Statement.{statement}
 use Rattle.pilgartze.proofs.pilgartze_run.Tie as tie
+
+site-of-requires : tie.Need-site-of-requires
+site-of-requires c κs = search needs
+
+surface-of-requires : tie.Need-surface-of-requires
+surface-of-requires c κs = search needs
 
 run-job-requires : tie.Need-run-job-requires
 run-job-requires c κs = search needs
@@ -16,9 +23,20 @@ same-length : tie.Need-same-length
 same-length c = search needs
 
 returns : tie.Need-returns
+unfolding runLeaves
 returns c =
-    let e = rw (toZ-ofZ (c .before .before .before .before .before .before .before .before .before .before .before .fits .timezone)) at (c .before .before .before .run-job .ensures) in
-    (c .answer-for .ensures ∙ ap (λ x. answerFor (x .answer)) e, ap (λ x. x .results) e)
+    let s = c .before .before .before .before .before in
+    let passed = s .before .before .before .before .before .before .before .before .good .1 .1 .1 .1 .1 .1 .1 .1 .1 .1 .1 .1 in
+    let e = rw (s .surface-of .ensures, s .before .site-of .ensures, toZ-ofZ (s .before .before .before .before .before .before .before .before .fits .timezone)) at (c .before .before .before .run-job .ensures) in
+    let answer = c .answer-for .ensures ∙ ap (λ x. answerFor (x .answer)) e in
+    let results = ap (λ x. x .results) e in (
+      λ i. (answer i, results i),
+      record {
+        base-fits = record { holds = passes _ (passed .0 .1) };
+        height-fits = record { holds = passes _ (passed .1 .0 .1) };
+        width-fits = record { holds = passes _ (passed .1 .1 .0 .1) };
+      },
+    )
 
 pub pilgartze-run-spec : {M : Type 1} → statement M
-pilgartze-run-spec = tie.close (tie.spec run-job-requires answer-for-requires same-length returns)
+pilgartze-run-spec = tie.close (tie.spec site-of-requires surface-of-requires run-job-requires answer-for-requires same-length returns)

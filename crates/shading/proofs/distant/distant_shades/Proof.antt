@@ -7,7 +7,6 @@ use Rattle.doubles.specs.Arithmetic.{whole}
 use Rattle.doubles.specs.Functions.{largestOf}
 use Rattle.objects.specs.Objects.{counted}
 use Rattle.shading.specs.Factor.{obstacleExtents, overhangExtents}
-use Rattle.shading.specs.Steps.{sunOf}
 use Rattle.words.proofs.Lists.{unmapped}
 use Rattle.shading.proofs.Loops.{obstacle-end, overhang-end, obstacle-next, overhang-next, counted-first, at-end}
 use Rattle.shading.proofs.distant.distant_shades.Statement.{statement}
@@ -17,8 +16,8 @@ abbrev Inv-loop : tie.InvT-loop
 Inv-loop surface sun objects n shades₀ i₀ shades i =
     (i ≤ n)
     × (n ≤ 8)
-    × (largestOf (shades .obstacle) (obstacleExtents surface (sunOf sun) (drop i (take n objects))) ≡ largestOf (whole 0) (obstacleExtents surface (sunOf sun) (take n objects)))
-    × (largestOf (shades .overhang) (overhangExtents surface (sunOf sun) (drop i (take n objects))) ≡ largestOf (whole 0) (overhangExtents surface (sunOf sun) (take n objects)))
+    × (largestOf (shades .obstacle) (obstacleExtents surface sun (drop i (take n objects))) ≡ largestOf (whole 0) (obstacleExtents surface sun (take n objects)))
+    × (largestOf (shades .overhang) (overhangExtents surface sun (drop i (take n objects))) ≡ largestOf (whole 0) (overhangExtents surface sun (take n objects)))
 
 abbrev μ-loop : tie.MeasureT-loop
 μ-loop surface sun objects n shades₀ i₀ shades i = n - i
@@ -61,8 +60,8 @@ loop-again c =
     let fits : n ≤ length objects = omega arith in (
       omega arith,
       omega arith,
-      rw (c .with-object .ensures) (obstacle-next (a .surface) (sunOf (a .sun)) (b .loop .shades) objects n i _ below fits ∙ b .loop .inv .2),
-      rw (c .with-object .ensures) (overhang-next (a .surface) (sunOf (a .sun)) (b .loop .shades) objects n i _ below fits ∙ b .loop .inv .3),
+      rw (c .with-object .ensures) (obstacle-next (a .surface) (a .sun) (b .loop .shades) objects n i _ below fits ∙ b .loop .inv .2),
+      rw (c .with-object .ensures) (overhang-next (a .surface) (a .sun) (b .loop .shades) objects n i _ below fits ∙ b .loop .inv .3),
     )
 
 returns : tie.Need-returns Inv-loop μ-loop
@@ -76,8 +75,8 @@ returns c =
     let first = counted-first objects (a .segment .count) 8 n size (b .before .counted-places .ensures) in
     let done : b .loop .i ≡ length (take n objects) = at-end n (b .loop .i) objects (omega arith) (omega arith) in
     rw (← first) (
-      sym (obstacle-end (a .surface) (sunOf (a .sun)) (b .loop .shades .obstacle) (take n objects) (b .loop .i) done) ∙ b .loop .inv .2,
-      sym (overhang-end (a .surface) (sunOf (a .sun)) (b .loop .shades .overhang) (take n objects) (b .loop .i) done) ∙ b .loop .inv .3,
+      sym (obstacle-end (a .surface) (a .sun) (b .loop .shades .obstacle) (take n objects) (b .loop .i) done) ∙ b .loop .inv .2,
+      sym (overhang-end (a .surface) (a .sun) (b .loop .shades .overhang) (take n objects) (b .loop .i) done) ∙ b .loop .inv .3,
     )
 
 pub distant-shades-spec : {M : Type 1} → statement M

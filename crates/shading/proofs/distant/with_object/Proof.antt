@@ -1,4 +1,4 @@
-use Rattle.shading.specs.Steps.{sunOf, distantStep}
+use Rattle.shading.specs.ObjectSteps.{distantStep}
 use borrow.Author.Needs.{needs}
 use Rattle.shading.proofs.distant.with_object.Statement.{statement}
 use Rattle.shading.proofs.distant.with_object.Tie as tie
@@ -22,11 +22,11 @@ max-of-2-requires-2 : tie.Need-max-of-2-requires-2
 max-of-2-requires-2 c κs = search needs
 
 returns : tie.Need-returns
-unfolding distantStep sunOf
+unfolding distantStep
 returns c = rw (c .before .before .enum-told .given .1, c .max-of-2 .ensures, c .before .obstacle-shading-height .ensures)
 
 returns-2 : tie.Need-returns-2
-unfolding distantStep sunOf
+unfolding distantStep
 returns-2 c = rw (c .before .before .enum-told2 .given .1, c .max-of-22 .ensures, c .before .overhang-shading-height .ensures)
 
 pub with-object-spec : {M : Type 1} → statement M

@@ -2,7 +2,6 @@ use mathlib.Core.Path.{_≡_, ap}
 use Rattle.objects.specs.declared.answers.FactorAnswer.the-variants.{Factor}
 use Rattle.objects.specs.Objects.{counted, placed}
 use Rattle.shading.specs.Factor.{factorIn, reductionFactor, overhangShade, sunlitHeight, sunlitWidth}
-use Rattle.shading.specs.Steps.{sunOf}
 use Rattle.doubles.proofs.Lists.{largest-append}
 use Rattle.shading.proofs.factor.factor_in.Statement.{statement}
 use Rattle.shading.proofs.factor.factor_in.Tie as tie
@@ -42,7 +41,7 @@ least-factor-requires : tie.Need-least-factor-requires
 least-factor-requires c κs = tt
 
 -- the factor, part by part
-reduced : (c : tie.After-least-factor) → c .least-factor .result ≡ reductionFactor (c .before .before .before .before .before .before .before .before .before .before .before .args .surface) (sunOf (c .before .before .before .before .before .before .before .before .before .before .before .args .sun)) (counted (c .before .before .before .before .before .before .before .before .before .before .before .args .segment)) (placed (c .before .before .before .before .before .before .before .before .before .before .before .args .window))
+reduced : (c : tie.After-least-factor) → c .least-factor .result ≡ reductionFactor (c .before .before .before .before .before .before .before .before .before .before .before .args .surface) (c .before .before .before .before .before .before .before .before .before .before .before .args .sun) (counted (c .before .before .before .before .before .before .before .before .before .before .before .args .segment)) (placed (c .before .before .before .before .before .before .before .before .before .before .before .args .window))
 unfolding reductionFactor overhangShade sunlitHeight sunlitWidth
 reduced c =
     let w = c .before .before .before .before .before .before .before .before .before .window-shades .ensures in

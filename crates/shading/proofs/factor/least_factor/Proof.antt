@@ -2,9 +2,9 @@ use mathlib.Core.Path.{_≡_, refl, sym, _∙_}
 use Prim.Native.Nat.{_≤_, _-_}
 use native.Mathlib.Omega.{arith}
 use lib.ListN.{length, take, drop}
-use Rattle.objects.specs.Objects.{ofKind, obstacle, placed}
+use Rattle.objects.specs.declared.window.WindowShadingType.the-variants.{Obstacle}
+use Rattle.objects.specs.Objects.{ofKind, placed}
 use Rattle.shading.specs.Factor.{leastOf, extents, nearFactor}
-use Rattle.shading.specs.Steps.{sunOf}
 use Rattle.words.proofs.Lists.{unmapped}
 use Rattle.shading.proofs.Loops.{counted-first, at-end, near-next, near-end}
 use Rattle.shading.proofs.factor.least_factor.Statement.{statement}
@@ -14,8 +14,8 @@ abbrev Inv-loop : tie.InvT-loop
 Inv-loop first surface sun hk-ovh wk-sun objects n factor₀ i₀ factor i =
     (i ≤ n)
     × (n ≤ 16)
-    × (leastOf factor (extents (ofKind obstacle) (nearFactor surface (sunOf sun) hk-ovh wk-sun) (drop i (take n objects)))
-    ≡ leastOf first (extents (ofKind obstacle) (nearFactor surface (sunOf sun) hk-ovh wk-sun) (take n objects)))
+    × (leastOf factor (extents (ofKind Obstacle) (nearFactor surface sun hk-ovh wk-sun) (drop i (take n objects)))
+    ≡ leastOf first (extents (ofKind Obstacle) (nearFactor surface sun hk-ovh wk-sun) (take n objects)))
 
 abbrev μ-loop : tie.MeasureT-loop
 μ-loop first surface sun hk-ovh wk-sun objects n factor₀ i₀ factor i = n - i
@@ -55,7 +55,7 @@ loop-again c =
     let size : length objects ≡ 16 = sixteen (b .before .before .before) in (
       omega arith,
       omega arith,
-      rw (c .with-object .ensures) (near-next (nearFactor (a .surface) (sunOf (a .sun)) (a .hk-ovh) (a .wk-sun)) (b .loop .factor) objects n i _ (omega arith) (omega arith) ∙ b .loop .inv .2),
+      rw (c .with-object .ensures) (near-next (nearFactor (a .surface) (a .sun) (a .hk-ovh) (a .wk-sun)) (b .loop .factor) objects n i _ (omega arith) (omega arith) ∙ b .loop .inv .2),
     )
 
 returns : tie.Need-returns Inv-loop μ-loop
@@ -69,7 +69,7 @@ returns c =
     let size : length objects ≡ 16 = sixteen (b .before .before .before) in
     let counted = counted-first objects (a .window .count) 16 n size (b .before .counted-places .ensures) in
     let done : i ≡ length (take n objects) = at-end n i objects (omega arith) (omega arith) in
-    rw (← counted) (sym (near-end (nearFactor (a .surface) (sunOf (a .sun)) (a .hk-ovh) (a .wk-sun)) (b .loop .factor) objects n i done) ∙ b .loop .inv .2)
+    rw (← counted) (sym (near-end (nearFactor (a .surface) (a .sun) (a .hk-ovh) (a .wk-sun)) (b .loop .factor) objects n i done) ∙ b .loop .inv .2)
 
 pub least-factor-spec : {M : Type 1} → statement M
 least-factor-spec =

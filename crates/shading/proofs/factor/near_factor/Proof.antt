@@ -1,6 +1,5 @@
 use lib.Ieee.{ofBits}
 use Rattle.shading.specs.Factor.{nearFactor}
-use Rattle.shading.specs.Steps.{sunOf}
 use Rattle.shading.proofs.factor.near_factor.Statement.{statement}
 use Rattle.shading.proofs.factor.near_factor.Tie as tie
 
@@ -20,7 +19,7 @@ sunlit-part-requires : tie.Need-sunlit-part-requires
 sunlit-part-requires c κs = tt
 
 returns : tie.Need-returns
-unfolding nearFactor sunOf ofBits
+unfolding nearFactor ofBits
 returns c = rw (c .sunlit-part .ensures, c .before .before .float-min2 .ensures, c .before .before .before .before .float-max .ensures, c .before .before .before .before .before .before .float-min .ensures, c .before .before .before .before .before .before .before .obstacle-shading-height .ensures)
 
 pub near-factor-spec : {M : Type 1} → statement M

@@ -1,6 +1,5 @@
 use Rattle.angles.specs.Sine.{tangent}
 use Rattle.shading.specs.Factor.{sunOn}
-use Rattle.shading.specs.Steps.{sunOf}
 use Rattle.shading.proofs.sun_on_surface.sun_on.Statement.{statement}
 use Rattle.shading.proofs.sun_on_surface.sun_on.Tie as tie
 
@@ -20,7 +19,7 @@ tan-requires : tie.Need-tan-requires
 tan-requires c κs = tt
 
 returns : tie.Need-returns
-unfolding sunOf sunOn tangent
+unfolding sunOn tangent
 returns c =
     let both = c .before .before .before .sin-cos .ensures in
     rw (c .before .tan .ensures, c .before .before .to-radians2 .ensures, both .0, both .1, c .before .before .before .before .to-radians .ensures, c .before .before .before .before .before .transform-to-180 .ensures)

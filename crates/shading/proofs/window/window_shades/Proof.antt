@@ -8,7 +8,6 @@ use Rattle.doubles.specs.Arithmetic.{whole}
 use Rattle.doubles.specs.Functions.{largestOf}
 use Rattle.objects.specs.Objects.{placed}
 use Rattle.shading.specs.Factor.{windowOverhangExtents, rightFinExtents, leftFinExtents, hasReveal}
-use Rattle.shading.specs.Steps.{sunOf}
 use Rattle.words.proofs.Lists.{unmapped}
 use Rattle.shading.proofs.Loops.{counted-first, at-end, window-overhang-next, right-next, left-next, reveal-next, window-overhang-end, right-end, left-end, reveal-end}
 use Rattle.shading.proofs.window.window_shades.Statement.{statement}
@@ -18,9 +17,9 @@ abbrev Inv-loop : tie.InvT-loop
 Inv-loop sun overhang objects n shades₀ i₀ shades i =
     (i ≤ n)
     × (n ≤ 16)
-    × (largestOf (shades .overhang) (windowOverhangExtents (sunOf sun) (drop i (take n objects))) ≡ largestOf overhang (windowOverhangExtents (sunOf sun) (take n objects)))
-    × (largestOf (shades .right) (rightFinExtents (sunOf sun) (drop i (take n objects))) ≡ largestOf (whole 0) (rightFinExtents (sunOf sun) (take n objects)))
-    × (largestOf (shades .left) (leftFinExtents (sunOf sun) (drop i (take n objects))) ≡ largestOf (whole 0) (leftFinExtents (sunOf sun) (take n objects)))
+    × (largestOf (shades .overhang) (windowOverhangExtents sun (drop i (take n objects))) ≡ largestOf overhang (windowOverhangExtents sun (take n objects)))
+    × (largestOf (shades .right) (rightFinExtents sun (drop i (take n objects))) ≡ largestOf (whole 0) (rightFinExtents sun (take n objects)))
+    × (largestOf (shades .left) (leftFinExtents sun (drop i (take n objects))) ≡ largestOf (whole 0) (leftFinExtents sun (take n objects)))
     × (shades .reveal || hasReveal (drop i (take n objects)) ≡ hasReveal (take n objects))
 
 abbrev μ-loop : tie.MeasureT-loop
@@ -65,10 +64,10 @@ loop-again c =
     let shades = b .loop .shades in (
       omega arith,
       omega arith,
-      rw (c .with-object .ensures) (window-overhang-next (sunOf (a .sun)) shades objects n i _ below fits ∙ b .loop .inv .2),
-      rw (c .with-object .ensures) (right-next (sunOf (a .sun)) shades objects n i _ below fits ∙ b .loop .inv .3),
-      rw (c .with-object .ensures) (left-next (sunOf (a .sun)) shades objects n i _ below fits ∙ b .loop .inv .4),
-      rw (c .with-object .ensures) (reveal-next (sunOf (a .sun)) shades objects n i _ below fits ∙ b .loop .inv .5),
+      rw (c .with-object .ensures) (window-overhang-next (a .sun) shades objects n i _ below fits ∙ b .loop .inv .2),
+      rw (c .with-object .ensures) (right-next (a .sun) shades objects n i _ below fits ∙ b .loop .inv .3),
+      rw (c .with-object .ensures) (left-next (a .sun) shades objects n i _ below fits ∙ b .loop .inv .4),
+      rw (c .with-object .ensures) (reveal-next (a .sun) shades objects n i _ below fits ∙ b .loop .inv .5),
     )
 
 returns : tie.Need-returns Inv-loop μ-loop
@@ -84,9 +83,9 @@ returns c =
     let done : i ≡ length (take n objects) = at-end n i objects (omega arith) (omega arith) in
     let shades = b .loop .shades in
     rw (← first) (
-      sym (window-overhang-end (sunOf (a .sun)) (shades .overhang) (take n objects) i done) ∙ b .loop .inv .2,
-      sym (right-end (sunOf (a .sun)) (shades .right) (take n objects) i done) ∙ b .loop .inv .3,
-      sym (left-end (sunOf (a .sun)) (shades .left) (take n objects) i done) ∙ b .loop .inv .4,
+      sym (window-overhang-end (a .sun) (shades .overhang) (take n objects) i done) ∙ b .loop .inv .2,
+      sym (right-end (a .sun) (shades .right) (take n objects) i done) ∙ b .loop .inv .3,
+      sym (left-end (a .sun) (shades .left) (take n objects) i done) ∙ b .loop .inv .4,
       sym (reveal-end (shades .reveal) (take n objects) i done) ∙ b .loop .inv .5,
     )
 

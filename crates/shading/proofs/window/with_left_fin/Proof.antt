@@ -1,4 +1,4 @@
-use Rattle.shading.specs.Steps.{withLeftFin}
+use Rattle.shading.specs.ObjectSteps.{withLeftFin}
 use borrow.Author.Needs.{needs}
 use Rattle.shading.proofs.window.with_left_fin.Statement.{statement}
 use Rattle.shading.proofs.window.with_left_fin.Tie as tie

@@ -1,4 +1,4 @@
-use Rattle.shading.specs.Steps.{sunOf, withOverhang, withRightFin, withLeftFin, windowStep}
+use Rattle.shading.specs.ObjectSteps.{withOverhang, withRightFin, withLeftFin, windowStep}
 use borrow.Author.Needs.{needs}
 use Rattle.shading.proofs.window.with_object.Statement.{statement}
 use Rattle.shading.proofs.window.with_object.Tie as tie
@@ -37,23 +37,23 @@ enum-told-5 : tie.Need-enum-told-5
 enum-told-5 c = search needs
 
 returns : tie.Need-returns
-unfolding windowStep sunOf
+unfolding windowStep
 returns c = rw (c .enum-told .given .1)
 
 returns-2 : tie.Need-returns-2
-unfolding windowStep sunOf withOverhang
+unfolding windowStep withOverhang
 returns-2 c = rw (c .before .before .enum-told2 .given .1, c .with-overhang .ensures, c .before .window-overhang-height .ensures)
 
 returns-3 : tie.Need-returns-3
-unfolding windowStep sunOf withRightFin
+unfolding windowStep withRightFin
 returns-3 c = rw (c .before .before .enum-told3 .given .1, c .with-right-fin .ensures, c .before .right-fin-width .ensures)
 
 returns-4 : tie.Need-returns-4
-unfolding windowStep sunOf withLeftFin
+unfolding windowStep withLeftFin
 returns-4 c = rw (c .before .before .enum-told4 .given .1, c .with-left-fin .ensures, c .before .left-fin-width .ensures)
 
 returns-5 : tie.Need-returns-5
-unfolding windowStep sunOf
+unfolding windowStep
 returns-5 c = rw (c .enum-told5 .given .1)
 
 pub with-object-spec : {M : Type 1} → statement M

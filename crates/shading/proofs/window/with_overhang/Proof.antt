@@ -1,4 +1,4 @@
-use Rattle.shading.specs.Steps.{withOverhang}
+use Rattle.shading.specs.ObjectSteps.{withOverhang}
 use borrow.Author.Needs.{needs}
 use Rattle.shading.proofs.window.with_overhang.Statement.{statement}
 use Rattle.shading.proofs.window.with_overhang.Tie as tie

@@ -1,4 +1,4 @@
-use Rattle.shading.specs.Steps.{withRightFin}
+use Rattle.shading.specs.ObjectSteps.{withRightFin}
 use borrow.Author.Needs.{needs}
 use Rattle.shading.proofs.window.with_right_fin.Statement.{statement}
 use Rattle.shading.proofs.window.with_right_fin.Tie as tie

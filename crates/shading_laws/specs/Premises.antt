@@ -11,11 +11,13 @@ use Rattle.objects.specs.declared.surface.Surface.{Surface}
 use Rattle.objects.specs.declared.sectors.ShadingObject.{ShadingObject}
 use Rattle.objects.specs.declared.sectors.ShadingSegment.{ShadingSegment}
 use Rattle.objects.specs.declared.window.WindowShadingObject.{WindowShadingObject}
-use Rattle.extents.specs.Extents.{outsideSolarBeam}
+use Rattle.beam.specs.Beam.{outsideSolarBeam}
 use Rattle.segments.specs.Segments.{found, segmentOf}
 use Rattle.segments.specs.SameSectors.{SameBounds}
-use Rattle.objects.specs.Objects.{counted, ofKind, obstacle}
-use Rattle.shading.specs.Factor.{Sun, sunOn, nearObstacleHeight, obstacleExtents, overhangExtents, windowOverhangExtents, rightFinExtents, leftFinExtents}
+use Rattle.objects.specs.declared.window.WindowShadingType.the-variants.{Obstacle}
+use Rattle.objects.specs.Objects.{counted, ofKind}
+use Rattle.shading.specs.declared.sun_on_surface.SunOnSurface.{SunOnSurface}
+use Rattle.shading.specs.Factor.{sunOn, nearObstacleHeight, obstacleExtents, overhangExtents, windowOverhangExtents, rightFinExtents, leftFinExtents}
 
 -- an accepted surface: height and width from 0.001 to 1000, base height from 0 to 1000, each a double
 pub record AcceptedSurface (surface : Surface) : Type 0 where
@@ -34,23 +36,24 @@ abbrev pub AllNumbers : List Float → Type 0
 AllNumbers xs = (x : Float) → List·Memᴰ x xs → Number x
 
 -- no shade extent is NaN
-pub record NoNanExtent (surface : Surface) (sun : Sun) (distants : List ShadingObject) (window : List WindowShadingObject) : Type 0 where
+pub record NoNanExtent (surface : Surface) (sun : SunOnSurface) (distants : List ShadingObject) (window : List WindowShadingObject) : Type 0 where
   pub obstacles : AllNumbers (obstacleExtents surface sun distants)
   pub overhangs : AllNumbers (overhangExtents surface sun distants)
   pub window-overhangs : AllNumbers (windowOverhangExtents sun window)
   pub right-fins : AllNumbers (rightFinExtents sun window)
   pub left-fins : AllNumbers (leftFinExtents sun window)
-  pub near-obstacles : (o : WindowShadingObject) → List·Memᴰ o window → T (ofKind obstacle o) → Number (nearObstacleHeight surface sun o)
+  pub near-obstacles : (o : WindowShadingObject) → List·Memᴰ o window → T (ofKind Obstacle o) → Number (nearObstacleHeight surface sun o)
 
 -- no shade extent at a step is NaN: those are computed inside the beam, of the sector that is found
 pub record NoNanAt (surface : Surface) (altitude azimuth : Float) (sectors : List ShadingSegment) (window : List WindowShadingObject) : Type 0 where
-  pub at-found : outsideSolarBeam (surface .tilt) (surface .orientation) altitude azimuth ≡ false → (s : ShadingSegment) → segmentOf azimuth sectors ≡ found s
+  pub at-found : outsideSolarBeam (surface .tilt) (surface .orientation) altitude azimuth ≡ false
+      → (s : ShadingSegment) → segmentOf azimuth sectors ≡ found s
       → NoNanExtent surface (sunOn surface altitude azimuth) (counted s) window
 
 -- every near obstacle's transparency is from 0 to 1; −0.0 is in
 pub record AcceptedNear (window : List WindowShadingObject) : Type 0 where
-  pub transparency-from : (o : WindowShadingObject) → List·Memᴰ o window → T (ofKind obstacle o) → whole 0 ≼ o .transparency
-  pub transparency-to : (o : WindowShadingObject) → List·Memᴰ o window → T (ofKind obstacle o) → o .transparency ≼ whole 1
+  pub transparency-from : (o : WindowShadingObject) → List·Memᴰ o window → T (ofKind Obstacle o) → whole 0 ≼ o .transparency
+  pub transparency-to : (o : WindowShadingObject) → List·Memᴰ o window → T (ofKind Obstacle o) → o .transparency ≼ whole 1
 
 -- ys holds all objects of xs
 abbrev pub Holds : {Object : Type 0} → List Object → List Object → Type 0
