@@ -22,9 +22,9 @@ use Rattle.sun.specs.declared.hour.Hour.{Hour}
 use Rattle.days.specs.Day.{orbitDeviation, solarDeclination, equationOfTime, extraTerrestrialRadiation, dayOf}
 use Rattle.sun.specs.Hour.{sinCosOf, timeShift, solarTime, hourAngle, altitudeBy, solarZenith, azimuthBranch, azimuthBy, airMassBy, hourBy, hourOf}
 use Rattle.orientation.specs.Orientation.{orientation180, wrappedOnce}
-use Rattle.simulation_time.specs.Steps.{runFine, goesOn, stepsFrom, stepCount, timeAt, timesFrom, times}
+use Rattle.simulation_time.specs.Steps.{runFine, goesOn, stepsFrom, stepCount, timeAt, timesFrom, times, atAll}
 use Rattle.simulation_time.specs.Timestep.{currentHour, seriesIndex}
-use Rattle.simulation_time.specs.Checks.{hoursBelow, hoursFine, runAccepted}
+use Rattle.simulation_time.specs.RunChecks.{hourFine, hoursFine, runAccepted}
 use Rattle.objects.specs.declared.surface.Surface.{Surface}
 use Rattle.objects.specs.declared.sectors.ShadingObject.{ShadingObject}
 use Rattle.objects.specs.declared.sectors.ShadingSegment.{ShadingSegment}
@@ -41,7 +41,7 @@ use Rattle.shading_laws.specs.Comparison.{AllNumbers, NoNanExtent, Holds}
 use Rattle.jobs.specs.declared.answers.Checked.the-variants as check
 use Rattle.jobs.specs.Series.{inSeries, readSeries}
 use Rattle.jobs.specs.Job.{Job, indexAt, readingAt}
-use Rattle.jobs.specs.Checks.{siteFine, hoursInYear, atAll, indexFine, readingFine, resultsFine, tried, checked}
+use Rattle.jobs.specs.Checks.{siteFine, hoursInYear, indexFine, readingFine, resultsFine, tried, checked}
 use Rattle.jobs.specs.Step.{sunAt, shadingAt, rowWith, stepWith, stepAt}
 use Rattle.jobs.specs.Run.{numberFor, onRow, runFrom, runChecked, runOf}
 use Rattle.jobs.specs.Comparison.{factorAt, countOf, SameSeries, Alike, sectorCount, BoundedAlike, triple, sectorObjects, windowObjects, HoldsAll, NoNan, Doubles, IsAccepted, Comparable}
@@ -100,7 +100,7 @@ unfolding add sub mul div lt le neg eq ne isNan toUnsigned bits whole decimal of
 doubles = 0
 
 checks : ℕ
-unfolding lists doubles checked tried siteFine hoursInYear atAll indexFine readingFine resultsFine indexAt readingAt runAccepted runFine hoursFine hoursBelow times timesFrom
+unfolding lists doubles checked tried siteFine hoursInYear atAll indexFine readingFine resultsFine indexAt readingAt runAccepted runFine hoursFine hourFine times timesFrom
     stepCount stepsFrom goesOn currentHour seriesIndex within aboveZero surfaceFine firstFine recordsFine windowValuesFine windowRecordFine windowFine objectValuesFine objectFine
     objectUnused tripleFine boundsFine sectorRecordFine sectorsFine
 checks = 0

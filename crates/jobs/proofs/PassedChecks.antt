@@ -13,8 +13,8 @@ use lib.Ieee.Fits.{and-l, and-r}
 use Rattle.doubles.specs.Arithmetic.{whole}
 use Rattle.doubles.specs.Order.{_≼_}
 use Rattle.words.specs.Words.{wordCount}
-use Rattle.simulation_time.specs.Steps.{stepCount, timeAt, times}
-use Rattle.simulation_time.specs.Checks.{runAccepted}
+use Rattle.simulation_time.specs.Steps.{stepCount, timeAt, times, atAll}
+use Rattle.simulation_time.specs.RunChecks.{runAccepted}
 use Rattle.simulation_time.proofs.Times.{times-length, times-at}
 use Rattle.objects.specs.declared.answers.Refusal.{Refusal}
 use Rattle.objects.specs.declared.answers.Refusal.the-variants as refusal
@@ -26,7 +26,7 @@ use Rattle.object_checks.proofs.AcceptedWindow.{window-in-range}
 use Rattle.jobs.specs.declared.answers.Checked.{Checked}
 use Rattle.jobs.specs.declared.answers.Checked.the-variants.{Steps, Refused}
 use Rattle.jobs.specs.Job.{Job, readingAt}
-use Rattle.jobs.specs.Checks.{siteFine, hoursInYear, atAll, indexFine, readingFine, resultsFine, tried, checked}
+use Rattle.jobs.specs.Checks.{siteFine, hoursInYear, indexFine, readingFine, resultsFine, tried, checked}
 use Rattle.jobs.specs.Comparison.{Doubles}
 
 -- ---- the tests, one by one

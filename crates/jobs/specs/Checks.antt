@@ -1,7 +1,7 @@
 -- The checks before the first step (refusals 1 to 7), in number order. Ranges compare as numbers: −0.0 counts as 0, and NaN is in no
 -- range.
-use mathlib.Core.Bool.{Bool, true, cond, _&&_}
-use mathlib.Core.List.{List, [], _∷_}
+use mathlib.Core.Bool.{Bool, cond, _&&_}
+use mathlib.Core.List.{List}
 use Prim.Native.Nat.{ℕ, _*_}
 use lib.Dec.{leb, eqb}
 use lib.IntN.{pos, negℤ}
@@ -10,8 +10,8 @@ use lib.Ieee.{Float, neg}
 use Rattle.doubles.specs.Arithmetic.{whole, decimal}
 use Rattle.words.specs.Words.{wordCount}
 use Rattle.sun.specs.declared.site.Site.{Site}
-use Rattle.simulation_time.specs.Steps.{stepCount, times}
-use Rattle.simulation_time.specs.Checks.{runAccepted}
+use Rattle.simulation_time.specs.Steps.{stepCount, times, atAll}
+use Rattle.simulation_time.specs.RunChecks.{runAccepted}
 use Rattle.objects.specs.declared.answers.Refusal.{Refusal}
 use Rattle.objects.specs.declared.answers.Refusal.the-variants as refusal
 use Rattle.object_checks.specs.Checks.{within, surfaceFine, sectorsFine, windowFine}
@@ -42,11 +42,6 @@ unfoldable pub hoursInYear : Site → ℕ
 hoursInYear site = cond (eqb (site .«leap_year») 1) 8784 8760
 
 -- ---- 5 and 6: the series, at every step
-
--- a test passes at every time of a list
-unfoldable pub atAll : (Float → Bool) → List Float → Bool
-atAll test [] = true
-atAll test (time ∷ rest) = test time && atAll test rest
 
 -- the index is not past the end of any of the three lists
 unfoldable pub indexFine : Job → Float → Bool
