@@ -13,6 +13,7 @@ mod arguments;
 #[path = "../oracle/comparison.rs"]
 #[allow(dead_code)]
 mod comparison;
+#[allow(dead_code)]
 mod measure;
 #[path = "../oracle/pilgartze.rs"]
 #[allow(dead_code)]

@@ -3,6 +3,9 @@
 /// Rounds for each side; odd, so that there is a middle one.
 pub const ROUNDS: usize = 51;
 
+/// Rounds for one side by itself.
+const ROUNDS_ALONE: usize = 5;
+
 fn median(mut times: Vec<f64>) -> f64 {
     times.sort_by(f64::total_cmp);
     times[times.len() / 2]
@@ -56,6 +59,19 @@ pub fn medians(mut one: impl FnMut() -> f64, mut other: impl FnMut() -> f64) -> 
         }
     }
     (median(one_times), median(other_times))
+}
+
+/// The median of one side by itself, for `bench/compare`, which takes the turns. Its line has the name,
+/// the time and what the answers add up to, so that two libraries' can be held to each other.
+pub fn alone(name: &str, answers: f64, mut side: impl FnMut() -> f64) {
+    side(); // warms up
+    let times = (0..ROUNDS_ALONE).map(|_| side()).collect();
+    println!("{name}\t{}\t{:016X}", median(times), answers.to_bits());
+}
+
+/// Whether the program is asked for its own side alone.
+pub fn wants_alone() -> bool {
+    std::env::args().nth(1).as_deref() == Some("--alone")
 }
 
 /// Measures both sides and prints a line of the table: the medians and their ratio.

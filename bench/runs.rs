@@ -273,8 +273,28 @@ fn measure_quarter_hours(lists: Lists) {
     );
 }
 
+/// The library alone: a year, and a step by itself.
+fn measure_alone(lists: Lists) -> Result<(), String> {
+    let (year, hour) = (lists.year(1.0), lists.one_step());
+    let mut lent = Lent::new(&year, HOURS);
+    let (_, sum) = lent.run()?;
+    let name = format!("a year of hours, µs: {}", lists.name());
+    measure::alone(&name, sum, || rattle(&mut lent));
+    let mut lent = Lent::new(&hour, 1);
+    lent.step()?;
+    let factor = lent.rows()[0][5];
+    let name = format!("`pilgartze_step`, µs: {}", lists.name());
+    measure::alone(&name, factor, || {
+        repeated(|| black_box(black_box(&mut lent).step()).unwrap())
+    });
+    Ok(())
+}
+
 fn run() -> Result<(), String> {
     let (usual, heavy, none) = (Lists(36, 2, 4), Lists(36, 8, 16), Lists(1, 0, 0));
+    if measure::wants_alone() {
+        return [usual, heavy, none].into_iter().try_for_each(measure_alone);
+    }
     println!("| a run, beside the original form | Rattle, µs | Rust, µs | Rattle / Rust |");
     println!("|---|---:|---:|---:|");
     measure_year("a year of hours", usual, 1.0)?;

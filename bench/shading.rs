@@ -97,12 +97,41 @@ fn rattle(call: &Call) -> FactorAnswer {
     unsafe { factor_by(black_box(FACTOR), altitude, azimuth, &surface, shading) }
 }
 
-fn measure_calls(sectors: usize, objects: usize, near: usize) -> Result<(), String> {
+/// The calls of one line, with its name.
+fn calls_of(sectors: usize, objects: usize, near: usize) -> (String, Vec<Call>) {
     let name = format!("{sectors} × {objects} in sectors, {near} at the window");
     let altitude = |k: usize| 5.0 + 60.0 * k as f64 / CALLS as f64;
-    let calls: Vec<Call> = (0..CALLS)
-        .map(|k| scene(sectors, objects, near, altitude(k)))
-        .collect();
+    let calls = (0..CALLS).map(|k| scene(sectors, objects, near, altitude(k)));
+    (name, calls.collect())
+}
+
+/// Nanoseconds of one call by the library.
+fn nanoseconds(calls: &[Call]) -> f64 {
+    let all = measure::nanoseconds(|| {
+        calls.iter().for_each(|call| {
+            black_box(rattle(call));
+        })
+    });
+    all / CALLS as f64
+}
+
+/// The library alone.
+fn measure_alone(sectors: usize, objects: usize, near: usize) -> Result<(), String> {
+    let (name, calls) = calls_of(sectors, objects, near);
+    let mut sum = 0.0;
+    for call in &calls {
+        match rattle(call) {
+            FactorAnswer { number: 0, factor } => sum += factor,
+            _ => return Err(format!("{name}: refused\n{}", call.shown())),
+        }
+    }
+    let name = format!("a factor call, ns: {name}");
+    measure::alone(&name, sum, || nanoseconds(&calls));
+    Ok(())
+}
+
+fn measure_calls(sectors: usize, objects: usize, near: usize) -> Result<(), String> {
+    let (name, calls) = calls_of(sectors, objects, near);
     let mut judge = Judge::new();
     let mut rust = |call: &Call| {
         judge
@@ -118,13 +147,7 @@ fn measure_calls(sectors: usize, objects: usize, near: usize) -> Result<(), Stri
     let each = |time: f64| time / CALLS as f64;
     measure::line(
         &name,
-        || {
-            each(measure::nanoseconds(|| {
-                calls.iter().for_each(|call| {
-                    black_box(rattle(call));
-                })
-            }))
-        },
+        || nanoseconds(&calls),
         || {
             each(measure::nanoseconds(|| {
                 calls.iter().for_each(|call| {
@@ -137,6 +160,11 @@ fn measure_calls(sectors: usize, objects: usize, near: usize) -> Result<(), Stri
 }
 
 fn run() -> Result<(), String> {
+    if measure::wants_alone() {
+        measure_alone(36, 2, 4)?;
+        measure_alone(36, 8, 16)?;
+        return measure_alone(1, 0, 0);
+    }
     measure::heading("a factor call, its lists checked");
     for objects in [0, 1, 2, 4, 8] {
         measure_calls(1, objects, 0)?;

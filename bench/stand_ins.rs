@@ -7,6 +7,7 @@
 
 use std::hint::black_box;
 
+#[allow(dead_code)]
 mod measure;
 #[path = "../oracle/pilgartze.rs"]
 #[allow(dead_code)]

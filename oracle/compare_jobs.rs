@@ -94,9 +94,10 @@ fn run(arguments: &Arguments) -> Outcome {
         .jobs
         .unwrap_or((settings.count * 3).div_ceil(1000));
     println!("seed {}, {jobs} random jobs", settings.seed);
-    let edges = jobs::edges::edges();
+    let (edges, walks) = (jobs::edges::edges(), jobs::edges::walks());
     let plan = Plan {
         edges: &edges,
+        walks: &walks,
         jobs,
         years: YEARS,
         compared: true,

@@ -25,5 +25,7 @@ pub mod sanity;
 pub mod shading;
 #[path = "published/sun.rs"]
 pub mod sun;
+#[path = "published/walk.rs"]
+pub mod walk;
 #[path = "published/wrong.rs"]
 pub mod wrong;

@@ -68,7 +68,7 @@ static const char *wrong_words(const uint8_t *results, size_t length)
     return NULL;
 }
 
-static const char *wrong_row(soak *in, const pilgartze_row *row)
+static const char *wrong_row(soak *in, enum call call, const job *of, const pilgartze_row *row)
 {
     const int nan = row->total != row->total || row->altitude != row->altitude;
     in->nan_rows += nan ? 1 : 0;
@@ -79,22 +79,27 @@ static const char *wrong_row(soak *in, const pilgartze_row *row)
     if (row->direct < 0.0) {
         return "direct below 0";
     }
-    return same_double(row->total, row->direct + row->diffuse) ? NULL : "total is not direct + diffuse";
+    if (!same_double(row->total, row->direct + row->diffuse)) {
+        return "total is not direct + diffuse";
+    }
+    return wrong_walk(in, call, of, row->altitude, row->azimuth, 0);
 }
 
-/* All rows, and the sum from the first to the last. */
-static const char *wrong_rows(soak *in, const uint8_t *results, size_t rows, const pilgartze_answer *answer)
+/* All rows, and the sum of a run's from the first to the last. */
+static const char *wrong_rows(soak *in, const uint8_t *results, enum call call, const job *of,
+                              const pilgartze_answer *answer)
 {
+    const size_t rows = stored_by(call, answer) / sizeof(pilgartze_row);
     const char *wrong = NULL;
     double sum = 0.0;
     size_t i;
     for (i = 0; i < rows && wrong == NULL; i++) {
         pilgartze_row row;
         memcpy(&row, results + i * sizeof row, sizeof row);
-        wrong = wrong_row(in, &row);
+        wrong = wrong_row(in, call, of, &row);
         sum += row.factor * row.direct;
     }
-    if (wrong == NULL && answer->number == 0 && !same_double(sum, answer->sum)) {
+    if (wrong == NULL && call == RUN && answer->number == 0 && !same_double(sum, answer->sum)) {
         return "the sum is not that of the rows";
     }
     return wrong;
@@ -116,8 +121,11 @@ static const char *wrong_results(soak *in, const desk *on, enum call call, const
         return "a list that is only read is not as it was";
     }
     wrong = wrong_words(on->at.results, stored);
-    if (wrong == NULL && call == RUN) {
-        wrong = wrong_rows(in, on->at.results, stored / sizeof(pilgartze_row), answer);
+    if (wrong == NULL && (call == RUN || call == STEP)) {
+        wrong = wrong_rows(in, on->at.results, call, of, answer);
+    }
+    if (wrong == NULL && call == FACTOR && (answer->number == 0 || answer->number >= PILGARTZE_REFUSED_GAP)) {
+        wrong = wrong_walk(in, FACTOR, of, of->altitude, of->azimuth, answer->number);
     }
     return wrong;
 }
@@ -230,8 +238,14 @@ void try_step_of_run(soak *in, source *from, const job *of)
     in->steps += 1;
     if (run.number != 0) {
         const pilgartze_answer answer = tried(in, &in->second, STEP, &single, 1, 0);
+        const char *wrong;
         if (answer.number != run.number) {
             failed(in, "not refused as the run is", STEP, &single, &answer);
+        }
+        sun_of_step(in, &single);
+        wrong = wrong_walk(in, RUN, &single, single.altitude, single.azimuth, run.number);
+        if (wrong != NULL) {
+            failed(in, wrong, RUN, &single, &run);
         }
         return;
     }

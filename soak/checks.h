@@ -4,6 +4,14 @@
 
 #include "desk.h"
 
+/* How a walk along the sectors ends, and at which of them. */
+enum end { GAP, TURNED, MATCH, NO_SECTOR };
+
+typedef struct walk {
+    enum end end;
+    size_t place;
+} walk;
+
 /* Where a run of the program stands. */
 typedef struct soak {
     uint64_t seed;
@@ -11,6 +19,7 @@ typedef struct soak {
     int on_the_heap;
     desk first, second;
     uint64_t seen[CALLS][PILGARTZE_REFUSED_LINE];
+    uint64_t walks[CALLS][NO_SECTOR][PILGARTZE_MOST_SECTORS]; /* inside the beam, by place */
     uint64_t late;     /* runs refused past step 0 */
     uint64_t nan_rows; /* rows with a NaN */
     uint64_t shaded;   /* rows with a factor below 1 */
@@ -28,6 +37,14 @@ pilgartze_answer tried(soak *in, desk *on, enum call call, const job *of, int at
 void try_calls(soak *in, source *from, const job *of);
 /* Some step of a run by itself. */
 void try_step_of_run(soak *in, source *from, const job *of);
+/* One step whose walk ends in the way and at the place of this turn, as a run, by itself and as a factor call. */
+void try_walk(soak *in, source *from);
+/* Counts the walk of a step with that sun, and says what is wrong with its number, or NULL. */
+const char *wrong_walk(soak *in, enum call call, const job *of, double altitude, double azimuth, uint64_t number);
+/* Prints how many walks ended in each way at each place; how many of these there were none of. */
+int tell_walks(const soak *in);
+/* Puts the sun of the single step into the job, for the factor. */
+void sun_of_step(soak *in, job *of);
 /* Two threads at once, with the same lists. */
 void try_threads(soak *in, source *from, const job *of);
 /* One list lent for all three series. */

@@ -9,6 +9,8 @@
 #include <sys/mman.h>
 
 #define STACK ((size_t)1 << 20)
+/* Far more than a call may take, so that one that takes too much is measured. */
+typedef char painted_enough[STACK >= 8 * (size_t)PILGARTZE_STACK_BYTES ? 1 : -1];
 #define PAINT UINT64_C(0x5A17ED57AC4BED0D)
 
 typedef struct errand {

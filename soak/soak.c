@@ -55,6 +55,7 @@ static void one_turn(soak *in, job *made)
     if (one_in(&from, 16)) {
         try_one_series(in, &from, made);
     }
+    try_walk(in, &from);
 }
 
 static void all_turns(soak *in, const options *by)
@@ -98,7 +99,7 @@ static int tell_seen(const soak *in)
 
 static int told(const soak *in, const options *by)
 {
-    const int unseen = tell_seen(in);
+    const int unseen = tell_seen(in) + tell_walks(in);
     printf("%llu jobs of seed %llu; %llu runs refused past step 0, %llu steps of a run called by themselves, %llu rows "
            "with NaN, %llu with shade, %llu runs with one list for all series, %llu calls by two threads at once\n",
            (unsigned long long)(in->turn - by->from), (unsigned long long)in->seed, (unsigned long long)in->late,
@@ -109,7 +110,7 @@ static int told(const soak *in, const options *by)
     }
     if (unseen > 0 || in->late == 0 || in->steps == 0 || in->shaded == 0 || in->threads == 0 || in->shared == 0 ||
         (in->nan_rows == 0 && !in->on_the_heap)) {
-        printf("soak: something was never seen, numbers: %d\n", unseen);
+        printf("soak: something was never seen, numbers and walks: %d\n", unseen);
         return 1;
     }
     return 0;

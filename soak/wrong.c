@@ -184,6 +184,19 @@ static pilgartze_answer wrong_answer(pilgartze_answer answer, uint8_t *results)
 
 /* ---- The calls ------------------------------------------------------------------------------------------------ */
 
+#define SECTOR sizeof(pilgartze_sector)
+
+/* The sectors without the first, or without the last that a list can have. */
+static size_t left_out(int first, size_t length)
+{
+    return first && length >= SECTOR ? SECTOR : 0;
+}
+
+static size_t walked(int first, int last, size_t length)
+{
+    return last && length == SECTOR * PILGARTZE_MOST_SECTORS ? length - SECTOR : length - left_out(first, length);
+}
+
 #define SHORT(length) (flaw("lengths_of_32_bits") ? (uint32_t)(length) : (length))
 
 pilgartze_answer pilgartze_run(SITE_NUMBERS, double start, double end, double step, SURFACE_NUMBERS, SERIES_LISTS,
@@ -193,13 +206,17 @@ pilgartze_answer pilgartze_run(SITE_NUMBERS, double start, double end, double st
     const int buffered = flaw("one_buffer_for_all_threads") && results_length <= sizeof buffer;
     const uint8_t old = results_length > 0 ? results[0] : 0;
     uint8_t *const into = buffered ? buffer : results;
+    const int first = flaw("first_sector_not_walked");
+    const int last = flaw("last_sector_not_walked");
     pilgartze_answer answer;
     before_run(direct, direct_length, reflectivity, reflectivity_length, OBJECTS);
     if (buffered) {
         memcpy(buffer, results, results_length);
     }
     answer = sound_run(SITE, start, end, step, SURFACE, diffuse, SHORT(diffuse_length), direct, SHORT(direct_length),
-                       reflectivity, SHORT(reflectivity_length), OBJECTS, into, SHORT(results_length));
+                       reflectivity, SHORT(reflectivity_length),
+                       sectors + left_out(first, sectors_length), walked(first, last, sectors_length), window,
+                       window_length, into, SHORT(results_length));
     if (buffered) {
         wait_a_little();
         memcpy(results, buffer, results_length);
@@ -216,8 +233,9 @@ pilgartze_answer pilgartze_run(SITE_NUMBERS, double start, double end, double st
 
 uint64_t pilgartze_step(SITE_NUMBERS, double time, SURFACE_NUMBERS, READINGS, OBJECT_LISTS, RESULTS_LIST)
 {
+    const size_t length = walked(0, flaw("step_last_sector_not_walked"), sectors_length);
     const uint64_t number =
-        sound_step(SITE, time, SURFACE, READING, sectors, SHORT(sectors_length), window, window_length, RESULTS);
+        sound_step(SITE, time, SURFACE, READING, sectors, SHORT(length), window, window_length, RESULTS);
     if (flaw("step_has_its_own_row") && number == 0) {
         results[8] ^= 1;
     }
@@ -242,7 +260,10 @@ uint64_t pilgartze_irradiance(SITE_NUMBERS, double time, SURFACE_NUMBERS, READIN
 pilgartze_factor_answer pilgartze_factor(double altitude, double azimuth, SURFACE_NUMBERS, OBJECT_LISTS)
 {
     static pilgartze_factor_answer answer;
-    pilgartze_factor_answer mine = sound_factor(altitude, azimuth, SURFACE, OBJECTS);
+    const int first = flaw("factor_first_sector_not_walked");
+    pilgartze_factor_answer mine =
+        sound_factor(altitude, azimuth, SURFACE, sectors + left_out(first, sectors_length),
+                     walked(first, 0, sectors_length), window, window_length);
     if (flaw("factor_kept_for_all_threads")) {
         answer = mine;
         wait_a_little();
@@ -250,6 +271,9 @@ pilgartze_factor_answer pilgartze_factor(double altitude, double azimuth, SURFAC
     }
     if (flaw("factor_though_refused") && mine.number != 0) {
         mine.factor = 1.0;
+    }
+    if (flaw("refuses_outside_the_beam") && mine.number == 0 && sectors_length > 0 && tilt - altitude > 90.0) {
+        return (pilgartze_factor_answer){PILGARTZE_REFUSED_NO_SECTOR, 0.0};
     }
     if (flaw("factor_never_turned") && mine.number == PILGARTZE_REFUSED_TURNED) {
         mine.number = PILGARTZE_REFUSED_GAP;

@@ -22,7 +22,7 @@ pub struct Maker {
 type Damage = fn(&mut Maker, &mut Job);
 
 /// What can be wrong with a job, by the number that it leads to for the most part.
-const DAMAGES: [Damage; 17] = [
+const DAMAGES: [Damage; 18] = [
     Maker::site_at_an_edge,
     Maker::whole_number_at_an_edge,
     Maker::times_at_an_edge,
@@ -38,6 +38,7 @@ const DAMAGES: [Damage; 17] = [
     Maker::bound_at_the_sun,
     Maker::bound_at_the_sun,
     Maker::bound_at_the_sun,
+    Maker::walk_ended,
     Maker::reveal_put_in,
     Maker::minus_zeros,
 ];
@@ -153,7 +154,7 @@ impl Maker {
     // --- Surface and objects ---
 
     /// The highest sun of some steps.
-    fn sun_of(&mut self, site: &JobSite, steps: &[Step]) -> (f64, f64) {
+    pub fn sun_of(&mut self, site: &JobSite, steps: &[Step]) -> (f64, f64) {
         let mut best = (0.0, 0.0);
         for turn in 0..5 {
             let Some(step) = steps.get(self.random.below(steps.len().max(1))) else {
@@ -443,6 +444,11 @@ impl Maker {
         self.changed(job, scenes::reveal_put_in);
     }
 
+    /// A walk that ends in some way at some place, in the hour of some step.
+    fn walk_ended(&mut self, job: &mut Job) {
+        self.changed(job, scenes::walk_ended);
+    }
+
     /// A sector cut in two where the sun stands at some step, about; or with a gap, or a turned
     /// sector, there. The steps before are accepted where the sun stood in an earlier sector.
     fn bound_at_the_sun(&mut self, job: &mut Job) {
@@ -550,6 +556,13 @@ impl Maker {
     /// The call of one of a job's steps, where it has any, for the most part with room for all of
     /// its doubles.
     pub fn single_of(&mut self, job: &Job, doubles: usize) -> Single {
+        let mut single = self.sound_single_of(job, doubles);
+        self.single_damaged(&mut single, doubles);
+        single
+    }
+
+    /// The same with room for all of them.
+    pub fn sound_single_of(&mut self, job: &Job, doubles: usize) -> Single {
         let steps = steps_if_any(&job.site, &job.times);
         let step = steps.get(self.random.below(steps.len().max(1)));
         let readings = self.readings_of(job, step);
@@ -558,7 +571,7 @@ impl Maker {
             0 => self.random.below(20),
             _ => 0,
         };
-        let mut single = Single {
+        Single {
             site: job.site,
             time,
             surface: job.surface,
@@ -566,9 +579,7 @@ impl Maker {
             sectors: job.sectors.clone(),
             window: job.window.clone(),
             results: self.bytes(8 * doubles + more),
-        };
-        self.single_damaged(&mut single, doubles);
-        single
+        }
     }
 }
 

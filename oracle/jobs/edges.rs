@@ -2,10 +2,13 @@
 
 use super::cases::Maker;
 use crate::published::jobs::*;
-use crate::published::shading::{MOST_SECTORS, MOST_WINDOW_OBJECTS, SECTOR_WORDS, WINDOW_WORDS};
+use crate::published::shading::{
+    Numbers, MOST_SECTORS, MOST_WINDOW_OBJECTS, ORIENTATION, SECTOR_WORDS, WINDOW_WORDS,
+};
 use crate::random::{ulps_from, Random, NAN_PATTERNS};
 use crate::shading::call::{sector, Call, Scene, OVERHANG, REVEAL};
 use crate::shading::scenes::edges_of_range;
+use crate::shading::walks::{all_ends, obstacle_at, sectors_ending};
 
 /// Accepted jobs to change in one place: some steps, one of them at least partly in the shade.
 pub fn plain_jobs(maker: &mut Maker) -> Vec<Job> {
@@ -169,7 +172,7 @@ fn fault(job: &mut Job, number: u32, variant: usize) {
         4 => job.window.push(0),
         5 => job.series[variant].clear(),
         6 => {
-            let list = 2 - variant;
+            let list = 2 - 2 * variant; // before or after the list that 5 makes short
             let nan = f64::NAN.to_le_bytes();
             let words = job.series[list].len() / 8;
             job.series[list] = nan.repeat(words);
@@ -312,6 +315,54 @@ fn nan_rows(jobs: &mut Vec<Job>, job: &Job, maker: &mut Maker) {
             jobs.push(other);
         }
     }
+}
+
+/// The job with one of its steps alone, the sun square on the surface but for the altitude.
+fn one_step(job: &Job, maker: &mut Maker) -> (Job, Numbers) {
+    let mut job = job.clone();
+    let steps = steps_of(&job.site, &job.times);
+    let step = steps[steps.len() / 2];
+    let (altitude, azimuth) = maker.sun_of(&job.site, &[step]);
+    job.times = [step.time, step.time + 1.0, 1.0];
+    job.surface[0] = 90.0;
+    job.surface[1] = 180.0 - azimuth;
+    job.window.clear();
+    maker.fit(&mut job);
+    let [tilt, orientation, base_height, height, width] = job.surface;
+    let numbers = [
+        altitude,
+        azimuth,
+        tilt,
+        orientation,
+        base_height,
+        height,
+        width,
+    ];
+    (job, numbers)
+}
+
+/// Jobs of one step whose walk ends in each way at each place. Every sector's shade is another.
+pub fn walks() -> Vec<Job> {
+    let mut maker = Maker::new(Random::new(1, "walk jobs"));
+    let mut jobs = vec![];
+    for job in plain_jobs(&mut maker) {
+        let (job, numbers) = one_step(&job, &mut maker);
+        for walked in all_ends() {
+            let obstacle = |place: usize| obstacle_at(&numbers, place);
+            let sectors = sectors_ending(walked, MOST_SECTORS, numbers[ORIENTATION], obstacle);
+            let scene = Scene {
+                numbers,
+                sectors,
+                window: vec![],
+            };
+            let sectors = scene.call().sectors;
+            jobs.push(Job {
+                sectors,
+                ..job.clone()
+            });
+        }
+    }
+    jobs
 }
 
 pub fn edges() -> Vec<Job> {

@@ -13,6 +13,7 @@ use crate::published::jobs::*;
 use crate::shading::call::Call;
 use crate::shading::laws::Law;
 use crate::shading::smaller;
+use crate::shading::walks::Walks;
 use cases::{Maker, MOST_BYTES};
 use laws::{try_laws, Pairs};
 use lent::{Left, Lent, Library};
@@ -21,6 +22,8 @@ use lent::{Left, Lent, Library};
 #[derive(Clone, Copy)]
 pub struct Plan<'a> {
     pub edges: &'a [Job],
+    /// Jobs of one step, which is called by itself too.
+    pub walks: &'a [Job],
     /// Random jobs.
     pub jobs: usize,
     pub years: usize,
@@ -264,6 +267,8 @@ struct Met {
     minus_zero: u64,
     nan: u64,
     rows: u64,
+    run_walks: Walks,
+    step_walks: Walks,
 }
 
 impl Met {
@@ -337,7 +342,8 @@ impl Met {
             }
             settings.detail(what, *count);
         }
-        Ok(())
+        self.run_walks.report(settings, "run")?;
+        self.step_walks.report(settings, "step")
     }
 }
 
@@ -367,6 +373,8 @@ impl Comparison<'_> {
                 return Err(format!("run differs after {cases} cases\n{words}"));
             }
             self.met.note(job, &right);
+            let walks = self.judge.walks.iter();
+            walks.for_each(|&walked| self.met.run_walks.note(walked));
             if also_by_new && (right.answer.number == 0 || right.answer.number >= 8) {
                 by_new(job, &right)?;
                 self.by_new += 1;
@@ -403,15 +411,21 @@ impl Comparison<'_> {
         self.pairs.report(settings, self.plan.laws)
     }
 
+    /// The call of one step.
+    fn step(&mut self, single: &Single) -> Outcome {
+        let mut results = single.results.clone();
+        let number = self.judge.step(single, &mut results);
+        let got = self.lent.step(single)?;
+        self.single("step", single, (number, results), got)?;
+        self.met.step[number as usize] += 1;
+        let walks = self.judge.walks.iter();
+        walks.for_each(|&walked| self.met.step_walks.note(walked));
+        Ok(())
+    }
+
     /// Both single-step calls of a step.
     fn singles(&mut self, maker: &mut Maker, job: &Job) -> Outcome {
-        let single = maker.single_of(job, ROW);
-        let mut results = single.results.clone();
-        let number = self.judge.step(&single, &mut results);
-        let got = self.lent.step(&single)?;
-        self.single("step", &single, (number, results), got)?;
-        self.met.step[number as usize] += 1;
-
+        self.step(&maker.single_of(job, ROW))?;
         let single = maker.single_of(job, IRRADIANCE_ROW);
         let mut results = single.results.clone();
         let number = self.judge.irradiance(&single, &mut results);
@@ -457,6 +471,12 @@ pub fn section(settings: &Settings, library: &Library, plan: Plan) -> Outcome {
     let mut maker = Maker::new(settings.random("jobs"));
     for job in plan.edges {
         all.job_and_singles(&mut maker, job, false)?;
+    }
+    for job in plan.walks {
+        all.job(job, true)?;
+        if plan.compared {
+            all.step(&maker.sound_single_of(job, ROW))?;
+        }
     }
     for turn in 0..plan.jobs {
         let job = maker.any_job();

@@ -56,6 +56,7 @@ fn plain_engine(settings: &Settings, plan: Plan) -> Outcome {
         .map_err(|words| format!("self-test, the plain engine: {words}"))?;
     let nothing = Plan {
         edges: &[],
+        walks: &[],
         jobs: 0,
         years: 0,
         ..plan
@@ -75,8 +76,10 @@ pub fn run(seed: u64) -> Outcome {
         print: false,
     };
     let edges: Vec<Job> = edges::edges();
+    let walks: Vec<Job> = edges::walks();
     let plan = Plan {
         edges: &edges,
+        walks: &walks,
         jobs: JOBS,
         years: 1,
         compared: true,

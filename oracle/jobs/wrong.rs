@@ -77,6 +77,9 @@ flaws! {
         MinusZeroReadingRefused,
         NanReadingTaken,
         ReflectivityUpTo10000,
+        // the walk
+        FirstSectorNotWalked,
+        LastSectorNotWalked,
         // the series
         IndexRounded,
         IndexOfTheStep,
@@ -107,7 +110,9 @@ flaws! {
         StepReadingBeforeObject,
         StepWithoutFactor,
         StepNanTime,
-        StepSiteUnchecked;
+        StepSiteUnchecked,
+        StepFirstSectorNotWalked,
+        StepLastSectorNotWalked;
     "irradiance":
         BreakdownLeftOut,
         IrradianceResultsShort,
@@ -248,6 +253,19 @@ impl Plain {
             window = &window[..window.len().min(MOST_WINDOW_OBJECTS * object)];
         }
         lists_of(sectors, window)
+    }
+
+    /// The bytes of the sectors that are walked along.
+    fn walked<'a>(&self, sectors: &'a [u8], [first, last]: [Flaw; 2]) -> &'a [u8] {
+        let len = sectors.len();
+        let record = 8 * SECTOR_WORDS;
+        if self.is(first) {
+            return &sectors[len.min(record)..];
+        }
+        match self.is(last) {
+            true => &sectors[..len.min((MOST_SECTORS - 1) * record)],
+            false => sectors,
+        }
     }
 
     /// 5, then 6, over all steps.
@@ -454,6 +472,10 @@ impl Plain {
             Err(number) => return self.refused(number, 0, 0.0),
         };
         judge.lend(self.lists(job).unwrap());
+        let walked = self.walked(&job.sectors, [FirstSectorNotWalked, LastSectorNotWalked]);
+        if walked.len() < job.sectors.len() {
+            judge.lend(lists_of(walked, &job.window).unwrap());
+        }
         let before = results.to_vec();
         if self.is(RowsClearedFirst) {
             results[..8 * ROW * steps.len()].fill(0);
@@ -505,7 +527,9 @@ impl Plain {
         if let Some(number) = self.single_checked(single, true, ROW) {
             return number;
         }
-        judge.lend(lists_of(&single.sectors, &single.window).unwrap());
+        let flaws = [StepFirstSectorNotWalked, StepLastSectorNotWalked];
+        let walked = self.walked(&single.sectors, flaws);
+        judge.lend(lists_of(walked, &single.window).unwrap());
         let hour = (single.time.floor() as u32).min(8783);
         let (site, surface) = (&single.site, &single.surface);
         match judge.row(site, surface, hour, single.readings) {

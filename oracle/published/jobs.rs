@@ -6,6 +6,7 @@
 
 use super::conditions::{sun_at, OneHour, Site, FIRST_STEP};
 use super::shading::{sectors_of, window_of, within};
+use super::walk::{walked, Walked};
 use super::*;
 pub use crate::pilgartze::{doubles_of, Answer as RunAnswer, Site as JobSite, IRRADIANCE_ROW, ROW};
 use crate::random::Random;
@@ -274,18 +275,24 @@ pub fn aim(random: &mut Random, site: &mut JobSite, surface: &mut Surface, hour:
 pub struct Judge {
     conditions: ExternalConditions,
     window: Vec<WindowShadingObject>,
+    /// The walks of the last call, those of steps inside the beam.
+    pub walks: Vec<Walked>,
 }
 
 impl Judge {
     pub fn new() -> Self {
         let conditions = sun_at(0.0, 0.0, vec![]);
-        let window = vec![];
-        Judge { conditions, window }
+        Judge {
+            conditions,
+            window: vec![],
+            walks: vec![],
+        }
     }
 
     pub fn lend(&mut self, lists: Lists) {
         self.conditions.shading_segments = Some(lists.sectors);
         self.window = lists.window;
+        self.walks.clear();
     }
 
     /// The nine doubles of an hour; the record then holds it.
@@ -327,11 +334,16 @@ impl Judge {
     ) -> Result<[f64; ROW], u64> {
         let [altitude, azimuth, direct, diffuse, total, ..] =
             self.hour(site, surface, hour, readings);
-        let factor = self.factor(surface)?;
-        Ok([altitude, azimuth, direct, diffuse, total, factor])
+        let factor = self.factor(surface);
+        let number = factor.err().unwrap_or(0);
+        let orientation = Orientation360(surface[1]);
+        let walk = walked(&self.conditions, surface[0], orientation, number);
+        self.walks.extend(walk);
+        Ok([altitude, azimuth, direct, diffuse, total, factor?])
     }
 
     pub fn run(&mut self, job: &Job, results: &mut [u8]) -> RunAnswer {
+        self.walks.clear();
         let (steps, lists) = match checked(job, results.len()) {
             Ok(all) => all,
             Err(number) => return refused(number, 0),
@@ -356,6 +368,7 @@ impl Judge {
     }
 
     pub fn step(&mut self, single: &Single, results: &mut [u8]) -> u64 {
+        self.walks.clear();
         let (hour, lists) = match single_checked(single, true) {
             Ok(all) => all,
             Err(number) => return number,

@@ -2,6 +2,7 @@
 //! text, and then the published Rust.
 
 use super::conditions::{angle, sun_at, FIRST_STEP};
+use super::walk::{walked, Walked};
 use super::*;
 use crate::pilgartze::FactorAnswer;
 use crate::support::refusal_number;
@@ -135,8 +136,8 @@ pub(super) fn window_of(bytes: &[u8]) -> Option<Vec<WindowShadingObject>> {
 #[derive(Clone, Copy)]
 pub struct Judged {
     pub answer: FactorAnswer,
-    /// The checks are passed, and the surface is inside the solar beam.
-    pub inside: bool,
+    /// How the walk ended, where the checks are passed and the surface is inside the solar beam.
+    pub walked: Option<Walked>,
 }
 
 fn refused(number: u64) -> FactorAnswer {
@@ -161,7 +162,7 @@ impl Judge {
     pub fn answer(&mut self, numbers: &Numbers, sectors: &[u8], window: &[u8]) -> Judged {
         let unseen = |number: u64| Judged {
             answer: refused(number),
-            inside: false,
+            walked: None,
         };
         let in_range = |(&x, &range): (&f64, &(f64, f64))| within(x, range).is_some();
         if !numbers.iter().zip(&RANGES).all(in_range) {
@@ -193,12 +194,13 @@ impl Judge {
             Some(window),
             FIRST_STEP,
         );
+        let answer = match factor {
+            Ok(factor) => FactorAnswer { number: 0, factor },
+            Err(error) => refused(refusal_number(&error)),
+        };
         Judged {
-            answer: match factor {
-                Ok(factor) => FactorAnswer { number: 0, factor },
-                Err(error) => refused(refusal_number(&error)),
-            },
-            inside: !conditions.outside_solar_beam(tilt, orientation, FIRST_STEP),
+            answer,
+            walked: walked(conditions, tilt, orientation, answer.number),
         }
     }
 }

@@ -1,11 +1,14 @@
-//! Short runs, accepted and with every refusal.
+//! Short runs, accepted and with every refusal, and some whose walk along 36 sectors ends at the first, a
+//! middle or the last of them.
 
 use super::file::{File, Record};
 use crate::comparison::Settings;
 use crate::jobs::cases::Maker;
 use crate::jobs::edges;
 use crate::published::jobs::*;
+use crate::published::shading::MOST_SECTORS;
 use crate::random::Random;
+use crate::shading::walks::all_ends;
 
 const KIND: u64 = 1;
 const LONGEST: usize = 2_600;
@@ -133,6 +136,18 @@ fn take(file: &mut File, what: &str, jobs: impl Iterator<Item = Job>) -> Met {
     met
 }
 
+/// Runs of one step, whose walk ends in each way at some places.
+fn walks(file: &mut File) {
+    let mut judge = Judge::new();
+    for (walked, job) in all_ends().zip(edges::walks()) {
+        if [0, 1, 18, MOST_SECTORS - 1].contains(&walked.place) {
+            let mut left = vec![FILL; 8 * ROW];
+            let answer = judge.run(&job, &mut left);
+            file.push(&record_of(&job, &answer, &left));
+        }
+    }
+}
+
 pub fn file(settings: &Settings) -> Result<File, String> {
     let mut random = settings.random("replayed runs");
     let mut file = File::default();
@@ -141,6 +156,7 @@ pub fn file(settings: &Settings) -> Result<File, String> {
     let mut maker = Maker::new(settings.random("replayed faults"));
     let several = shuffled(several_faults(&mut maker), &mut random);
     take(&mut file, "several faults", several.into_iter());
+    walks(&mut file);
     let mut maker = Maker::new(random);
     let any = (0..400_000).map(|_| maker.any_job());
     match take(&mut file, "random", any).whole() {

@@ -2,7 +2,9 @@
 
 use super::call::*;
 use super::scenes::{edges_of_range, odd_words, Aim};
+use super::walks::{all_ends, obstacle_at, sectors_ending};
 use crate::published::shading::*;
+use crate::published::walk::Walked;
 use crate::random::{ulps_from, Random};
 
 /// Scenes to change in one place: three sectors and five window objects, inside the beam, the match
@@ -250,6 +252,33 @@ fn every_walk(calls: &mut Vec<Call>) {
     }
 }
 
+/// The scene with so many sectors, by which the walk ends so. Every sector's shade is another.
+fn walk_call(scene: &Scene, walked: Walked, count: usize) -> Call {
+    let numbers = scene.numbers;
+    let sun = 180.0 - numbers[AZIMUTH];
+    Scene {
+        numbers,
+        sectors: sectors_ending(walked, count, sun, |place| obstacle_at(&numbers, place)),
+        window: vec![],
+    }
+    .call()
+}
+
+/// A walk that ends in each way at each place, in a list as long as it may be.
+fn every_place(calls: &mut Vec<Call>) {
+    for scene in plain_scenes() {
+        calls.extend(all_ends().map(|walked| walk_call(&scene, walked, MOST_SECTORS)));
+    }
+}
+
+/// The same in lists that end there, the scenes by turns.
+pub fn every_last_place() -> Vec<Call> {
+    let scenes = plain_scenes();
+    let each = all_ends().zip(scenes.iter().cycle());
+    each.map(|(walked, scene)| walk_call(scene, walked, walked.place + 1))
+        .collect()
+}
+
 /// Every order of up to three objects at the window, of each kind.
 fn every_order(calls: &mut Vec<Call>) {
     for scene in plain_scenes() {
@@ -320,6 +349,8 @@ pub fn edges() -> Vec<Call> {
     every_turn(&mut calls);
     every_bound(&mut calls);
     every_walk(&mut calls);
+    every_place(&mut calls);
+    calls.extend(every_last_place());
     every_order(&mut calls);
     calls
 }

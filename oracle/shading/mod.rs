@@ -6,6 +6,7 @@ pub mod edges;
 pub mod laws;
 pub mod scenes;
 pub mod self_test;
+pub mod walks;
 pub mod wrong;
 
 use crate::comparison::{same, shown, Outcome, Settings, Tally};
@@ -15,6 +16,7 @@ use crate::published::shading::{Judge, Judged, Numbers, MOST_SECTORS, SECTOR_WOR
 use crate::random::Random;
 use call::{Call, Scene, COUNT, TRIPLES};
 use laws::{try_laws, Law, Pairs, LAWS};
+use walks::Walks;
 
 /// For each case of other functions, this many calls.
 const TIMES: usize = 5;
@@ -93,15 +95,17 @@ struct Met {
     zero: u64,
     between: u64,
     nan: u64,
+    walks: Walks,
 }
 
 impl Met {
     fn note(&mut self, judged: &Judged) {
         let FactorAnswer { number, factor } = judged.answer;
         self.numbers[number as usize] += 1;
+        judged.walked.map(|walked| self.walks.note(walked));
         if number == 0 {
             match factor {
-                _ if !judged.inside => self.outside += 1,
+                _ if judged.walked.is_none() => self.outside += 1,
                 f if f.is_nan() => self.nan += 1,
                 1.0 => self.one += 1,
                 0.0 => self.zero += 1,
@@ -138,7 +142,7 @@ impl Met {
             settings.detail(what, *count);
         }
         settings.detail("NaN factor", self.nan);
-        Ok(())
+        self.walks.report(settings, "factor")
     }
 }
 

@@ -1,7 +1,9 @@
 //! Random calls of the factor, most of them accepted, inside the beam and partly in the shade.
 
 use super::call::*;
+use super::walks::{all_ends, sectors_ending};
 use crate::published::shading::*;
+use crate::published::walk::Walked;
 use crate::random::{ulps_from, Random, NAN_PATTERNS};
 use crate::stand_ins;
 
@@ -369,6 +371,18 @@ pub fn bounds_moved(random: &mut Random, scene: &mut Scene) {
     }
 }
 
+/// Other sectors, by which the walk ends in some way at some place.
+pub fn walk_ended(random: &mut Random, scene: &mut Scene) {
+    let sun = 180.0 - scene.numbers[AZIMUTH];
+    if 2.0 < sun && sun < 358.0 {
+        let ends: Vec<Walked> = all_ends().collect();
+        let walked = ends[random.below(ends.len())];
+        let count = walked.place + 1 + random.below(MOST_SECTORS - walked.place);
+        let aim = Aim::new(random, &scene.numbers);
+        scene.sectors = sectors_ending(walked, count, sun, |_| aim.distant_object(random));
+    }
+}
+
 pub fn reveal_put_in(random: &mut Random, scene: &mut Scene) {
     let aim = Aim::new(random, &scene.numbers);
     let reveal = aim.window_object(random, REVEAL);
@@ -478,6 +492,7 @@ pub fn any_call(random: &mut Random) -> Call {
         9 if random.below(8) == 0 => filled(random, &mut scene),
         10 | 11 => word_damaged(random, &mut scene),
         12 => clear_obstacle_alone(random, &mut scene),
+        15 => walk_ended(random, &mut scene),
         13 => {
             let mut call = scene.call();
             length_damaged(random, &mut call);

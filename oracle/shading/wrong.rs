@@ -58,6 +58,11 @@ enum Flaw {
     NoSectorWithoutWalk,
     RevealBeforeWalk,
     SectorBefore,
+    FirstNotMatched,
+    FirstTurnedTaken,
+    LastNotMatched,
+    LastGapTaken,
+    LastTurnedTaken,
 
     // the shade
     BaseHeightLeftOut,
@@ -83,6 +88,9 @@ enum Flaw {
     SkyNeverWhole,
 }
 use Flaw::*;
+
+/// The last place that a list can have.
+const LAST: usize = MOST_SECTORS - 1;
 
 /// The factor with a flaw.
 struct Plain {
@@ -232,6 +240,7 @@ impl Plain {
     /// Whether a sector starts elsewhere than the one before it ends.
     fn gap(&self, sectors: &[Sector], place: usize) -> bool {
         let (last, start) = match place {
+            LAST if self.is(LastGapTaken) => return false,
             0 if !self.is(FirstStartNotFree) => return false,
             0 => (0, sectors[0][START]),
             _ => (sectors[place - 1][END], sectors[place][START]),
@@ -244,7 +253,11 @@ impl Plain {
 
     /// The number that a sector's bounds are refused with, if they are.
     fn fault(&self, sectors: &[Sector], place: usize) -> Option<u64> {
-        let turned = double(sectors[place][END]) < double(sectors[place][START]);
+        let turned = match place {
+            0 if self.is(FirstTurnedTaken) => false,
+            LAST if self.is(LastTurnedTaken) => false,
+            _ => double(sectors[place][END]) < double(sectors[place][START]),
+        };
         match (self.gap(sectors, place), turned) {
             (true, true) if self.is(TurnedBeforeGap) => Some(9),
             (true, _) => Some(8),
@@ -277,7 +290,12 @@ impl Plain {
             if let Some(number) = fault(place) {
                 return Err(number);
             }
-            if self.holds(azimuth, &sectors[place]) {
+            let missed = match place {
+                0 => self.is(FirstNotMatched),
+                LAST => self.is(LastNotMatched),
+                _ => false,
+            };
+            if !missed && self.holds(azimuth, &sectors[place]) {
                 return Ok(place);
             }
         }
@@ -636,6 +654,11 @@ fn wrong_walks() -> Vec<Wrong> {
         NoSectorWithoutWalk,
         RevealBeforeWalk,
         SectorBefore,
+        FirstNotMatched,
+        FirstTurnedTaken,
+        LastNotMatched,
+        LastGapTaken,
+        LastTurnedTaken,
     }
 }
 

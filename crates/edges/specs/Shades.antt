@@ -44,7 +44,15 @@ oneReveal = putDouble (putDouble (putWord (replicate 32 0) 0 4) 1 (decimal 25 2)
 unfoldable pub threeHours : Job
 threeHours =
     jobOf
-    (record { latitude = whole 51; longitude = whole 0; timezone = pos 0; «start_day» = 0; «time_series_step» = whole 1; «leap_year» = 0; «direct_beam_conversion» = 0 })
+    (record {
+      latitude = whole 51;
+      longitude = whole 0;
+      timezone = pos 0;
+      «start_day» = 0;
+      «time_series_step» = whole 1;
+      «leap_year» = 0;
+      «direct_beam_conversion» = 0;
+    })
     (record { start = whole 0; end = whole 3; step = whole 1 })
     southWall
     (replicate 24 0)

@@ -7,6 +7,10 @@ mod shades;
 mod values;
 
 use objects::answers::FactorAnswer;
+use simulation_time::run::Run;
+use simulation_time::steps::check_run;
+use simulation_time::timestep::current_hour;
+use simulation_time::timestep::time_series_idx;
 use values::Value;
 use values::accepted;
 use values::double_value;
@@ -198,6 +202,53 @@ fn steps() {
     );
 }
 
+// How many steps a run has, in a year of 8760 hours.
+fn step_count(start: f64, end: f64, step: f64) -> Value {
+    let run = Run {
+        start: start,
+        end: end,
+        step: step,
+    };
+    accepted(check_run(run, 8760).count)
+}
+
+fn step_counts() {
+    compare(
+        b"start 0, end 3, step 0.3: eleven steps",
+        step_count(0.0, 3.0, 0.3),
+        accepted(11),
+    );
+    compare(
+        b"start 3, end 3, step 1: no step",
+        step_count(3.0, 3.0, 1.0),
+        accepted(0),
+    );
+    compare(
+        b"start 5, end 3, step 1: one step",
+        step_count(5.0, 3.0, 1.0),
+        accepted(1),
+    );
+}
+
+// Hours of the year, and places in a half-hourly series from day 1 on.
+fn hours_and_places() {
+    compare(
+        b"time 24.75 is in hour 24",
+        accepted(current_hour(24.75) as u64),
+        accepted(24),
+    );
+    compare(
+        b"time 24.75 has place 1",
+        accepted(time_series_idx(24.75, 1, 0.5) as u64),
+        accepted(1),
+    );
+    compare(
+        b"time 0 has place 0",
+        accepted(time_series_idx(0.0, 1, 0.5) as u64),
+        accepted(0),
+    );
+}
+
 fn main() {
     sun_angles();
     shifts();
@@ -208,4 +259,6 @@ fn main() {
     reveals();
     sectors();
     steps();
+    step_counts();
+    hours_and_places();
 }

@@ -12,6 +12,7 @@ pub struct Value {
     pub word: u64,
 }
 
+// A double's bits or a count.
 pub fn accepted(word: u64) -> Value
     ensures { λ r. ⌜ r ≡ accepted-value word ⌝ }
 {
@@ -21,6 +22,7 @@ pub fn accepted(word: u64) -> Value
     }
 }
 
+// A refusal by its number.
 pub fn refused(number: u64) -> Value
     ensures { λ r. ⌜ r ≡ refused-value number ⌝ }
 {
@@ -30,12 +32,14 @@ pub fn refused(number: u64) -> Value
     }
 }
 
+// A double, by its bits.
 pub fn double_value(x: f64) -> Value
     ensures { λ r. ⌜ r ≡ accepted-value (toBits binary64 x) ⌝ }
 {
     accepted(words::bits_of_double(x))
 }
 
+// A factor by its bits, or the refusal.
 pub fn factor_value(answer: FactorAnswer) -> Value
     ensures { λ r. ⌜ r ≡ factorValue answer ⌝ }
 {
@@ -45,6 +49,7 @@ pub fn factor_value(answer: FactorAnswer) -> Value
     }
 }
 
+// A run's count of steps, or the refusal.
 pub fn run_value(answer: RunAnswer) -> Value
     ensures { λ r. ⌜ r ≡ runValue answer ⌝ }
 {
@@ -57,6 +62,7 @@ pub fn run_value(answer: RunAnswer) -> Value
     }
 }
 
+// The same number and the same word.
 pub fn same_value(a: Value, b: Value) -> bool
     ensures { λ r. ⌜ r ≡ sameValue a b ⌝ }
 {

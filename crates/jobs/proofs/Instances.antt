@@ -24,9 +24,9 @@ use Rattle.days.specs.Day.{orbitDeviation, solarDeclination, equationOfTime, ex
 use Rattle.sun.specs.Hour.{sinCosOf, timeShift, solarTime, hourAngle, altitudeSine, cutAltitude, solarAltitude, solarZenith, azimuthDenominator, solarAzimuth, airMass, hourOf}
 use Rattle.sun.specs.Site.{siteFine, hoursInYear}
 use Rattle.orientation.specs.Orientation.{orientation180, wrappedOnce}
-use Rattle.simulation_time.specs.Steps.{runFine, goesOn, stepsFrom, stepCount, timeAt, timesFrom, times}
+use Rattle.simulation_time.specs.Steps.{runFine, goesOn, stepsFrom, stepCount, timeAt, timesFrom, times, atAll}
 use Rattle.simulation_time.specs.Timestep.{currentHour, seriesIndex}
-use Rattle.simulation_time.specs.Checks.{hoursBelow, hoursFine, runAccepted}
+use Rattle.simulation_time.specs.RunChecks.{hourFine, hoursFine, runAccepted}
 use Rattle.objects.specs.declared.surface.Surface.{Surface}
 use Rattle.objects.specs.declared.sectors.ShadingObject.{ShadingObject}
 use Rattle.objects.specs.declared.sectors.ShadingSegment.{ShadingSegment}
@@ -45,7 +45,7 @@ use Rattle.shading_laws.specs.Premises.{AllNumbers, NoNanExtent, Holds}
 use Rattle.jobs.specs.declared.answers.Checked.the-variants as check
 use Rattle.jobs.specs.Series.{inSeries, readSeries}
 use Rattle.jobs.specs.Job.{Job, indexAt, readingAt}
-use Rattle.jobs.specs.Checks.{atAll, indexFine, readingFine, resultsFine, tried, checked}
+use Rattle.jobs.specs.Checks.{indexFine, readingFine, resultsFine, tried, checked}
 use Rattle.jobs.specs.Step.{sunAt, shadingAt, rowWith, stepWith, stepAt}
 use Rattle.jobs.specs.Run.{numberFor, onRow, runFrom, runChecked, runOf}
 use Rattle.jobs.specs.Comparison.{factorAt, countOf, SameSeries, Alike, sectorCount, BoundedAlike, triple, sectorObjects, windowObjects, HoldsAll, NoNan, Doubles, IsAccepted, Comparable}
@@ -104,7 +104,7 @@ unfolding add sub mul div lt le neg eq ne isNan toUnsigned bits whole decimal of
 doubles = 0
 
 checks : ℕ
-unfolding lists doubles checked tried siteFine hoursInYear atAll indexFine readingFine resultsFine indexAt readingAt runAccepted runFine hoursFine hoursBelow times timesFrom
+unfolding lists doubles checked tried siteFine hoursInYear atAll indexFine readingFine resultsFine indexAt readingAt runAccepted runFine hoursFine hourFine times timesFrom
     stepCount stepsFrom goesOn currentHour seriesIndex within aboveZero surfaceFine firstFine recordsFine windowValuesFine windowRecordFine windowFine objectValuesFine objectFine
     objectUnused tripleFine boundsFine sectorRecordFine sectorsFine
 checks = 0

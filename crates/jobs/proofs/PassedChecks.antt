@@ -15,8 +15,8 @@ use Rattle.doubles.specs.Order.{_≼_}
 use Rattle.doubles.specs.Ranges.{within}
 use Rattle.words.specs.Words.{wordCount}
 use Rattle.sun.specs.Site.{siteFine, hoursInYear}
-use Rattle.simulation_time.specs.Steps.{stepCount, timeAt, times}
-use Rattle.simulation_time.specs.Checks.{runAccepted}
+use Rattle.simulation_time.specs.Steps.{stepCount, timeAt, times, atAll}
+use Rattle.simulation_time.specs.RunChecks.{runAccepted}
 use Rattle.simulation_time.proofs.Times.{times-length, times-at}
 use Rattle.objects.specs.declared.answers.Refusal.{Refusal}
 use Rattle.objects.specs.declared.answers.Refusal.the-variants as refusal
@@ -28,7 +28,7 @@ use Rattle.object_checks.proofs.AcceptedWindow.{window-in-range}
 use Rattle.jobs.specs.declared.answers.Checked.{Checked}
 use Rattle.jobs.specs.declared.answers.Checked.the-variants.{Steps, Refused}
 use Rattle.jobs.specs.Job.{Job, readingAt}
-use Rattle.jobs.specs.Checks.{atAll, indexFine, readingFine, resultsFine, tried, checked}
+use Rattle.jobs.specs.Checks.{indexFine, readingFine, resultsFine, tried, checked}
 use Rattle.jobs.specs.Comparison.{Doubles}
 
 -- ---- the tests, one by one

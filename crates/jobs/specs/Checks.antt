@@ -1,6 +1,6 @@
 -- The checks before the first step (refusals 1 to 7), in number order.
-use mathlib.Core.Bool.{Bool, true, cond, _&&_}
-use mathlib.Core.List.{List, [], _∷_}
+use mathlib.Core.Bool.{Bool, cond, _&&_}
+use mathlib.Core.List.{List}
 use Prim.Native.Nat.{ℕ, _*_}
 use lib.Dec.{leb}
 use lib.Ieee.{Float}
@@ -8,8 +8,8 @@ use Rattle.doubles.specs.Arithmetic.{whole}
 use Rattle.doubles.specs.Ranges.{within}
 use Rattle.words.specs.Words.{wordCount}
 use Rattle.sun.specs.Site.{siteFine, hoursInYear}
-use Rattle.simulation_time.specs.Steps.{stepCount, times}
-use Rattle.simulation_time.specs.Checks.{runAccepted}
+use Rattle.simulation_time.specs.Steps.{stepCount, times, atAll}
+use Rattle.simulation_time.specs.RunChecks.{runAccepted}
 use Rattle.objects.specs.declared.answers.Refusal.{Refusal}
 use Rattle.objects.specs.declared.answers.Refusal.the-variants as refusal
 use Rattle.object_checks.specs.Checks.{surfaceFine, sectorsFine, windowFine}
@@ -20,11 +20,6 @@ use Rattle.jobs.specs.Series.{inSeries}
 use Rattle.jobs.specs.Job.{Job, indexAt, readingAt}
 
 -- ---- 5 and 6: the series, at every step
-
--- a test passes at every time of a list
-unfoldable pub atAll : (Float → Bool) → List Float → Bool
-atAll test [] = true
-atAll test (time ∷ rest) = test time && atAll test rest
 
 -- the index is not past the end of any of the three lists
 unfoldable pub indexFine : Job → Float → Bool

@@ -14,7 +14,7 @@ use Rattle.objects.specs.Refusals.{numberOf}
 use Rattle.shading.specs.Call.{factorCall}
 use Rattle.sun.specs.declared.site.Site.{Site}
 use Rattle.simulation_time.specs.declared.run.Run.{Run}
-use Rattle.jobs.specs.Job.{jobOf}
+use Rattle.jobs.specs.Job.{Job, jobOf}
 use Rattle.jobs.specs.Run.{Ran, runOf, numberFor, stepFor, countFor, sumFor}
 use Rattle.jobs.specs.declared.answers.RunAnswer.{RunAnswer}
 use Rattle.text.specs.Text.{sameText, linesOf}
@@ -74,10 +74,18 @@ siteOf l = record {
 unfoldable pub runAt : List ℕ → Run
 runAt l = record { start = doubleAt l 9; end = doubleAt l 10; step = doubleAt l 11 }
 
+-- the record's job with these lists
+abbrev pub keptJob : List ℕ → List ℕ → List ℕ → List ℕ → List ℕ → List ℕ → Job
+keptJob l diffuse direct reflectivity sectors window =
+    jobOf (siteOf l) (runAt l) (surfaceAt l 12) diffuse direct reflectivity sectors window
+
+-- number, step, count and sum are the record's
+unfoldable pub isRun : List ℕ → ℕ → ℕ → ℕ → Float → Bool
+isRun l number step count sum =
+    eqb (wordAt l 23) number && eqb (wordAt l 24) step && (eqb (wordAt l 25) count && eqb (wordAt l 26) (toBits binary64 sum))
+
 unfoldable pub answerKept : List ℕ → RunAnswer → Bool
-answerKept l answer =
-    eqb (wordAt l 23) (numberFor answer) && eqb (wordAt l 24) (stepFor answer)
-    && (eqb (wordAt l 25) (countFor answer) && eqb (wordAt l 26) (toBits binary64 (sumFor answer)))
+answerKept l answer = isRun l (numberFor answer) (stepFor answer) (countFor answer) (sumFor answer)
 
 unfoldable pub runKept : List ℕ → List ℕ → Ran → Bool
 runKept l left ran = sameText (ran .results) left && answerKept l (ran .answer)
@@ -92,7 +100,7 @@ seriesKept l at diffuse direct reflectivity =
     let a = listEnd l at (wordAt l 20) in
     let b = listEnd l a (wordAt l 21) in
     let left = part l b (listEnd l b (wordAt l 22)) in
-    runKept l left (runOf (jobOf (siteOf l) (runAt l) (surfaceAt l 12) diffuse direct reflectivity (part l at a) (part l a b)) (lent left))
+    runKept l left (runOf (keptJob l diffuse direct reflectivity (part l at a) (part l a b)) (lent left))
 
 unfoldable pub runDiffers : List ℕ → Bool
 runDiffers l =
@@ -106,7 +114,10 @@ runDiffers l =
 -- one of no kind differs, and one that has not the size that it names
 unfoldable pub kindDiffers : ℕ → List ℕ → Bool
 kindDiffers kind l =
-    cond (eqb kind 1) (runDiffers l) (cond (eqb kind 2) (factorDiffers l) (cond (eqb kind 3) (leafDiffers l) (cond (eqb kind 4) (listingDiffers l) true)))
+    cond (eqb kind 1) (runDiffers l)
+    (cond (eqb kind 2) (factorDiffers l)
+    (cond (eqb kind 3) (leafDiffers l)
+    (cond (eqb kind 4) (listingDiffers l) true)))
 
 unfoldable pub recordDiffers : List ℕ → Bool
 recordDiffers l = cond (eqb (wordAt l 1) (length l)) (kindDiffers (wordAt l 0) l) true

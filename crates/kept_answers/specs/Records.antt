@@ -21,4 +21,10 @@ recordEnd block at = let size = wordAt (part block at (length block)) 1 in cond 
 
 -- a surface from the k-th word on
 unfoldable pub surfaceAt : List ℕ → ℕ → Surface
-surfaceAt l k = record { tilt = doubleAt l k; orientation = doubleAt l (k + 1); «base_height» = doubleAt l (k + 2); height = doubleAt l (k + 3); width = doubleAt l (k + 4) }
+surfaceAt l k = record {
+  tilt = doubleAt l k;
+  orientation = doubleAt l (k + 1);
+  «base_height» = doubleAt l (k + 2);
+  height = doubleAt l (k + 3);
+  width = doubleAt l (k + 4);
+}

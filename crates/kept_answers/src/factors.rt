@@ -25,6 +25,7 @@ fn answers(kept: &[u8], answer: FactorAnswer) -> bool
     }
 }
 
+// Whether a factor call comes out otherwise than its record says.
 pub fn differs(kept: &[u8]) -> bool
     ensures { λ r. ⌜ r ≡ factorDiffers (now (kept .entry)) ⌝ }
 {

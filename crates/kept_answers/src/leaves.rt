@@ -81,6 +81,7 @@ fn leaf(function: u64, x: f64, y: f64, z: f64) -> f64
     of_the_sky(function - 22, x, y, z)
 }
 
+// Whether a function comes out otherwise than its record says.
 pub fn differs(kept: &[u8]) -> bool
     ensures { λ r. ⌜ r ≡ leafDiffers (now (kept .entry)) ⌝ }
 {

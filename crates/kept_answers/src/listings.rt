@@ -15,6 +15,7 @@ fn is_answered_by(text: &[u8], lines: &[u8]) -> bool
     same_text(&out[..used], lines)
 }
 
+// Whether a listing comes out otherwise than its record says.
 pub fn differs(kept: &[u8]) -> bool
     ensures { λ r. ⌜ r ≡ listingDiffers (now (kept .entry)) ⌝ }
 {

@@ -1,15 +1,9 @@
 // Runs: 27 words, then the six lists, the results as they are afterwards.
 ghost use mathlib.Core.Path.{_≡_};
-ghost use mathlib.Core.Bool.{_&&_};
 ghost use Prim.Native.Nat.{_≤_};
-ghost use lib.Dec.{eqb};
 ghost use lib.ListN.{length};
-ghost use lib.Ieee.{binary64, toBits};
-ghost use Rattle.words.specs.Words.{wordAt};
-ghost use Rattle.jobs.specs.Job.{jobOf};
 ghost use Rattle.jobs.specs.Run.{runOf};
-ghost use Rattle.kept_answers.specs.Records.{surfaceAt};
-ghost use Rattle.kept_answers.specs.Differs.{wholeOf, siteOf, runAt, answerKept, runKept, lent, seriesKept, runDiffers};
+ghost use Rattle.kept_answers.specs.Differs.{wholeOf, siteOf, runAt, keptJob, isRun, answerKept, runKept, lent, seriesKept, runDiffers};
 use crate::parts::list_end;
 use crate::parts::surface_at;
 use jobs::answers::RunAnswer;
@@ -61,7 +55,7 @@ fn run_of(kept: &[u8]) -> Run
 
 // Whether number, step, count and sum are the record's.
 fn is_answer(kept: &[u8], number: u64, step: u64, count: u64, sum: f64) -> bool
-    ensures { λ r. ⌜ r ≡ (eqb (wordAt (now (kept .entry)) 23) number && eqb (wordAt (now (kept .entry)) 24) step && (eqb (wordAt (now (kept .entry)) 25) count && eqb (wordAt (now (kept .entry)) 26) (toBits binary64 sum))) ⌝ }
+    ensures { λ r. ⌜ r ≡ isRun (now (kept .entry)) number step count sum ⌝ }
 {
     let numbers = (word_at(kept, 23) == number) & (word_at(kept, 24) == step);
     let sums = (word_at(kept, 25) == count) & (word_at(kept, 26) == bits_of_double(sum));
@@ -90,7 +84,9 @@ fn is_answered(
     left: &[u8],
     results: &mut [u8],
 ) -> bool
-    ensures { λ r. ⌜ r ≡ runKept (now (kept .entry)) (now (left .entry)) (runOf (jobOf (siteOf (now (kept .entry))) (runAt (now (kept .entry))) (surfaceAt (now (kept .entry)) 12) (now (diffuse .entry)) (now (direct .entry)) (now (reflectivity .entry)) (now (sectors .entry)) (now (window .entry))) (now (results .entry))) ⌝ }
+    ensures { λ r. ⌜ r ≡ runKept (now (kept .entry)) (now (left .entry))
+        (runOf (keptJob (now (kept .entry)) (now (diffuse .entry)) (now (direct .entry)) (now (reflectivity .entry))
+        (now (sectors .entry)) (now (window .entry))) (now (results .entry))) ⌝ }
 {
     let answer = run_job(
         site_of(kept),
@@ -116,7 +112,9 @@ fn with_lists(
     window: &[u8],
     left: &[u8],
 ) -> bool
-    ensures { λ r. ⌜ r ≡ runKept (now (kept .entry)) (now (left .entry)) (runOf (jobOf (siteOf (now (kept .entry))) (runAt (now (kept .entry))) (surfaceAt (now (kept .entry)) 12) (now (diffuse .entry)) (now (direct .entry)) (now (reflectivity .entry)) (now (sectors .entry)) (now (window .entry))) (lent (now (left .entry)))) ⌝ }
+    ensures { λ r. ⌜ r ≡ runKept (now (kept .entry)) (now (left .entry))
+        (runOf (keptJob (now (kept .entry)) (now (diffuse .entry)) (now (direct .entry)) (now (reflectivity .entry))
+        (now (sectors .entry)) (now (window .entry))) (lent (now (left .entry)))) ⌝ }
 {
     let mut results = [0xA5u8; 1024];
     let n = least(left.len(), 1024);
@@ -151,6 +149,7 @@ fn with_series(bytes: &[u8], at: usize, diffuse: &[u8], direct: &[u8], reflectiv
     )
 }
 
+// Whether a run comes out otherwise than its record says.
 pub fn differs(kept: &[u8]) -> bool
     ensures { λ r. ⌜ r ≡ runDiffers (now (kept .entry)) ⌝ }
 {

@@ -59,7 +59,13 @@ oneObstacle height distance transparency = putDouble (putDouble (putDouble (repl
 -- transparency
 unfoldable pub lineAnswer : List ℕ → FactorAnswer
 lineAnswer l =
-    let surface : Surface = record { tilt = valueAt l 5; orientation = valueAt l 6; «base_height» = valueAt l 2; height = valueAt l 3; width = valueAt l 4 } in
+    let surface : Surface = record {
+      tilt = valueAt l 5;
+      orientation = valueAt l 6;
+      «base_height» = valueAt l 2;
+      height = valueAt l 3;
+      width = valueAt l 4;
+    } in
     cond (lineFine l) (factorCall (valueAt l 0) (valueAt l 1) surface wholeHorizon (oneObstacle (valueAt l 7) (valueAt l 8) (valueAt l 9)))
     (Refused refusal.Line)
 

@@ -16,6 +16,7 @@ pub struct OutputLine {
     pub bytes: [u8; 19],
 }
 
+// No line.
 pub fn nothing() -> OutputLine
     ensures { λ r. ⌜ bytesOf r ≡ [] ⌝ }
 {
@@ -57,6 +58,7 @@ fn refused_line(refusal: Refusal) -> OutputLine
     }
 }
 
+// The line that answers one of the listing: its factor, or the number of its refusal.
 pub fn output_line(answer: FactorAnswer) -> OutputLine
     ensures { λ r. ⌜ bytesOf r ≡ outputLine answer ⌝ }
 {
@@ -68,7 +70,8 @@ pub fn output_line(answer: FactorAnswer) -> OutputLine
 
 // Puts a line behind the first `used` bytes of a list, as far as there is room. Answers how many are used then.
 pub fn put(list: &mut [u8], used: usize, output: OutputLine) -> usize
-    ensures { λ r. ⌜ (r ≡ usedAfter (now (list .entry)) used (bytesOf output)) × (now (list .exit) ≡ filled (now (list .entry)) used (bytesOf output)) ⌝ }
+    ensures { λ r. ⌜ (r ≡ usedAfter (now (list .entry)) used (bytesOf output))
+        × (now (list .exit) ≡ filled (now (list .entry)) used (bytesOf output)) ⌝ }
 {
     let bytes = output.bytes;
     let n = least(output.count, 19);

@@ -73,7 +73,8 @@ pub fn with_part(reader: Reader, part: &[u8]) -> Reader
 
 // The names line has ended.
 fn names_over(line: &[u8]) -> Turn
-    ensures { λ r. ⌜ (readingOf (r .reader) ≡ lineStart (after Names (now (line .entry)))) × (bytesOf (r .output) ≡ printed Names (now (line .entry))) ⌝ }
+    ensures { λ r. ⌜ (readingOf (r .reader) ≡ lineStart (after Names (now (line .entry))))
+        × (bytesOf (r .output) ≡ printed Names (now (line .entry))) ⌝ }
 {
     if is_names(line) {
         return Turn {
@@ -89,7 +90,8 @@ fn names_over(line: &[u8]) -> Turn
 
 // A line has ended.
 fn turn_at(stage: Stage, line: &[u8]) -> Turn
-    ensures { λ r. ⌜ (readingOf (r .reader) ≡ lineStart (after stage (now (line .entry)))) × (bytesOf (r .output) ≡ printed stage (now (line .entry))) ⌝ }
+    ensures { λ r. ⌜ (readingOf (r .reader) ≡ lineStart (after stage (now (line .entry))))
+        × (bytesOf (r .output) ≡ printed stage (now (line .entry))) ⌝ }
 {
     match stage {
         Stage::Names => names_over(line),
@@ -106,7 +108,8 @@ fn turn_at(stage: Stage, line: &[u8]) -> Turn
 
 // The line that is being read has ended.
 pub fn line_over(reader: Reader) -> Turn
-    ensures { λ r. ⌜ (readingOf (r .reader) ≡ lineOver (readingOf reader)) × (bytesOf (r .output) ≡ printed (reader .stage) (readingOf reader .held)) ⌝ }
+    ensures { λ r. ⌜ (readingOf (r .reader) ≡ lineOver (readingOf reader))
+        × (bytesOf (r .output) ≡ printed (reader .stage) (readingOf reader .held)) ⌝ }
 {
     let stage = reader.stage;
     let line = reader.line;
@@ -122,7 +125,9 @@ pub struct Answered {
 
 // Answers the lines that end in a piece: puts what they print behind the first `used` bytes of a list, as far as there is room.
 pub fn answer_piece(reader: Reader, piece: &[u8], list: &mut [u8], used: usize) -> Answered
-    ensures { λ r. ⌜ (readingOf (r .reader) ≡ readOn (readingOf reader) (now (piece .entry))) × (r .used ≡ usedAfter (now (list .entry)) used (printedOn (readingOf reader) (now (piece .entry)))) × (now (list .exit) ≡ filled (now (list .entry)) used (printedOn (readingOf reader) (now (piece .entry)))) ⌝ }
+    ensures { λ r. ⌜ (readingOf (r .reader) ≡ readOn (readingOf reader) (now (piece .entry)))
+        × (r .used ≡ usedAfter (now (list .entry)) used (printedOn (readingOf reader) (now (piece .entry))))
+        × (now (list .exit) ≡ filled (now (list .entry)) used (printedOn (readingOf reader) (now (piece .entry)))) ⌝ }
 {
     let mut current = reader;
     let mut count = used;
@@ -163,7 +168,8 @@ pub fn input_over(reader: Reader) -> OutputLine
 
 // Answers a whole text: puts the lines that answer it at the start of a list, as far as there is room. Answers how many bytes they are.
 pub fn answer_text(text: &[u8], list: &mut [u8]) -> usize
-    ensures { λ r. ⌜ (r ≡ usedAfter (now (list .entry)) 0 (body (linesOf (now (text .entry))))) × (now (list .exit) ≡ filled (now (list .entry)) 0 (body (linesOf (now (text .entry))))) ⌝ }
+    ensures { λ r. ⌜ (r ≡ usedAfter (now (list .entry)) 0 (body (linesOf (now (text .entry)))))
+        × (now (list .exit) ≡ filled (now (list .entry)) 0 (body (linesOf (now (text .entry))))) ⌝ }
 {
     let answered = answer_piece(line_start(Stage::Names), text, list, 0);
     put(list, answered.used, input_over(answered.reader))

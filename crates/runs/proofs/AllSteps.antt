@@ -5,8 +5,7 @@ use Prim.Native.Nat.{ℕ, suc, _+_, _-_, _≤_, _<_}
 use native.Mathlib.Omega.{arith}
 use lib.Ieee.{Float}
 use Rattle.doubles.specs.Arithmetic.{_⊕_}
-use Rattle.simulation_time.specs.Steps.{timesFrom}
-use Rattle.jobs.specs.Checks.{atAll}
+use Rattle.simulation_time.specs.Steps.{timesFrom, atAll}
 
 swap : (f t r : Bool) → (t && f) && r ≡ f && (t && r)
 swap true true r = refl

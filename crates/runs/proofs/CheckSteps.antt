@@ -14,13 +14,13 @@ use lib.Ieee.Fits.{and-l, and-r}
 use Rattle.sun.specs.declared.site.Site.{Site}
 use Rattle.sun.specs.Site.{siteFine, hoursInYear}
 use Rattle.words.specs.Words.{wordCount}
-use Rattle.simulation_time.specs.Steps.{stepCount, times}
-use Rattle.simulation_time.specs.Checks.{runAccepted}
+use Rattle.simulation_time.specs.Steps.{stepCount, times, atAll}
+use Rattle.simulation_time.specs.RunChecks.{runAccepted}
 use Rattle.objects.specs.declared.answers.Refusal.the-variants as refusal
 use Rattle.object_checks.specs.Checks.{surfaceFine, sectorsFine, windowFine}
 use Rattle.jobs.specs.declared.answers.Checked.the-variants.{Steps, Refused}
 use Rattle.jobs.specs.Job.{Job, readingAt}
-use Rattle.jobs.specs.Checks.{atAll, indexFine, readingFine, resultsFine, tried, seriesChecked, checked}
+use Rattle.jobs.specs.Checks.{indexFine, readingFine, resultsFine, tried, seriesChecked, checked}
 
 abbrev pub IndicesAre : Job → Bool → Type 0
 IndicesAre job b = atAll (indexFine job) (times (job .run)) ≡ b

@@ -1,9 +1,9 @@
 // The three weather series at all steps (refusals 5 and 6).
 ghost use mathlib.Core.Path.{_≡_};
-ghost use Rattle.simulation_time.specs.Steps.{timesFrom};
+ghost use Rattle.simulation_time.specs.Steps.{timesFrom, atAll};
 ghost use Rattle.simulation_time.specs.Timestep.{seriesIndex};
 ghost use Rattle.jobs.specs.Series.{inSeries, readSeries};
-ghost use Rattle.jobs.specs.Checks.{atAll, readingFine};
+ghost use Rattle.jobs.specs.Checks.{readingFine};
 use simulation_time::run::Run;
 use simulation_time::timestep::time_series_idx;
 use steps::series::read_series;

@@ -1,7 +1,7 @@
 -- The hours of a run's steps, and what a run has that is not turned down. Assumes nothing.
 use mathlib.Core.Path.{_≡_, refl, sym, ap, _∙_, subst}
 use mathlib.Core.Bool.{Bool, true, _&&_, _||_, and-true, and-false}
-use Prim.Native.Nat.{ℕ, zero, suc, _+_, _-_, _/_, _≤_, _<_}
+use Prim.Native.Nat.{ℕ, zero, suc, _+_, _-_, _≤_, _<_}
 use native.Mathlib.Decide.{decLt}
 use native.Mathlib.Omega.{arith}
 use borrow.Author.Tests.{lt-ltb, le-ltb, ltb-true}
@@ -12,9 +12,9 @@ use lib.Ieee.Fits.{and-l, and-r}
 use Rattle.doubles.specs.Arithmetic.{whole}
 use Rattle.doubles.specs.Order.{_≼_, Fits}
 use Rattle.simulation_time.specs.declared.run.Run.{Run}
-use Rattle.simulation_time.specs.Steps.{runFine, stepCount, timeAt, timesFrom, times}
-use Rattle.simulation_time.specs.Timestep.{currentHour, currentDay}
-use Rattle.simulation_time.specs.Checks.{hoursBelow, hoursFine, runAccepted, checkedRun}
+use Rattle.simulation_time.specs.Steps.{runFine, stepCount, timeAt, timesFrom, times, atAll}
+use Rattle.simulation_time.specs.Timestep.{currentHour}
+use Rattle.simulation_time.specs.RunChecks.{hourFine, hoursFine, runAccepted, checkedRun}
 use Rattle.doubles.proofs.Casts.{cast-mono, cast-floor}
 use Rattle.simulation_time.proofs.Accepted.{Accepted}
 use Rattle.simulation_time.proofs.Times.{reached, never-falls}
@@ -23,11 +23,6 @@ use Rattle.simulation_time.proofs.Times.{reached, never-falls}
 pub hour-is : {time : Float} → Fits time → currentHour time ≡ toUnsigned 32 time
 unfolding currentHour
 hour-is f = cast-floor 32 f
-
--- the day is that of the hour
-pub day-is : {time : Float} → Fits time → currentDay time ≡ currentHour time / 24
-unfolding currentDay
-day-is f = ap (λ (n : ℕ). n / 24) (sym (hour-is f))
 
 -- a later time has no earlier hour
 pub hour-mono : {x y : Float} → Fits x → Fits y → x ≼ y → currentHour x ≤ currentHour y
@@ -47,8 +42,8 @@ later-counts m n hours h =
 
 module _ {run : Run} (a : Accepted run) (hours : ℕ) where
   -- from step i on, n more after it: the last one's hour decides
-  by-last : (n i : ℕ) → i + n < stepCount run → hoursBelow hours (timesFrom (suc n) (run .step) (timeAt run i)) ≡ ltb (currentHour (timeAt run (i + n))) hours
-  unfolding hoursBelow timesFrom timeAt
+  by-last : (n i : ℕ) → i + n < stepCount run → atAll (hourFine hours) (timesFrom (suc n) (run .step) (timeAt run i)) ≡ ltb (currentHour (timeAt run (i + n))) hours
+  unfolding atAll hourFine timesFrom timeAt
   by-last zero i h =
       let e : i + 0 ≡ i = omega arith in
       rw e (and-true (ltb (currentHour (timeAt run i)) hours))
@@ -64,12 +59,12 @@ module _ {run : Run} (a : Accepted run) (hours : ℕ) where
   unfolding hoursFine times
   hours-by-last = go (stepCount run) refl
     where
-      go : (n : ℕ) → stepCount run ≡ n → hoursBelow hours (timesFrom n (run .step) (run .start)) ≡ eqb n 0 || ltb (currentHour (timeAt run (n - 1))) hours
-      go zero e = unfold hoursBelow timesFrom in refl
+      go : (n : ℕ) → stepCount run ≡ n → atAll (hourFine hours) (timesFrom n (run .step) (run .start)) ≡ eqb n 0 || ltb (currentHour (timeAt run (n - 1))) hours
+      go zero e = unfold atAll timesFrom in refl
       go (suc n) e =
           let k : suc n - 1 ≡ n = omega arith in
           let z : 0 + n ≡ n = omega arith in
-          let last : hoursBelow hours (timesFrom (suc n) (run .step) (run .start)) ≡ ltb (currentHour (timeAt run (0 + n))) hours = unfold timeAt in by-last n 0 (omega arith) in
+          let last : atAll (hourFine hours) (timesFrom (suc n) (run .step) (run .start)) ≡ ltb (currentHour (timeAt run (0 + n))) hours = unfold timeAt in by-last n 0 (omega arith) in
           rw (eqb·suc-zero n, k) (last ∙ ap (λ (i : ℕ). ltb (currentHour (timeAt run i)) hours) z)
 
   -- where the check passes, every step's hour is below the limit

@@ -1,4 +1,4 @@
 pub mod Steps
 pub mod Timestep
-pub mod Checks
+pub mod RunChecks
 pub mod Iterator

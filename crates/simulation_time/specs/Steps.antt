@@ -47,6 +47,11 @@ timesFrom (suc n) step time = time ∷ timesFrom n step (time ⊕ step)
 unfoldable pub times : Run → List Float
 times run = timesFrom (stepCount run) (run .step) (run .start)
 
+-- a test passes at every time of a list
+unfoldable pub atAll : (Float → Bool) → List Float → Bool
+atAll test [] = true
+atAll test (time ∷ rest) = test time && atAll test rest
+
 -- the count and the last step's time
 unfoldable pub stepsOf : Run → Steps
 stepsOf run = record { count = stepCount run; last = timeAt run (stepCount run - 1) }

@@ -1,5 +1,5 @@
--- A step's hour, day and place in a weather series (`Timestep`). `toUnsigned` is the Rust's `as`: what is negative becomes 0.
-use Prim.Native.Nat.{ℕ, _*_, _/_, _%_}
+-- A step's hour and place in a weather series (`Timestep`). `toUnsigned` is the Rust's `as`: what is negative becomes 0.
+use Prim.Native.Nat.{ℕ, _*_}
 use lib.Ieee.{Float, toUnsigned}
 use Rattle.doubles.specs.Arithmetic.{_⊖_, _⊘_, whole}
 use Rattle.doubles.specs.Functions.{floorOf}
@@ -7,13 +7,6 @@ use Rattle.doubles.specs.Functions.{floorOf}
 -- the hour of the year, from 0
 unfoldable pub currentHour : Float → ℕ
 currentHour time = toUnsigned 32 (floorOf time)
-
-unfoldable pub hourOfDay : Float → ℕ
-hourOfDay time = currentHour time % 24
-
--- the day of the year, from 0
-unfoldable pub currentDay : Float → ℕ
-currentDay time = toUnsigned 32 time / 24
 
 -- the floor of (time − 24 · start day) / series step, negative becoming 0
 unfoldable pub seriesIndex : Float → ℕ → Float → ℕ

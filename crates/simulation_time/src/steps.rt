@@ -2,7 +2,7 @@
 ghost use mathlib.Core.Path.{_≡_};
 ghost use mathlib.Core.Bool.{true};
 ghost use Rattle.simulation_time.specs.Steps.{runFine, stepsOf};
-ghost use Rattle.simulation_time.specs.Checks.{checkedRun};
+ghost use Rattle.simulation_time.specs.RunChecks.{checkedRun};
 use crate::run::Run;
 use crate::run::run_fine;
 use crate::timestep::current_hour;
@@ -13,7 +13,7 @@ pub struct Steps {
     pub last: f64,
 }
 
-pub fn count_steps(run: Run) -> Steps
+fn count_steps(run: Run) -> Steps
     requires { ⌜ runFine run ≡ true ⌝ }
     ensures { λ r. ⌜ r ≡ stepsOf run ⌝ }
 {
@@ -41,7 +41,7 @@ pub struct CheckedRun {
     pub count: u64,
 }
 
-// Refusal 2. Times never fall, so the last step has the latest hour.
+// Refusal 2, where a year has so many hours. Times never fall, so the last step has the latest hour.
 pub fn check_run(run: Run, hours: u32) -> CheckedRun
     ensures { λ r. ⌜ r ≡ checkedRun hours run ⌝ }
 {

@@ -18,6 +18,7 @@ pub fn line_end(piece: &[u8], from: usize) -> usize
     i
 }
 
+// The smaller of two.
 pub fn least(a: usize, b: usize) -> usize
     ensures { λ r. ⌜ r ≡ min a b ⌝ }
 {
@@ -29,7 +30,8 @@ pub fn least(a: usize, b: usize) -> usize
 
 // Puts as much of a part behind the first `count` bytes of a list as there is room for. Answers how many there are then.
 pub fn append(list: &mut [u8], count: usize, part: &[u8]) -> usize
-    ensures { λ r. ⌜ (r ≡ usedAfter (now (list .entry)) count (now (part .entry))) × (now (list .exit) ≡ filled (now (list .entry)) count (now (part .entry))) ⌝ }
+    ensures { λ r. ⌜ (r ≡ usedAfter (now (list .entry)) count (now (part .entry)))
+        × (now (list .exit) ≡ filled (now (list .entry)) count (now (part .entry))) ⌝ }
 {
     if list.len() <= count {
         return count;
@@ -43,6 +45,7 @@ pub fn append(list: &mut [u8], count: usize, part: &[u8]) -> usize
     count + n
 }
 
+// As many bytes, and the same.
 pub fn same_text(a: &[u8], b: &[u8]) -> bool
     ensures { λ r. ⌜ r ≡ sameText (now (a .entry)) (now (b .entry)) ⌝ }
 {

@@ -4,7 +4,7 @@ use mathlib.Core.Bool.{true, false, _&&_}
 use borrow.Author.Tests.{not-true, not-false}
 use lib.Dec.{T}
 use denote.Ref.{now}
-use Rattle.simulation_time.specs.Checks.{runAccepted, checkedRun}
+use Rattle.simulation_time.specs.RunChecks.{runAccepted, checkedRun}
 use Rattle.simulation_time.proofs.HoursOfSteps.{checked-count}
 use Rattle.jobs.specs.Job.{Job, jobOf}
 use Rattle.sun.specs.Site.{hoursInYear}

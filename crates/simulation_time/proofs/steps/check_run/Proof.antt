@@ -7,7 +7,7 @@ use lib.Dec.{eqb, ltb}
 use Rattle.simulation_time.specs.declared.run.Run.{Run}
 use Rattle.simulation_time.specs.Steps.{runFine, stepsOf, stepCount, timeAt}
 use Rattle.simulation_time.specs.Timestep.{currentHour}
-use Rattle.simulation_time.specs.Checks.{runAccepted, checkedRun}
+use Rattle.simulation_time.specs.RunChecks.{runAccepted, checkedRun}
 use Rattle.simulation_time.proofs.Accepted.{Accepted, accepted}
 use Rattle.simulation_time.proofs.HoursOfSteps.{hours-by-last}
 use Rattle.simulation_time.proofs.steps.check_run.Statement.{statement}
