@@ -1,4 +1,5 @@
--- `Walks` and `RecordWalks` are for the loops of the code, over the lent bytes and over records. `SameWalks` has the laws of the walk.
+-- `Walks` is for the loop of the code. `Places` and `SameWalks` have the laws of the walk: what stands at the place where it ends, and
+-- two walks along sectors that are bounded alike.
 pub mod Walks
-pub mod RecordWalks
+pub mod Places
 pub mod SameWalks

@@ -3,6 +3,7 @@
 use mathlib.Core.Path.{_≡_, refl, ap, ap₂, _∙_, subst}
 use mathlib.Core.Bool.{Bool, true, false, not, _&&_, _||_, cond}
 use mathlib.Core.List.{List, [], _∷_, List·Memᴰ, List·Memᴰ·head, List·Memᴰ·tail}
+use Prim.Native.Nat.{ℕ, zero, suc, _+_}
 use native.Mathlib.Omega.{arith}
 use lib.Dec.{T}
 use lib.Ieee.{Float, nan, inf, fin, lt, le, eq, ne}
@@ -13,7 +14,9 @@ use Rattle.doubles.proofs.Monotone.{sub-mono}
 use Rattle.doubles.proofs.Ranges.{finite-minus}
 use Rattle.orientation.specs.Orientation.{orientation180}
 use Rattle.objects.specs.declared.sectors.ShadingSegment.{ShadingSegment}
-use Rattle.segments.specs.Segments.{Segment, found, gap, turned, noSector, betweenEnds, holdsAzimuth, visit, walkFrom, segmentOf}
+use Rattle.segments.specs.declared.Place.{Place}
+use Rattle.segments.specs.declared.Place.the-variants as place
+use Rattle.segments.specs.Segments.{Segment, found, gap, turned, noSector, betweenEnds, holdsAzimuth, visit, placeFrom, placeOf, sectorAt, segmentIn, segmentOf}
 use Rattle.segments.specs.SameSectors.{SameBounds, PlaceByPlace, none, and-then}
 
 -- two walks that come to sectors so related, or end the same way
@@ -95,81 +98,75 @@ from-south {x} {y} p =
     let n : Number (whole 180 ⊖ y) = finite-minus finite-180 (right-number (p .below)) in
     record { below = sub-mono level (p .above) m n; above = sub-mono level (p .below) n m }
 
-module _ (R : ShadingSegment → ShadingSegment → Type 0) (bounds : (s t : ShadingSegment) → R s t → SameBounds s t) where
-  turned-alike : (s t : ShadingSegment) → SameBounds s t → lt (s .end360) (s .start360) ≡ lt (t .end360) (t .start360)
-  turned-alike s t e = lt-left (s .start360) (e .ends) ∙ lt-right (t .end360) (e .starts)
+turned-alike : (s t : ShadingSegment) → SameBounds s t → lt (s .end360) (s .start360) ≡ lt (t .end360) (t .start360)
+turned-alike s t e = lt-left (s .start360) (e .ends) ∙ lt-right (t .end360) (e .starts)
 
-  holds-alike : (azimuth : Float) (s t : ShadingSegment) → SameBounds s t → holdsAzimuth azimuth s ≡ holdsAzimuth azimuth t
+module _ (azimuth : Float) where
+  holds-alike : (s t : ShadingSegment) → SameBounds s t → holdsAzimuth azimuth s ≡ holdsAzimuth azimuth t
   unfolding holdsAzimuth betweenEnds
-  holds-alike azimuth s t e = ap₂ (λ (b c : Bool). b && c) (lt-right azimuth (from-south (e .starts))) (lt-left azimuth (from-south (e .ends)))
+  holds-alike s t e = ap₂ (λ (b c : Bool). b && c) (lt-right azimuth (from-south (e .starts))) (lt-left azimuth (from-south (e .ends)))
 
-  visit-alike : (azimuth : Float) (s t : ShadingSegment) {x y : Segment} → R s t → SameWalk R x y → SameWalk R (visit azimuth s x) (visit azimuth t y)
+  visit-alike : (i : ℕ) (s t : ShadingSegment) {x y : Place} → SameBounds s t → x ≡ y → visit azimuth i s x ≡ visit azimuth i t y
   unfolding visit
-  visit-alike azimuth s t {x} {y} r w = by-tests (turned-alike s t (bounds s t r)) (holds-alike azimuth s t (bounds s t r))
-    where
-      go : (b c : Bool) → SameWalk R (cond b turned (cond c (found s) x)) (cond b turned (cond c (found t) y))
-      go true c = both-turned
-      go false true = both-found r
-      go false false = w
+  visit-alike i s t e r = rw (turned-alike s t e, holds-alike s t e, r)
 
-      by-tests : {b b′ c c′ : Bool} → b ≡ b′ → c ≡ c′ → SameWalk R (cond b turned (cond c (found s) x)) (cond b′ turned (cond c′ (found t) y))
-      by-tests {b} {b′} {c} {c′} e f = rw (e, f) (go b′ c′)
+module _ (R : ShadingSegment → ShadingSegment → Type 0) (bounds : (s t : ShadingSegment) → R s t → SameBounds s t) (azimuth : Float) where
+  walk-alike : (last last′ : Float) (i : ℕ) {ss ts : List ShadingSegment} → last ≈ last′ → PlaceByPlace R ss ts
+      → placeFrom azimuth last i ss ≡ placeFrom azimuth last′ i ts
+  unfolding placeFrom
+  walk-alike last last′ i l none = refl
+  walk-alike last last′ i l (and-then {s} {t} {ss} {ts} r p) =
+      ap₂ (λ (b : Bool) (q : Place). cond b place.Gap q) (ne-alike l (bounds s t r .starts))
+      (visit-alike azimuth i s t (bounds s t r) (walk-alike (s .end360) (t .end360) (i + 1) (bounds s t r .ends) p))
 
-  walk-alike : (azimuth last last′ : Float) {ss ts : List ShadingSegment} → last ≈ last′ → PlaceByPlace R ss ts
-      → SameWalk R (walkFrom azimuth last ss) (walkFrom azimuth last′ ts)
-  unfolding walkFrom
-  walk-alike azimuth last last′ l none = both-none
-  walk-alike azimuth last last′ l (and-then {s} {t} {ss} {ts} r p) =
-      by-test (ne-alike l (bounds s t r .starts)) (visit-alike azimuth s t r (walk-alike azimuth (s .end360) (t .end360) (bounds s t r .ends) p))
-    where
-      go : (b : Bool) {x y : Segment} → SameWalk R x y → SameWalk R (cond b gap x) (cond b gap y)
-      go true w = both-gap
-      go false w = w
+  -- the walks end at the same place
+  pub place-alike : {ss ts : List ShadingSegment} → PlaceByPlace R ss ts → placeOf azimuth ss ≡ placeOf azimuth ts
+  unfolding placeOf
+  place-alike none = refl
+  place-alike (and-then {s} {t} {ss} {ts} r p) = visit-alike azimuth 0 s t (bounds s t r) (walk-alike (s .end360) (t .end360) 1 (bounds s t r .ends) p)
 
-      by-test : {b b′ : Bool} {x y : Segment} → b ≡ b′ → SameWalk R x y → SameWalk R (cond b gap x) (cond b′ gap y)
-      by-test {b} {b′} e w = rw e (go b′ w)
+  sector-alike : {ss ts : List ShadingSegment} → PlaceByPlace R ss ts → (i : ℕ) → SameWalk R (sectorAt ss i) (sectorAt ts i)
+  unfolding sectorAt
+  sector-alike none i = both-none
+  sector-alike (and-then r p) zero = both-found r
+  sector-alike (and-then r p) (suc i) = sector-alike p i
 
-  -- the walk comes to sectors at the same place, or stops for the same reason
-  pub segment-alike : (azimuth : Float) {ss ts : List ShadingSegment} → PlaceByPlace R ss ts → SameWalk R (segmentOf azimuth ss) (segmentOf azimuth ts)
+  in-alike : {ss ts : List ShadingSegment} → PlaceByPlace R ss ts → (q : Place) → SameWalk R (segmentIn ss q) (segmentIn ts q)
+  unfolding segmentIn
+  in-alike p (place.At i) = sector-alike p i
+  in-alike p place.Gap = both-gap
+  in-alike p place.Turned = both-turned
+  in-alike p place.NoSector = both-none
+
+  -- so they come to sectors so related, or stop for the same reason
+  pub segment-alike : {ss ts : List ShadingSegment} → PlaceByPlace R ss ts → SameWalk R (segmentOf azimuth ss) (segmentOf azimuth ts)
   unfolding segmentOf
-  segment-alike azimuth none = both-none
-  segment-alike azimuth (and-then {s} {t} {ss} {ts} r p) =
-      visit-alike azimuth s t r (walk-alike azimuth (s .end360) (t .end360) (bounds s t r .ends) p)
+  segment-alike {ss} {ts} p = rw (place-alike p) (in-alike p (placeOf azimuth ts))
 
 -- ---- the sector that the walk finds is one of the list
 
-abbrev IfFound : (ShadingSegment → Type 0) → Segment → Type 0
-IfFound P (found s) = P s
-IfFound P gap = Unit {0}
-IfFound P turned = Unit {0}
-IfFound P noSector = Unit {0}
+module _ (P : ShadingSegment → Type 0) where
+  abbrev IfFound : Segment → Type 0
+  IfFound (found s) = P s
+  IfFound gap = Unit {0}
+  IfFound turned = Unit {0}
+  IfFound noSector = Unit {0}
 
-module _ (P : ShadingSegment → Type 0) (azimuth : Float) where
-  visit-has : (s : ShadingSegment) (rest : Segment) → P s → IfFound P rest → IfFound P (visit azimuth s rest)
-  unfolding visit
-  visit-has s rest p r = go (lt (s .end360) (s .start360)) (holdsAzimuth azimuth s)
-    where
-      go : (b c : Bool) → IfFound P (cond b turned (cond c (found s) rest))
-      go true c = tt
-      go false true = p
-      go false false = r
+  sector-has : (ss : List ShadingSegment) → ((s : ShadingSegment) → List·Memᴰ s ss → P s) → (i : ℕ) → IfFound (sectorAt ss i)
+  unfolding sectorAt
+  sector-has [] h i = tt
+  sector-has (s ∷ ss) h zero = h s (List·Memᴰ·head refl)
+  sector-has (s ∷ ss) h (suc i) = sector-has ss (λ t m. h t (List·Memᴰ·tail m)) i
 
-  walk-has : (last : Float) (ss : List ShadingSegment) → ((s : ShadingSegment) → List·Memᴰ s ss → P s) → IfFound P (walkFrom azimuth last ss)
-  unfolding walkFrom
-  walk-has last [] h = tt
-  walk-has last (s ∷ ss) h =
-      go (ne last (s .start360)) (visit azimuth s (walkFrom azimuth (s .end360) ss))
-      (visit-has s (walkFrom azimuth (s .end360) ss) (h s (List·Memᴰ·head refl)) (walk-has (s .end360) ss (λ t m. h t (List·Memᴰ·tail m))))
-    where
-      go : (b : Bool) (rest : Segment) → IfFound P rest → IfFound P (cond b gap rest)
-      go true rest r = tt
-      go false rest r = r
-
-  segment-has : (ss : List ShadingSegment) → ((s : ShadingSegment) → List·Memᴰ s ss → P s) → IfFound P (segmentOf azimuth ss)
-  unfolding segmentOf
-  segment-has [] h = tt
-  segment-has (s ∷ ss) h = visit-has s (walkFrom azimuth (s .end360) ss) (h s (List·Memᴰ·head refl)) (walk-has (s .end360) ss (λ t m. h t (List·Memᴰ·tail m)))
+  in-has : (ss : List ShadingSegment) → ((s : ShadingSegment) → List·Memᴰ s ss → P s) → (q : Place) → IfFound (segmentIn ss q)
+  unfolding segmentIn
+  in-has ss h (place.At i) = sector-has ss h i
+  in-has ss h place.Gap = tt
+  in-has ss h place.Turned = tt
+  in-has ss h place.NoSector = tt
 
   -- what holds of every sector of a list holds of the one that is found
-  pub found-has : (ss : List ShadingSegment) → ((s : ShadingSegment) → List·Memᴰ s ss → P s) → (s : ShadingSegment) → segmentOf azimuth ss ≡ found s → P s
-  found-has ss h s e = subst (IfFound P) e (segment-has ss h)
+  pub found-has : (azimuth : Float) (ss : List ShadingSegment) → ((s : ShadingSegment) → List·Memᴰ s ss → P s)
+      → (s : ShadingSegment) → segmentOf azimuth ss ≡ found s → P s
+  unfolding segmentOf
+  found-has azimuth ss h s e = subst IfFound e (in-has ss h (placeOf azimuth ss))

@@ -1,73 +1,96 @@
--- The walk's loop over the lent bytes, one sector after the other: what is left of the list comes to the same as the whole.
--- Assumes nothing.
-use mathlib.Core.Path.{_≡_, refl, sym, _∙_}
+-- The code's walk, one sector after the other: what is left of the list comes to the same place as the whole. Assumes nothing.
+use mathlib.Core.Path.{_≡_, refl, sym, ap, _∙_}
 use mathlib.Core.Bool.{Bool, true, false, not, _&&_, cond}
 use mathlib.Core.List.{List, [], _∷_}
-use Prim.Native.Nat.{ℕ, suc, _+_, _-_, _*_, _/_, _<_}
-use native.Mathlib.Nat.{sub-self, sub-zero}
+use Prim.Native.Nat.{ℕ, suc, _+_, _≤_, _<_, zero-le}
+use native.Mathlib.Nat.{le-antisymm}
 use native.Mathlib.Numerals.{add-one}
 use native.Mathlib.Omega.{arith}
 use borrow.Author.Tests.{ne-eqb}
 use lib.Dec.{eqb}
+use lib.ListN.{length, getD, drop}
+use lib.Seq.{drop-cons, drop-length}
 use lib.Ieee.{Float, lt, ne}
-use Rattle.words.specs.Words.{wordCount, doubleAt}
 use Rattle.objects.specs.declared.sectors.ShadingSegment.{ShadingSegment}
-use Rattle.segments.specs.Segments.{Segment, found, gap, turned, noSector, betweenEnds, holdsAzimuth, visit, walkFrom, segmentOf}
-use Rattle.objects.specs.Records.{recordsFrom, segmentAt, sectorsOf}
+use Rattle.segments.specs.declared.Place.{Place}
+use Rattle.segments.specs.declared.Place.the-variants as place
+use Rattle.segments.specs.declared.Walk.{Walk}
+use Rattle.segments.specs.Segments.{holdsAzimuth, visit, placeFrom, placeOf}
+use Rattle.segments.specs.Walk.{setOut, stopAt, lookAt}
 
--- the walk from a sector on, which may be the first
-unfoldable pub walkAt : Float → Bool → Float → List ShadingSegment → Segment
-walkAt azimuth first last [] = noSector
-walkAt azimuth first last (s ∷ rest) = cond (not first && ne last (s .start360)) gap (visit azimuth s (walkFrom azimuth (s .end360) rest))
+-- the walk from the i-th sector on, which may be the first
+unfoldable pub walkAt : Float → Bool → Float → ℕ → List ShadingSegment → Place
+walkAt azimuth first last i [] = place.NoSector
+walkAt azimuth first last i (s ∷ rest) =
+    cond (not first && ne last (s .start360)) place.Gap (visit azimuth i s (placeFrom azimuth (s .end360) (i + 1) rest))
 
-pub later : (azimuth last : Float) (l : List ShadingSegment) → walkAt azimuth false last l ≡ walkFrom azimuth last l
-unfolding walkAt walkFrom
-later azimuth last [] = refl
-later azimuth last (s ∷ rest) = refl
+later : (azimuth last : Float) (i : ℕ) (l : List ShadingSegment) → walkAt azimuth false last i l ≡ placeFrom azimuth last i l
+unfolding walkAt placeFrom
+later azimuth last i [] = refl
+later azimuth last i (s ∷ rest) = refl
 
--- what is left at place i of n
-pub left : Float → List ℕ → ℕ → Float → ℕ → Segment
-left azimuth l n last i = walkAt azimuth (eqb i 0) last (recordsFrom (segmentAt l) i (n - i))
+-- a walk so far comes to the place that the whole walk comes to
+pub record Comes (azimuth : Float) (l : List ShadingSegment) (w : Walk) : Type 0 where
+  pub inside : w .next ≤ length l
+  pub on : w .next < length l → walkAt azimuth (eqb (w .next) 0) (w .last) (w .next) (drop (w .next) l) ≡ placeOf azimuth l
+  pub ended : w .next ≡ length l → w .place ≡ placeOf azimuth l
 
-pub left-first : (azimuth last : Float) (l : List ℕ) (n : ℕ) → n ≡ wordCount l / 27 → left azimuth l n last 0 ≡ segmentOf azimuth (sectorsOf l)
-unfolding left walkAt segmentOf sectorsOf
-left-first azimuth last l n e = rw (sub-zero n, e) (go (recordsFrom (segmentAt l) 0 (wordCount l / 27)))
+pub comes-first : (azimuth : Float) (l : List ShadingSegment) → Comes azimuth l setOut
+unfolding setOut placeOf walkAt
+comes-first azimuth [] = record { inside = zero-le; on = λ h. refl; ended = λ e. refl }
+comes-first azimuth (s ∷ rest) = record { inside = zero-le; on = λ h. refl; ended = λ e. absurd (empty e) }
   where
-    go : (s : List ShadingSegment) → walkAt azimuth true last s ≡ segmentOf azimuth s
-    go [] = refl
-    go (s ∷ rest) = refl
+    empty : 0 ≡ suc (length rest) → ⊥
+    empty e = omega (arith, e)
 
-pub left-none : (azimuth last : Float) (l : List ℕ) (n i : ℕ) → i ≡ n → left azimuth l n last i ≡ noSector
-unfolding left walkAt recordsFrom
-left-none azimuth last l n i e = rw (e, sub-self n)
+-- one sector on, the walk comes to the same and is nearer the end
+pub record Looked (azimuth : Float) (l : List ShadingSegment) (i : ℕ) (w : Walk) : Type 0 where
+  pub comes : Comes azimuth l w
+  pub moved : i < w .next
 
-pub left-next : (azimuth last : Float) (l : List ℕ) (n i : ℕ) → i < n
-    → left azimuth l n last i
-    ≡ cond (not (eqb i 0) && ne last (doubleAt l (27 * i))) gap
-    (cond (lt (doubleAt l (27 * i + 1)) (doubleAt l (27 * i))) turned
-    (cond (betweenEnds azimuth (doubleAt l (27 * i)) (doubleAt l (27 * i + 1))) (found (segmentAt l i)) (left azimuth l n (doubleAt l (27 * i + 1)) (i + 1))))
-unfolding left walkAt recordsFrom visit holdsAzimuth segmentAt
-left-next azimuth last l n i h =
-    rw (remaining n i h, ne-eqb (i + 1) 0 (omega arith), later azimuth (doubleAt l (27 * i + 1)) (recordsFrom (segmentAt l) (i + 1) (n - (i + 1))), add-one i)
+module _ (azimuth : Float) (l : List ShadingSegment) (i : ℕ) (s : ShadingSegment) (there : i < length l) where
+  stopped : (p : Place) → p ≡ placeOf azimuth l → Looked azimuth l i (stopAt (length l) p)
+  unfolding stopAt
+  stopped p e = record { comes = record { inside = omega arith; on = λ k. absurd (omega (arith, k)); ended = λ _. e }; moved = there }
+
+  gone-on : placeFrom azimuth (s .end360) (i + 1) (drop (i + 1) l) ≡ placeOf azimuth l
+      → Looked azimuth l i (record { next = i + 1; last = s .end360; place = place.NoSector })
+  unfolding placeFrom
+  gone-on e = record {
+    comes = record {
+      inside = omega (arith, there);
+      on = λ k. rw (ne-eqb (i + 1) 0 (omega arith)) (later azimuth (s .end360) (i + 1) (drop (i + 1) l) ∙ e);
+      ended = λ k. at-end k;
+    };
+    moved = omega arith;
+  }
+    where
+      at-end : i + 1 ≡ length l → place.NoSector ≡ placeOf azimuth l
+      at-end k = rw (k, drop-length l) at e
+
+  by-tests : (b c d : Bool)
+      → cond b place.Gap (cond c place.Turned (cond d (place.At i) (placeFrom azimuth (s .end360) (i + 1) (drop (i + 1) l)))) ≡ placeOf azimuth l
+      → Looked azimuth l i
+      (cond b (stopAt (length l) place.Gap)
+      (cond c (stopAt (length l) place.Turned)
+      (cond d (stopAt (length l) (place.At i)) (record { next = i + 1; last = s .end360; place = place.NoSector }))))
+  by-tests true c d e = stopped place.Gap e
+  by-tests false true d e = stopped place.Turned e
+  by-tests false false true e = stopped (place.At i) e
+  by-tests false false false e = gone-on e
+
+pub comes-next : (azimuth : Float) (l : List ShadingSegment) (w : Walk) (d : ShadingSegment) → Comes azimuth l w → w .next < length l
+    → Looked azimuth l (w .next) (lookAt azimuth (length l) w (getD l (w .next) d))
+unfolding lookAt walkAt visit
+comes-next azimuth l w d c h =
+    by-tests azimuth l (w .next) s h (not (eqb (w .next) 0) && ne (w .last) (s .start360)) (lt (s .end360) (s .start360)) (holdsAzimuth azimuth s)
+    (sym (ap (walkAt azimuth (eqb (w .next) 0) (w .last) (w .next)) from-here) ∙ c .on h)
   where
-    remaining : (n i : ℕ) → i < n → n - i ≡ suc (n - (i + 1))
-    remaining n i h = omega arith
+    s : ShadingSegment
+    s = getD l (w .next) d
 
--- what the code's tests at the sector at place i say of a whole walk that comes to what is left there
-pub record AtSector (walk : Segment) (azimuth last : Float) (l : List ℕ) (n i : ℕ) (start360 end360 : Float) : Type 0 where
-  pub at-gap : (not (eqb i 0) && ne last start360) ≡ true → gap ≡ walk
-  pub at-turned : (not (eqb i 0) && ne last start360) ≡ false → lt end360 start360 ≡ true → turned ≡ walk
-  pub at-match : (not (eqb i 0) && ne last start360) ≡ false → lt end360 start360 ≡ false → betweenEnds azimuth start360 end360 ≡ true → found (segmentAt l i) ≡ walk
-  pub at-next : (not (eqb i 0) && ne last start360) ≡ false → lt end360 start360 ≡ false → betweenEnds azimuth start360 end360 ≡ false → left azimuth l n end360 (i + 1) ≡ walk
+    from-here : drop (w .next) l ≡ s ∷ drop (w .next + 1) l
+    from-here = drop-cons l (w .next) d h ∙ ap (λ (k : ℕ). s ∷ drop k l) (sym (add-one (w .next)))
 
-pub at-sector : {walk : Segment} {azimuth last : Float} {l : List ℕ} {n i : ℕ} {start360 end360 : Float} → left azimuth l n last i ≡ walk → i < n
-    → start360 ≡ doubleAt l (27 * i) → end360 ≡ doubleAt l (27 * i + 1) → AtSector walk azimuth last l n i start360 end360
-at-sector {walk} {azimuth} {last} {l} {n} {i} w h s e =
-    let next = left-next azimuth last l n i h in
-    rw (s, e)
-    (record {
-      at-gap = λ t. sym (rw t at next) ∙ w;
-      at-turned = λ t u. sym (rw (t, u) at next) ∙ w;
-      at-match = λ t u v. sym (rw (t, u, v) at next) ∙ w;
-      at-next = λ t u v. sym (rw (t, u, v) at next) ∙ w;
-    })
+pub comes-last : (azimuth : Float) (l : List ShadingSegment) (w : Walk) → Comes azimuth l w → length l ≤ w .next → w .place ≡ placeOf azimuth l
+comes-last azimuth l w c h = c .ended (le-antisymm (c .inside) h)

@@ -1,4 +1,3 @@
 pub mod Segments
 pub mod Walk
-pub mod Steps
 pub mod SameSectors

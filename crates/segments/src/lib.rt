@@ -1,14 +1,12 @@
-// The walk along the sectors, after the Rust's `get_segment`: over records, and over the lent bytes.
+// The walk along the sectors, after the Rust's `get_segment`.
 use objects::sectors::ShadingSegment;
 ghost use mathlib.Core.Path.{_≡_};
 ghost use Prim.Native.Nat.{_≤_, _<_};
 ghost use lib.ListN.{take};
-ghost use Rattle.segments.specs.Segments.{betweenEnds, segmentOf};
-ghost use Rattle.objects.specs.Records.{sectorsOf};
-ghost use Rattle.segments.specs.Walk.{segmentFor, InList, segmentIn, Within};
-ghost use Rattle.segments.specs.Steps.{setOut, stopAt, lookAt};
+ghost use Rattle.segments.specs.Segments.{betweenEnds, placeOf};
+ghost use Rattle.segments.specs.Walk.{setOut, stopAt, lookAt};
 
-// Where the walk ends: at the sector with the sun, or for one of three reasons at none.
+// Where the walk ends: at the place of the sector with the sun, or for one of three reasons at none.
 pub enum Place {
     At(usize),
     Gap,
@@ -74,9 +72,9 @@ fn look_at(azimuth: f64, n: usize, walk: Walk, sector: ShadingSegment) -> Walk
     }
 }
 
-// One sector after the other, until the walk stops.
+// Where the sun stands, by its azimuth from south in degrees: one sector after the other, until the walk stops.
 pub fn get_segment(azimuth: f64, sectors: &[ShadingSegment]) -> Place
-    ensures { λ r. ⌜ (segmentIn (now (sectors .entry)) r ≡ segmentOf azimuth (now (sectors .entry))) × Within (now (sectors .entry)) r ⌝ }
+    ensures { λ r. ⌜ r ≡ placeOf azimuth (now (sectors .entry)) ⌝ }
 {
     let n = sectors.len();
     let mut walk = set_out();
@@ -86,35 +84,11 @@ pub fn get_segment(azimuth: f64, sectors: &[ShadingSegment]) -> Place
     walk.place
 }
 
-// The walk along the first n sectors of a table.
+// The walk along the first n sectors of a table. The table comes by value: nothing else that the checker follows by itself can lend
+// a slice of structs.
 pub fn segment_in(azimuth: f64, table: [ShadingSegment; 36], n: usize) -> Place
     requires { ⌜ n ≤ 36 ⌝ }
-    ensures { λ r. ⌜ (segmentIn (take n table) r ≡ segmentOf azimuth (take n table)) × Within (take n table) r ⌝ }
+    ensures { λ r. ⌜ r ≡ placeOf azimuth (take n table) ⌝ }
 {
     get_segment(azimuth, &table[..n])
-}
-
-// The same over the lent bytes, which reads two words of a sector and no more.
-pub fn get_segment_in_bytes(azimuth: f64, sectors: &[u8]) -> Place
-    ensures { λ r. ⌜ (segmentFor (now (sectors .entry)) r ≡ segmentOf azimuth (sectorsOf (now (sectors .entry)))) × InList (now (sectors .entry)) r ⌝ }
-{
-    let n = words::word_count(sectors) / 27;
-    let mut last: f64 = 0.0;
-    let mut i: usize = 0;
-    while i < n {
-        let start360 = words::double_at(sectors, 27 * i);
-        let end360 = words::double_at(sectors, 27 * i + 1);
-        if (i != 0) & (last != start360) {
-            return Place::Gap;
-        }
-        if end360 < start360 {
-            return Place::Turned;
-        }
-        if between_ends(azimuth, start360, end360) {
-            return Place::At(i);
-        }
-        last = end360;
-        i += 1;
-    }
-    Place::NoSector
 }

@@ -55,10 +55,9 @@ use Rattle.objects.proofs.sectors.ShadingSegment as TS
 use Rattle.objects.proofs.sectors.ShadingSegment.Laws as TS′
 use Rattle.segments.specs.declared.Place.{Place}
 use Rattle.segments.specs.declared.Walk.{Walk}
-use Rattle.segments.specs.Segments.{segmentOf}
-use Rattle.segments.specs.Walk.{segmentIn, Within}
-use Rattle.segments.specs.Steps.{setOut, lookAt}
-use Rattle.segments.proofs.RecordWalks.{Comes, comes-first, comes-next, comes-last}
+use Rattle.segments.specs.Segments.{placeOf}
+use Rattle.segments.specs.Walk.{setOut, lookAt}
+use Rattle.segments.proofs.Walks.{Comes, comes-first, comes-next, comes-last}
 use Rattle.segments.proofs.Place as TP
 use Rattle.segments.proofs.Place.Laws as TP′
 use Rattle.segments.proofs.Walk as TW
@@ -140,7 +139,7 @@ module _ {M : Type 1} (𝓤 : URA M) (H : Heap 𝓤) (A : Atoms 𝓤) (W : Given
   abbrev Post : Val → SProp 𝓤
   Post = walkOf 𝓤 H A f.ended stayed (f.clauses 𝓤 H A mem run) .post (((κ, tt), (q, tt), tt, x, at), tt)
 
-  exits : (p : Place) (v : Val) → Is TP.the-row p (v ∷ []) → (segmentIn l p ≡ segmentOf azimuth l) × Within l p
+  exits : (p : Place) (v : Val) → Is TP.the-row p (v ∷ []) → p ≡ placeOf azimuth l
       → ent 𝓤 (sep 𝓤 (A .lft κ q) (sem 𝓤 H A (ShrSlice (named 0) κ TS.the-row .own (x .1 .0) (at .1 .0)))) (Post v)
   exits p v is e =
       qed W (‵ (flft κ q) ∷ ‵ (ShrSlice (named 0) κ TS.the-row .own (x .1 .0) (at .1 .0)) ∷ []) ∵

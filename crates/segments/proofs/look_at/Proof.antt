@@ -1,6 +1,6 @@
 use native.Mathlib.Omega.{arith}
 use Rattle.segments.specs.Segments.{holdsAzimuth}
-use Rattle.segments.specs.Steps.{lookAt}
+use Rattle.segments.specs.Walk.{lookAt}
 use Rattle.segments.proofs.look_at.Statement.{statement}
 use Rattle.segments.proofs.look_at.Tie as tie
 

@@ -56,8 +56,7 @@ use Rattle.objects.specs.declared.sectors.ShadingSegment.{ShadingSegment}
 use Rattle.objects.proofs.sectors.ShadingSegment as TS
 use Rattle.objects.proofs.sectors.ShadingSegment.Laws as TS′
 use Rattle.segments.specs.declared.Place.{Place}
-use Rattle.segments.specs.Segments.{segmentOf}
-use Rattle.segments.specs.Walk.{segmentIn, Within}
+use Rattle.segments.specs.Segments.{placeOf}
 use Rattle.segments.proofs.Place as TP
 use Rattle.segments.proofs.Place.Laws as TP′
 use Rattle.segments.proofs.get_segment as get-segment
@@ -124,7 +123,7 @@ module _ {M : Type 1} (𝓤 : URA M) (H : Heap 𝓤) (A : Atoms 𝓤) (W : Given
   typed : Holds (hasTy (type 4) (tableVal table)) × WT (tableVal table)
   typed = array-lawful 𝓤 H A W TS.the-row (LL.lawful TS.the-type TS′.the-laws 𝓤 H A W) 36 .typed table _ isT .0
 
-  exits : (p : Place) (v : Val) → Is TP.the-row p (v ∷ []) → (segmentIn l p ≡ segmentOf azimuth l) × Within l p → ent 𝓤 (emp 𝓤) (Post v)
+  exits : (p : Place) (v : Val) → Is TP.the-row p (v ∷ []) → p ≡ placeOf azimuth l → ent 𝓤 (emp 𝓤) (Post v)
   exits p v is e =
       qed W [] ∵ suffices ! _ (ends-at 𝓤 H A f.ended stayed (f.clauses 𝓤 H A mem″ run) W ((tt, tt, tt, x, at), tt) v p (tt, (tt, (tt, tt))) (tt, (tt, (tt, tt)))) $ says ! e $
       owned ! TP.the-row (Is TP.the-row) (LE.makes TP.the-type TP′.the-plain 𝓤 H A) p _ is $
@@ -182,8 +181,8 @@ module _ {M : Type 1} (𝓤 : URA M) (H : Heap 𝓤) (A : Atoms 𝓤) (W : Given
         owned ! f64 (Is f64) (float-makes 𝓤 H A W binary64) azimuth _ good $ fjoin ! $ move ! (1 ∷ 0 ∷ []) $ join ! $ nothing ! $ move ! (1 ∷ 0 ∷ []) $ done !
 
     get-segment-says : (r : Place) → ent 𝓤 (ensured 𝓤 H A get-segment.ended (get-segment.clauses 𝓤 H A mem″ run) (α ∷ [], tt) (azimuth, (slice, tt)) tt r)
-        (fact 𝓤 ((segmentIn l r ≡ segmentOf azimuth l) × Within l r))
-    get-segment-says r = exE 𝓤 _ (λ ws. snd∗ 𝓤 (sem 𝓤 H A (lasts get-segment.ended (α ∷ [], tt) (azimuth, (slice, tt)) ws)) (fact 𝓤 ((segmentIn l r ≡ segmentOf azimuth l) × Within l r)))
+        (fact 𝓤 (r ≡ placeOf azimuth l))
+    get-segment-says r = exE 𝓤 _ (λ ws. snd∗ 𝓤 (sem 𝓤 H A (lasts get-segment.ended (α ∷ [], tt) (azimuth, (slice, tt)) ws)) (fact 𝓤 (r ≡ placeOf azimuth l)))
 
   module _ (C : Calls 𝓤 H) (Λ : Loops 𝓤 H) (fm : FmC 𝓤 H (W .laws) C) (known : Triple 𝓤 (C #get-segment) (GetSegment 𝓤 H A mem″ run)) where
     walk : ent 𝓤 (onEntry 𝓤 H A f.signature tt tt x at) (WpFn 𝓤 H C Λ code.function (vfloat binary64 azimuth ∷ tableVal table ∷ vint w64 n ∷ []) Post)
@@ -205,8 +204,8 @@ module _ {M : Type 1} (𝓤 : URA M) (H : Heap 𝓤) (A : Atoms 𝓤) (W : Given
         calls-at ! fm (GetSegment 𝓤 H A mem″ run) known (to-get-segment α l₄ γ) (and-then ! (load ! (from ! (stop !)) (look ! 12 refl)) (and-then ! (load ! (from ! (stop !)) (look ! 3 refl)) (no-more !))) (λ v.
         use1 W (later (some (λ (r : Place). ((‵ (flft (α ∷ []) fullShare) ⊛ ‵ ftrue) ⊛ ‵ (TP.the-row .own r (v ∷ [])))
         ⊛ raw (ensured 𝓤 H A get-segment.ended (get-segment.clauses 𝓤 H A mem″ run) (α ∷ [], tt) (azimuth, (slice α l₄ γ, tt)) tt r)))) (id⊢ 𝓤 _) $ await ! tt $ pick ! (λ r.
-        split ! $ move ! (1 ∷ []) $ use1 W (raw (fact 𝓤 ((segmentIn l r ≡ segmentOf azimuth l) × Within l r))) (get-segment-says α l₄ γ r) $
-        heard ! ((segmentIn l r ≡ segmentOf azimuth l) × Within l r) (λ e. split ! $ move ! (1 ∷ []) $ peeks ! TP.the-row (Is TP.the-row) (shows 𝓤 H A TP.the-row) r (v ∷ []) (λ is. drop ! $
+        split ! $ move ! (1 ∷ []) $ use1 W (raw (fact 𝓤 (r ≡ placeOf azimuth l))) (get-segment-says α l₄ γ r) $
+        heard ! (r ≡ placeOf azimuth l) (λ e. split ! $ move ! (1 ∷ []) $ peeks ! TP.the-row (Is TP.the-row) (shows 𝓤 H A TP.the-row) r (v ∷ []) (λ is. drop ! $
         split ! $ move ! (1 ∷ []) $ drop ! $ lft-end ! tt $ lent-back ! tt $ use2 W (‵ (fat fullShare (type 4) l₄ 0 (tableVal table))) (joins l₄) $
         -- [_4; _6; …; _5; …; what frees _4; _3; …; _2; …; _1; …; _0; …]
         land ! (from ! (stop !)) (init ! 12 refl (LE.lawful TP.the-type TP′.the-laws 𝓤 H A W tt .typed r _ is .0)) $

@@ -1,6 +1,6 @@
 use lib.Ieee.{ofBits, ofInt}
 use Rattle.doubles.specs.Arithmetic.{whole}
-use Rattle.segments.specs.Steps.{setOut}
+use Rattle.segments.specs.Walk.{setOut}
 use Rattle.segments.proofs.set_out.Statement.{statement}
 use Rattle.segments.proofs.set_out.Tie as tie
 use mathlib.Core.Path.{refl}

@@ -1,6 +1,6 @@
 use lib.Ieee.{ofBits, ofInt}
 use Rattle.doubles.specs.Arithmetic.{whole}
-use Rattle.segments.specs.Steps.{stopAt}
+use Rattle.segments.specs.Walk.{stopAt}
 use Rattle.segments.proofs.stop_at.Statement.{statement}
 use Rattle.segments.proofs.stop_at.Tie as tie
 use mathlib.Core.Path.{refl}
