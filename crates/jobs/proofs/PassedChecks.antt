@@ -20,7 +20,8 @@ use Rattle.simulation_time.specs.RunChecks.{runAccepted}
 use Rattle.simulation_time.proofs.Times.{times-length, times-at}
 use Rattle.objects.specs.declared.answers.Refusal.{Refusal}
 use Rattle.objects.specs.declared.answers.Refusal.the-variants as refusal
-use Rattle.object_checks.specs.Checks.{surfaceFine, sectorsFine, windowFine}
+use Rattle.objects.specs.Surface.{surfaceFine}
+use Rattle.object_checks.specs.Checks.{sectorsFine, windowFine}
 use Rattle.objects.specs.Records.{windowObjectsOf}
 use Rattle.shading_laws.specs.Premises.{AcceptedSurface, AcceptedNear}
 use Rattle.object_checks.proofs.Accepted.{within-range, base-range, height-range, width-range}

@@ -12,7 +12,8 @@ use Rattle.simulation_time.specs.Steps.{stepCount, times, atAll}
 use Rattle.simulation_time.specs.RunChecks.{runAccepted}
 use Rattle.objects.specs.declared.answers.Refusal.{Refusal}
 use Rattle.objects.specs.declared.answers.Refusal.the-variants as refusal
-use Rattle.object_checks.specs.Checks.{surfaceFine, sectorsFine, windowFine}
+use Rattle.objects.specs.Surface.{surfaceFine}
+use Rattle.object_checks.specs.Checks.{sectorsFine, windowFine}
 use Rattle.jobs.specs.declared.answers.Reading.{Reading}
 use Rattle.jobs.specs.declared.answers.Checked.{Checked}
 use Rattle.jobs.specs.declared.answers.Checked.the-variants.{Steps, Refused}

@@ -15,7 +15,8 @@ use Rattle.doubles.specs.Ranges.{within, aboveZero}
 use Rattle.doubles.proofs.Order.{right-number}
 use Rattle.objects.specs.declared.surface.Surface.{Surface}
 use Rattle.words.specs.Lists.{firstFine}
-use Rattle.object_checks.specs.Checks.{surfaceFine, recordsFine}
+use Rattle.objects.specs.Surface.{surfaceFine}
+use Rattle.object_checks.specs.Checks.{recordsFine}
 use Rattle.objects.specs.Records.{recordsFrom}
 
 -- ---- truth values
@@ -115,12 +116,6 @@ module _ (size most : ℕ) (fine : List ℕ → ℕ → Bool) (l : List ℕ) (t 
 -- ---- lists of records
 
 module _ {Record : Type 0} (place : ℕ → Record) where
-  pub take-records : (n m i : ℕ) → n ≤ m → take n (recordsFrom place i m) ≡ recordsFrom place i n
-  unfolding recordsFrom
-  take-records zero m i h = refl
-  take-records (suc n) zero i h = absurd (omega arith)
-  take-records (suc n) (suc m) i h = ap (λ (r : List Record). place i ∷ r) (take-records n m (suc i) (omega arith))
-
   pub length-records : (n i : ℕ) → length (recordsFrom place i n) ≡ n
   unfolding recordsFrom
   length-records zero i = refl

@@ -16,9 +16,10 @@ use Rattle.objects.specs.declared.sectors.ShadingSegment.{ShadingSegment}
 use Rattle.objects.specs.Objects.{counted}
 use Rattle.words.specs.Lists.{firstFine}
 use Rattle.object_checks.specs.Checks.{objectValuesFine, objectFine, tripleFine, boundsFine, sectorRecordFine, sectorsFine}
-use Rattle.objects.specs.Records.{objectAt, objectsFrom, segmentAt, sectorsOf}
+use Rattle.objects.specs.Records.{objectAt, objectsFrom, noObject, segmentAt, sectorCount, sectorsOf}
+use Rattle.objects.proofs.Places.{take-filled}
 use Rattle.object_checks.proofs.RecordLists.{counted-triple}
-use Rattle.object_checks.proofs.Accepted.{both-of, within-range, above-range, first-fine, few-records, record-fine, take-records, length-records, member-records}
+use Rattle.object_checks.proofs.Accepted.{both-of, within-range, above-range, first-fine, few-records, record-fine, length-records, member-records}
 
 -- ---- one counted object
 
@@ -59,7 +60,7 @@ bounds-tests start360 end360 count t =
 -- the counted objects are the first triples
 pub counted-objects : (l : List ℕ) (i : ℕ) → wordAt l (27 * i + 2) ≤ 8 → counted (segmentAt l i) ≡ objectsFrom l (27 * i + 3) (wordAt l (27 * i + 2))
 unfolding counted segmentAt objectsFrom
-counted-objects l i h = take-records (λ (j : ℕ). objectAt l (27 * i + 3 + 3 * j)) (wordAt l (27 * i + 2)) 8 0 h
+counted-objects l i h = take-filled (λ (j : ℕ). objectAt l (27 * i + 3 + 3 * j)) noObject 8 (wordAt l (27 * i + 2)) h
 
 counted-in-range : (l : List ℕ) (k count : ℕ) → count ≤ 8 → T (firstFine (tripleFine l count k) 8)
     → (o : ShadingObject) → List·Memᴰ o (objectsFrom l k count) → ObjectInRange o
@@ -93,23 +94,23 @@ sector-in-range l i t =
 
 -- ---- the sectors of an accepted list
 
-pub sectors-length : (l : List ℕ) → length (sectorsOf l) ≡ wordCount l / 27
+pub sectors-length : (l : List ℕ) → length (sectorsOf l) ≡ sectorCount l
 unfolding sectorsOf
-sectors-length l = length-records (segmentAt l) (wordCount l / 27) 0
+sectors-length l = length-records (segmentAt l) (sectorCount l) 0
 
 module _ (l : List ℕ) (t : T (sectorsFine l)) where
   few : length l ≤ 7776
   unfolding sectorsFine
   few = few-records 216 36 sectorRecordFine l t
 
-  pub sector-count : wordCount l / 27 ≤ 36
-  unfolding wordCount
+  pub sector-count : sectorCount l ≤ 36
+  unfolding wordCount sectorCount
   sector-count = omega (arith, few)
 
-  pub sector-record : (i : ℕ) → i < wordCount l / 27 → T (sectorRecordFine l i)
-  unfolding sectorsFine wordCount
+  pub sector-record : (i : ℕ) → i < sectorCount l → T (sectorRecordFine l i)
+  unfolding sectorsFine wordCount sectorCount
   sector-record i h = record-fine 216 36 sectorRecordFine l t i (omega arith)
 
   pub sectors-in-range : (s : ShadingSegment) → List·Memᴰ s (sectorsOf l) → SectorInRange s
   unfolding sectorsOf
-  sectors-in-range = member-records (segmentAt l) SectorInRange (wordCount l / 27) 0 (λ j h. sector-in-range l j (sector-record j (omega arith)))
+  sectors-in-range = member-records (segmentAt l) SectorInRange (sectorCount l) 0 (λ j h. sector-in-range l j (sector-record j (omega arith)))

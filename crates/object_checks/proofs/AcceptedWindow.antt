@@ -18,8 +18,9 @@ use Rattle.objects.specs.declared.window.WindowShadingObject.{WindowShadingObje
 use Rattle.objects.specs.declared.window.WindowShadingType.the-variants as near
 use Rattle.objects.specs.Objects.{kindNumber, ofKind}
 use Rattle.object_checks.specs.Checks.{windowValuesFine, windowRecordFine, windowFine}
-use Rattle.objects.specs.Records.{windowKind, windowObjectAt, windowObjectsOf, windowOf}
-use Rattle.object_checks.proofs.Accepted.{both-of, either-of, within-range, above-range, few-records, record-fine, take-records, member-records}
+use Rattle.objects.specs.Records.{windowKind, windowObjectAt, windowCount, noWindowObject, windowObjectsOf, windowOf}
+use Rattle.objects.proofs.Places.{take-filled}
+use Rattle.object_checks.proofs.Accepted.{both-of, either-of, within-range, above-range, few-records, record-fine, member-records}
 
 -- a kind word that reads as an obstacle is 0
 others : (a b d : Bool) → T (eqb 0 (kindNumber (cond a near.Overhang (cond b near.SideFinRight (cond d near.SideFinLeft near.Reveal))))) → ⊥
@@ -94,18 +95,18 @@ module _ (l : List ℕ) (t : T (windowFine l)) where
   unfolding windowFine
   few = few-records 32 16 windowRecordFine l t
 
-  pub window-count : wordCount l / 4 ≤ 16
-  unfolding wordCount
+  pub window-count : windowCount l ≤ 16
+  unfolding wordCount windowCount
   window-count = omega (arith, few)
 
   pub window-places : take (windowOf l .count) (windowOf l .objects) ≡ windowObjectsOf l
   unfolding windowOf windowObjectsOf
-  window-places = take-records (windowObjectAt l) (wordCount l / 4) 16 0 window-count
+  window-places = take-filled (windowObjectAt l) noWindowObject 16 (windowCount l) window-count
 
-  pub window-record : (i : ℕ) → i < wordCount l / 4 → T (windowRecordFine l i)
-  unfolding windowFine wordCount
+  pub window-record : (i : ℕ) → i < windowCount l → T (windowRecordFine l i)
+  unfolding windowFine wordCount windowCount
   window-record i h = record-fine 32 16 windowRecordFine l t i (omega arith)
 
   pub window-in-range : (o : WindowShadingObject) → List·Memᴰ o (windowObjectsOf l) → WindowInRange o
   unfolding windowObjectsOf
-  window-in-range = member-records (windowObjectAt l) WindowInRange (wordCount l / 4) 0 (λ j h. place-in-range l j (window-record j (omega arith)))
+  window-in-range = member-records (windowObjectAt l) WindowInRange (windowCount l) 0 (λ j h. place-in-range l j (window-record j (omega arith)))

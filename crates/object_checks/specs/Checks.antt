@@ -1,25 +1,14 @@
--- When a surface, a sector list or a window list is turned down (refusals 3 and 4).
+-- When a sector list or a window list is turned down (refusal 4).
 use mathlib.Core.Bool.{Bool, cond, _&&_, _||_}
 use mathlib.Core.List.{List}
 use Prim.Native.Nat.{ℕ, _+_, _*_, _/_, _%_}
 use lib.Dec.{ltb, leb, eqb}
 use lib.ListN.{length}
 use lib.Ieee.{Float}
-use Rattle.doubles.specs.Arithmetic.{whole, decimal}
+use Rattle.doubles.specs.Arithmetic.{whole}
 use Rattle.doubles.specs.Ranges.{within, aboveZero}
 use Rattle.words.specs.Words.{wordAt, doubleAt}
 use Rattle.words.specs.Lists.{firstFine}
-use Rattle.objects.specs.declared.surface.Surface.{Surface}
-
--- tilt 0..180, orientation 0..360 (degrees), base height 0..1000, height and width 0.001..1000 (metres)
-unfoldable pub surfaceFine : Surface → Bool
-unfolding within whole decimal
-surfaceFine s =
-    within (whole 0) (whole 180) (s .tilt)
-    && within (whole 0) (whole 360) (s .orientation)
-    && within (whole 0) (whole 1000) (s .«base_height»)
-    && within (decimal 1 3) (whole 1000) (s .height)
-    && within (decimal 1 3) (whole 1000) (s .width)
 
 -- ---- lists of records
 

@@ -1,23 +1,11 @@
-// Refusals 3 and 4: whether a surface and the lists of shading objects are in their ranges. Tests of values are joined without
+// Refusal 4: whether the lists of shading objects are in their ranges. Tests of values are joined without
 // branches. An accepted list is looked at to its end in any case, so the loops do not stop early.
-use objects::surface::Surface;
 use words::double_at;
 use words::word_at;
 ghost use mathlib.Core.Path.{_≡_};
 ghost use Rattle.words.specs.Lists.{firstFine};
-ghost use Rattle.object_checks.specs.Checks.{surfaceFine, windowValuesFine, windowRecordFine, windowFine, objectValuesFine, objectFine, objectUnused, tripleFine, boundsFine, sectorRecordFine, sectorsFine};
+ghost use Rattle.object_checks.specs.Checks.{windowValuesFine, windowRecordFine, windowFine, objectValuesFine, objectFine, objectUnused, tripleFine, boundsFine, sectorRecordFine, sectorsFine};
 ghost use Prim.Native.Nat.{_<_};
-
-pub fn surface_fine(surface: Surface) -> bool
-    ensures { λ r. ⌜ r ≡ surfaceFine surface ⌝ }
-{
-    let tilt = (0.0 <= surface.tilt) & (surface.tilt <= 180.0);
-    let orientation = (0.0 <= surface.orientation) & (surface.orientation <= 360.0);
-    let base_height = (0.0 <= surface.base_height) & (surface.base_height <= 1000.0);
-    let height = (0.001 <= surface.height) & (surface.height <= 1000.0);
-    let width = (0.001 <= surface.width) & (surface.width <= 1000.0);
-    tilt & orientation & base_height & height & width
-}
 
 fn window_values_fine(kind: u64, size: f64, distance: f64, transparency: f64, spare: u64) -> bool
     ensures { λ r. ⌜ r ≡ windowValuesFine kind size distance transparency spare ⌝ }

@@ -1,1 +1,1 @@
-pub mod SectorTables
+pub mod Places

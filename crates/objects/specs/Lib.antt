@@ -1,3 +1,4 @@
 pub mod Objects
 pub mod Records
 pub mod Refusals
+pub mod Surface

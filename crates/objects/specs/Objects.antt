@@ -7,7 +7,6 @@ use lib.ListN.{take}
 use Rattle.objects.specs.declared.sectors.ShadingObject.{ShadingObject}
 use Rattle.objects.specs.declared.sectors.ShadingObjectType.the-variants as distant
 use Rattle.objects.specs.declared.sectors.ShadingSegment.{ShadingSegment}
-use Rattle.objects.specs.declared.sectors.Sectors.{Sectors}
 use Rattle.objects.specs.declared.window.WindowShadingObject.{WindowShadingObject}
 use Rattle.objects.specs.declared.window.WindowShadingType.{WindowShadingType}
 use Rattle.objects.specs.declared.window.WindowShadingType.the-variants as near
@@ -35,10 +34,6 @@ ofKind kind o = eqb (kindNumber kind) (kindNumber (o .«object_type»))
 -- the counted objects of a sector
 unfoldable pub counted : ShadingSegment → List ShadingObject
 counted s = take (s .count) (s .«shading_objects»)
-
--- the counted sectors of a table
-unfoldable pub listed : Sectors → List ShadingSegment
-listed t = take (t .count) (t .places)
 
 -- the counted objects at the window
 unfoldable pub placed : WindowShading → List WindowShadingObject

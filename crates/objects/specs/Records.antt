@@ -10,7 +10,6 @@ use Rattle.objects.specs.declared.sectors.ShadingObject.{ShadingObject}
 use Rattle.objects.specs.declared.sectors.ShadingObjectType.{ShadingObjectType}
 use Rattle.objects.specs.declared.sectors.ShadingObjectType.the-variants as distant
 use Rattle.objects.specs.declared.sectors.ShadingSegment.{ShadingSegment}
-use Rattle.objects.specs.declared.sectors.Sectors.{Sectors}
 use Rattle.objects.specs.declared.window.WindowShadingObject.{WindowShadingObject}
 use Rattle.objects.specs.declared.window.WindowShading.{WindowShading}
 use Rattle.objects.specs.declared.window.WindowShadingType.{WindowShadingType}
@@ -20,6 +19,10 @@ use Rattle.objects.specs.declared.window.WindowShadingType.the-variants 
 unfoldable pub recordsFrom : {Record : Type 0} → (ℕ → Record) → ℕ → ℕ → List Record
 recordsFrom place i zero = []
 recordsFrom place i (suc n) = place i ∷ recordsFrom place (suc i) n
+
+-- `size` places, of which the first n hold records and the rest a blank
+unfoldable pub filled : {Record : Type 0} → (ℕ → Record) → Record → ℕ → ℕ → List Record
+filled place blank size n = recordsFrom (λ (i : ℕ). cond (ltb i n) (place i) blank) 0 size
 
 -- ---- the sector list
 
@@ -35,7 +38,11 @@ objectAt l k = record { «object_type» = distantKind (wordAt l k); height = dou
 unfoldable pub objectsFrom : List ℕ → ℕ → ℕ → List ShadingObject
 objectsFrom l k n = recordsFrom (λ (j : ℕ). objectAt l (k + 3 * j)) 0 n
 
--- the i-th sector, of 27 words: start, end, count, then eight triples
+-- what stands in a place that no object has
+unfoldable pub noObject : ShadingObject
+noObject = record { «object_type» = distant.Obstacle; height = whole 0; distance = whole 0 }
+
+-- the i-th sector, of 27 words: start, end, count, then eight triples, of which the first `count` are objects
 unfoldable pub segmentAt : List ℕ → ℕ → ShadingSegment
 segmentAt l i =
     let k = 27 * i in
@@ -43,29 +50,24 @@ segmentAt l i =
       start360 = doubleAt l k;
       end360 = doubleAt l (k + 1);
       count = wordAt l (k + 2);
-      «shading_objects» = objectsFrom l (k + 3) 8;
+      «shading_objects» = filled (λ (j : ℕ). objectAt l (k + 3 + 3 * j)) noObject 8 (wordAt l (k + 2));
     }
 
--- all whole records of a list, in order
+-- how many whole records a list has
+unfoldable pub sectorCount : List ℕ → ℕ
+sectorCount l = wordCount l / 27
+
+-- all of them, in order
 unfoldable pub sectorsOf : List ℕ → List ShadingSegment
-sectorsOf l = recordsFrom (segmentAt l) 0 (wordCount l / 27)
+sectorsOf l = recordsFrom (segmentAt l) 0 (sectorCount l)
 
 -- what stands in a place that no sector has
 unfoldable pub noSegment : ShadingSegment
-noSegment = record {
-  start360 = whole 0;
-  end360 = whole 0;
-  count = 0;
-  «shading_objects» = replicate 8 (record { «object_type» = distant.Obstacle; height = whole 0; distance = whole 0 });
-}
+noSegment = record { start360 = whole 0; end360 = whole 0; count = 0; «shading_objects» = replicate 8 noObject }
 
 -- the first n sectors in 36 places
 unfoldable pub sectorPlaces : List ℕ → ℕ → List ShadingSegment
-sectorPlaces l n = recordsFrom (λ (i : ℕ). cond (ltb i n) (segmentAt l i) noSegment) 0 36
-
--- the same as `sectorsOf`, where there are no more than 36
-unfoldable pub sectorTable : List ℕ → Sectors
-sectorTable l = record { count = wordCount l / 27; places = sectorPlaces l (wordCount l / 27) }
+sectorPlaces l n = filled (segmentAt l) noSegment 36 n
 
 -- ---- the window list
 
@@ -86,10 +88,18 @@ windowObjectAt l i =
       transparency = doubleAt l (k + 3);
     }
 
--- all whole records of a list, in order
-unfoldable pub windowObjectsOf : List ℕ → List WindowShadingObject
-windowObjectsOf l = recordsFrom (windowObjectAt l) 0 (wordCount l / 4)
+-- how many whole records a list has
+unfoldable pub windowCount : List ℕ → ℕ
+windowCount l = wordCount l / 4
 
--- the same in sixteen places, of which the first `count` are the list's
+-- all of them, in order
+unfoldable pub windowObjectsOf : List ℕ → List WindowShadingObject
+windowObjectsOf l = recordsFrom (windowObjectAt l) 0 (windowCount l)
+
+-- what stands in a place that no object has
+unfoldable pub noWindowObject : WindowShadingObject
+noWindowObject = record { «object_type» = near.Obstacle; size = whole 0; distance = whole 0; transparency = whole 0 }
+
+-- the same in sixteen places
 unfoldable pub windowOf : List ℕ → WindowShading
-windowOf l = record { count = wordCount l / 4; objects = recordsFrom (windowObjectAt l) 0 16 }
+windowOf l = record { count = windowCount l; objects = filled (windowObjectAt l) noWindowObject 16 (windowCount l) }

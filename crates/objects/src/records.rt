@@ -1,5 +1,4 @@
 // The records of the lent lists, read into structs by value.
-use crate::sectors::Sectors;
 use crate::sectors::ShadingObject;
 use crate::sectors::ShadingObjectType;
 use crate::sectors::ShadingSegment;
@@ -10,9 +9,32 @@ use words::double_at;
 use words::word_at;
 use words::word_count;
 ghost use mathlib.Core.Path.{_≡_};
-ghost use Prim.Native.Nat.{_/_, _≤_, _<_};
-ghost use Rattle.words.specs.Words.{wordCount};
-ghost use Rattle.objects.specs.Records.{distantKind, objectAt, segmentAt, noSegment, sectorTable, windowKind, windowObjectAt, windowOf};
+ghost use mathlib.Core.Bool.{cond};
+ghost use Prim.Native.Nat.{_≤_, _<_};
+ghost use lib.ListN.{replicate};
+ghost use Rattle.objects.specs.Records.{distantKind, objectAt, noObject, segmentAt, sectorCount, noSegment, sectorPlaces};
+ghost use Rattle.objects.specs.Records.{windowKind, windowObjectAt, windowCount, noWindowObject, windowOf};
+
+// What stands in a place that no object or sector has.
+const NO_OBJECT: ShadingObject = ShadingObject {
+    object_type: ShadingObjectType::Obstacle,
+    height: 0.0,
+    distance: 0.0,
+};
+
+const NO_SEGMENT: ShadingSegment = ShadingSegment {
+    start360: 0.0,
+    end360: 0.0,
+    count: 0,
+    shading_objects: [NO_OBJECT; 8],
+};
+
+const NO_WINDOW_OBJECT: WindowShadingObject = WindowShadingObject {
+    object_type: WindowShadingType::Obstacle,
+    size: 0.0,
+    distance: 0.0,
+    transparency: 0.0,
+};
 
 fn distant_kind(kind: u64) -> ShadingObjectType
     ensures { λ r. ⌜ r ≡ distantKind kind ⌝ }
@@ -23,20 +45,25 @@ fn distant_kind(kind: u64) -> ShadingObjectType
     ShadingObjectType::Overhang
 }
 
-fn object_at(bytes: &[u8], k: usize) -> ShadingObject
+// The triple from word k on, and a blank where it is not counted.
+fn object_at(bytes: &[u8], k: usize, counted: bool) -> ShadingObject
     requires { ⌜ k < 972 ⌝ }
-    ensures { λ r. ⌜ r ≡ objectAt (now (bytes .entry)) k ⌝ }
+    ensures { λ r. ⌜ r ≡ cond counted (objectAt (now (bytes .entry)) k) noObject ⌝ }
 {
-    let object_type = distant_kind(word_at(bytes, k));
-    let height = double_at(bytes, k + 1);
-    let distance = double_at(bytes, k + 2);
-    ShadingObject {
-        object_type: object_type,
-        height: height,
-        distance: distance,
+    if counted {
+        let object_type = distant_kind(word_at(bytes, k));
+        let height = double_at(bytes, k + 1);
+        let distance = double_at(bytes, k + 2);
+        return ShadingObject {
+            object_type: object_type,
+            height: height,
+            distance: distance,
+        };
     }
+    NO_OBJECT
 }
 
+// The i-th sector of a checked list.
 pub fn segment_at(bytes: &[u8], i: usize) -> ShadingSegment
     requires { ⌜ i < 36 ⌝ }
     ensures { λ r. ⌜ r ≡ segmentAt (now (bytes .entry)) i ⌝ }
@@ -47,14 +74,14 @@ pub fn segment_at(bytes: &[u8], i: usize) -> ShadingSegment
     let count = word_at(bytes, k + 2);
     let first = k + 3;
     let shading_objects = [
-        object_at(bytes, first + 0),
-        object_at(bytes, first + 3),
-        object_at(bytes, first + 6),
-        object_at(bytes, first + 9),
-        object_at(bytes, first + 12),
-        object_at(bytes, first + 15),
-        object_at(bytes, first + 18),
-        object_at(bytes, first + 21),
+        object_at(bytes, first + 0, 0 < count),
+        object_at(bytes, first + 3, 1 < count),
+        object_at(bytes, first + 6, 2 < count),
+        object_at(bytes, first + 9, 3 < count),
+        object_at(bytes, first + 12, 4 < count),
+        object_at(bytes, first + 15, 5 < count),
+        object_at(bytes, first + 18, 6 < count),
+        object_at(bytes, first + 21, 7 < count),
     ];
     ShadingSegment {
         start360: start360,
@@ -64,41 +91,32 @@ pub fn segment_at(bytes: &[u8], i: usize) -> ShadingSegment
     }
 }
 
-// What stands in a place that no sector has.
-fn no_segment() -> ShadingSegment
-    ensures { λ r. ⌜ r ≡ noSegment ⌝ }
+// How many sectors a list has.
+pub fn sector_count(bytes: &[u8]) -> usize
+    ensures { λ r. ⌜ r ≡ sectorCount (now (bytes .entry)) ⌝ }
 {
-    let object = ShadingObject {
-        object_type: ShadingObjectType::Obstacle,
-        height: 0.0,
-        distance: 0.0,
-    };
-    let shading_objects = [object; 8];
-    ShadingSegment {
-        start360: 0.0,
-        end360: 0.0,
-        count: 0,
-        shading_objects: shading_objects,
-    }
+    word_count(bytes) / 27
 }
 
-// The sectors of a checked list, read once.
-pub fn sectors_of(bytes: &[u8]) -> Sectors
-    requires { ⌜ wordCount (now bytes) / 27 ≤ 36 ⌝ }
-    ensures { λ r. ⌜ r ≡ sectorTable (now (bytes .entry)) ⌝ }
+// A table without a sector. By a function, so that the compiler clears it in one go.
+fn no_sectors() -> [ShadingSegment; 36]
+    ensures { λ r. ⌜ r ≡ replicate 36 noSegment ⌝ }
 {
-    let n = word_count(bytes) / 27;
-    let none = no_segment();
-    let mut places = [none; 36];
+    [NO_SEGMENT; 36]
+}
+
+// The first n sectors of a checked list, read into a table.
+pub fn sectors_of(bytes: &[u8], n: usize) -> [ShadingSegment; 36]
+    requires { ⌜ n ≤ 36 ⌝ }
+    ensures { λ r. ⌜ r ≡ sectorPlaces (now (bytes .entry)) n ⌝ }
+{
+    let mut places = no_sectors();
     let mut i: usize = 0;
     while i < n {
         places[i] = segment_at(bytes, i);
         i += 1;
     }
-    Sectors {
-        count: n as u64,
-        places: places,
-    }
+    places
 }
 
 fn window_kind(kind: u64) -> WindowShadingType
@@ -119,7 +137,7 @@ fn window_kind(kind: u64) -> WindowShadingType
     WindowShadingType::Reveal
 }
 
-pub fn window_object_at(bytes: &[u8], i: usize) -> WindowShadingObject
+fn window_object_at(bytes: &[u8], i: usize) -> WindowShadingObject
     requires { ⌜ i < 16 ⌝ }
     ensures { λ r. ⌜ r ≡ windowObjectAt (now (bytes .entry)) i ⌝ }
 {
@@ -136,28 +154,24 @@ pub fn window_object_at(bytes: &[u8], i: usize) -> WindowShadingObject
     }
 }
 
+fn no_window_objects() -> [WindowShadingObject; 16]
+    ensures { λ r. ⌜ r ≡ replicate 16 noWindowObject ⌝ }
+{
+    [NO_WINDOW_OBJECT; 16]
+}
+
+// The objects of a checked window list.
 pub fn window_of(bytes: &[u8]) -> WindowShading
+    requires { ⌜ windowCount (now bytes) ≤ 16 ⌝ }
     ensures { λ r. ⌜ r ≡ windowOf (now (bytes .entry)) ⌝ }
 {
     let n = word_count(bytes) / 4;
-    let objects = [
-        window_object_at(bytes, 0),
-        window_object_at(bytes, 1),
-        window_object_at(bytes, 2),
-        window_object_at(bytes, 3),
-        window_object_at(bytes, 4),
-        window_object_at(bytes, 5),
-        window_object_at(bytes, 6),
-        window_object_at(bytes, 7),
-        window_object_at(bytes, 8),
-        window_object_at(bytes, 9),
-        window_object_at(bytes, 10),
-        window_object_at(bytes, 11),
-        window_object_at(bytes, 12),
-        window_object_at(bytes, 13),
-        window_object_at(bytes, 14),
-        window_object_at(bytes, 15),
-    ];
+    let mut objects = no_window_objects();
+    let mut i: usize = 0;
+    while i < n {
+        objects[i] = window_object_at(bytes, i);
+        i += 1;
+    }
     WindowShading {
         count: n as u64,
         objects: objects,

@@ -19,9 +19,3 @@ pub struct ShadingSegment {
     pub count: u64,
     pub shading_objects: [ShadingObject; 8],
 }
-
-// The sectors of the horizon: the first `count` of 36 places.
-pub struct Sectors {
-    pub count: u64,
-    pub places: [ShadingSegment; 36],
-}

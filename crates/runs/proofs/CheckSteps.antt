@@ -17,7 +17,8 @@ use Rattle.words.specs.Words.{wordCount}
 use Rattle.simulation_time.specs.Steps.{stepCount, times, atAll}
 use Rattle.simulation_time.specs.RunChecks.{runAccepted}
 use Rattle.objects.specs.declared.answers.Refusal.the-variants as refusal
-use Rattle.object_checks.specs.Checks.{surfaceFine, sectorsFine, windowFine}
+use Rattle.objects.specs.Surface.{surfaceFine}
+use Rattle.object_checks.specs.Checks.{sectorsFine, windowFine}
 use Rattle.jobs.specs.declared.answers.Checked.the-variants.{Steps, Refused}
 use Rattle.jobs.specs.Job.{Job, readingAt}
 use Rattle.jobs.specs.Checks.{indexFine, readingFine, resultsFine, tried, seriesChecked, checked}

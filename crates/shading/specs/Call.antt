@@ -9,7 +9,8 @@ use Rattle.objects.specs.declared.surface.Surface.{Surface}
 use Rattle.objects.specs.declared.answers.Refusal.the-variants as refusal
 use Rattle.objects.specs.declared.answers.FactorAnswer.{FactorAnswer}
 use Rattle.objects.specs.declared.answers.FactorAnswer.the-variants.{Refused}
-use Rattle.object_checks.specs.Checks.{surfaceFine, sectorsFine, windowFine}
+use Rattle.objects.specs.Surface.{surfaceFine}
+use Rattle.object_checks.specs.Checks.{sectorsFine, windowFine}
 use Rattle.shading.specs.Factor.{shadingFactor}
 use Rattle.objects.specs.Records.{sectorsOf, windowObjectsOf}
 

@@ -1,39 +1,82 @@
 // The factor of one step, from the lent lists.
 ghost use mathlib.Core.Path.{_≡_};
-ghost use Prim.Native.Nat.{_/_, _≤_};
-ghost use Rattle.words.specs.Words.{wordCount};
-ghost use Rattle.objects.specs.Objects.{listed, placed};
+ghost use Prim.Native.Nat.{_≤_};
+ghost use lib.ListN.{take};
+ghost use Rattle.objects.specs.Objects.{placed};
+ghost use Rattle.objects.specs.Records.{sectorCount, sectorsOf};
 ghost use Rattle.shading.specs.Factor.{shadingFactor};
+ghost use Rattle.shading.specs.SunPlaces.{sunPlace, placeIndex, factorAt};
 ghost use Rattle.shading.specs.Call.{sunFine, factorCall};
-ghost use Rattle.objects.specs.Records.{sectorsOf};
 use crate::factor;
 use crate::sun_on_surface;
+use beam::outside_solar_beam;
 use objects::answers::FactorAnswer;
 use objects::answers::Refusal;
 use objects::records;
-use objects::sectors::Sectors;
+use objects::sectors::ShadingSegment;
 use objects::surface::Surface;
 use objects::window::WindowShading;
 use segments::Place;
 
-// The direct shading reduction factor at one step, or why there is none. The sectors are a checked list.
-pub fn direct_shading_reduction_factor(
+// Where the sun stands: outside the beam, or where the walk along the sectors ends.
+pub struct SunPlace {
+    pub outside: bool,
+    pub place: Place,
+}
+
+// The walk along the first n sectors of a table. Altitude and azimuth, from south, are in degrees.
+pub fn sun_place(
     surface: Surface,
     altitude: f64,
     azimuth: f64,
-    sectors: &[u8],
+    places: [ShadingSegment; 36],
+    n: usize,
+) -> SunPlace
+    requires { ⌜ n ≤ 36 ⌝ }
+    ensures { λ r. ⌜ r ≡ sunPlace surface altitude azimuth (take n places) ⌝ }
+{
+    if outside_solar_beam(surface.tilt, surface.orientation, altitude, azimuth) {
+        return SunPlace {
+            outside: true,
+            place: Place::NoSector,
+        };
+    }
+    SunPlace {
+        outside: false,
+        place: segments::segment_in(azimuth, places, n),
+    }
+}
+
+// The place of the sector that has the sun, 0 where none has it.
+pub fn place_index(place: Place) -> usize
+    ensures { λ r. ⌜ r ≡ placeIndex place ⌝ }
+{
+    match place {
+        Place::At(i) => i,
+        Place::Gap => 0,
+        Place::Turned => 0,
+        Place::NoSector => 0,
+    }
+}
+
+// The factor where the sun stands, the sector there being given, or why there is none.
+pub fn factor_at(
+    surface: Surface,
+    altitude: f64,
+    azimuth: f64,
+    sun: SunPlace,
+    segment: ShadingSegment,
     window: WindowShading,
 ) -> FactorAnswer
-    requires { ⌜ wordCount (now sectors) / 27 ≤ 36 ⌝ }
-    ensures { λ r. ⌜ r ≡ shadingFactor surface altitude azimuth (sectorsOf (now (sectors .entry))) (placed window) ⌝ }
+    ensures { λ r. ⌜ r ≡ factorAt surface altitude azimuth sun segment (placed window) ⌝ }
 {
-    if beam::outside_solar_beam(surface.tilt, surface.orientation, altitude, azimuth) {
+    if sun.outside {
         return FactorAnswer::Factor(1.0);
     }
-    match segments::get_segment_in_bytes(azimuth, sectors) {
-        Place::At(i) => {
+    let place = sun.place;
+    match place {
+        Place::At(_i) => {
             let sun = sun_on_surface::sun_on(surface, altitude, azimuth);
-            let segment = records::segment_at(sectors, i);
             factor::factor_in(surface, sun, segment, window)
         }
         Place::Gap => FactorAnswer::Refused(Refusal::Gap),
@@ -42,32 +85,27 @@ pub fn direct_shading_reduction_factor(
     }
 }
 
-// The same for sectors that are records, by the walk along their slice.
-pub fn factor_among(
+// The direct shading reduction factor of one sun, or why there is none. The sectors are a checked list. The sector with the sun is read
+// once more, and not taken out of the table, so that the compiler fills the table where it is walked along.
+pub fn direct_shading_reduction_factor(
     surface: Surface,
     altitude: f64,
     azimuth: f64,
-    sectors: Sectors,
+    sectors: &[u8],
     window: WindowShading,
 ) -> FactorAnswer
-    requires { ⌜ sectors .count ≤ 36 ⌝ }
-    ensures { λ r. ⌜ r ≡ shadingFactor surface altitude azimuth (listed sectors) (placed window) ⌝ }
+    requires { ⌜ sectorCount (now sectors) ≤ 36 ⌝ }
+    ensures { λ r. ⌜ r ≡ shadingFactor surface altitude azimuth (sectorsOf (now (sectors .entry))) (placed window) ⌝ }
 {
-    if beam::outside_solar_beam(surface.tilt, surface.orientation, altitude, azimuth) {
+    if outside_solar_beam(surface.tilt, surface.orientation, altitude, azimuth) {
         return FactorAnswer::Factor(1.0);
     }
-    let places = sectors.places;
-    let n = sectors.count as usize;
-    match segments::segment_in(azimuth, places, n) {
-        Place::At(i) => {
-            let sun = sun_on_surface::sun_on(surface, altitude, azimuth);
-            let segment = places[i];
-            factor::factor_in(surface, sun, segment, window)
-        }
-        Place::Gap => FactorAnswer::Refused(Refusal::Gap),
-        Place::Turned => FactorAnswer::Refused(Refusal::Turned),
-        Place::NoSector => FactorAnswer::Refused(Refusal::NoSector),
-    }
+    let n = records::sector_count(sectors);
+    let places = records::sectors_of(sectors, n);
+    let sun = sun_place(surface, altitude, azimuth, places, n);
+    let place = sun.place;
+    let segment = records::segment_at(sectors, place_index(place));
+    factor_at(surface, altitude, azimuth, sun, segment, window)
 }
 
 fn sun_fine(altitude: f64, azimuth: f64) -> bool
@@ -76,7 +114,7 @@ fn sun_fine(altitude: f64, azimuth: f64) -> bool
     (0.0 <= altitude) & (altitude <= 90.0) & ((-360.0 <= azimuth) & (azimuth <= 360.0))
 }
 
-// The factor for any sun, surface and lists, each checked here.
+// The factor for any sun, surface and lists, each checked here. Altitude and azimuth, from south, are in degrees.
 pub fn factor_call(
     altitude: f64,
     azimuth: f64,
@@ -86,31 +124,10 @@ pub fn factor_call(
 ) -> FactorAnswer
     ensures { λ r. ⌜ r ≡ factorCall altitude azimuth surface (now (sectors .entry)) (now (window .entry)) ⌝ }
 {
-    if sun_fine(altitude, azimuth) & object_checks::surface_fine(surface) {
+    if sun_fine(altitude, azimuth) & objects::surface::surface_fine(surface) {
         if object_checks::sectors_fine(sectors) & object_checks::window_fine(window) {
             let objects = records::window_of(window);
             return direct_shading_reduction_factor(surface, altitude, azimuth, sectors, objects);
-        }
-        return FactorAnswer::Refused(Refusal::Object);
-    }
-    FactorAnswer::Refused(Refusal::Surface)
-}
-
-// The same, by the walk along records: the sectors are read once, into a table.
-pub fn factor_call_by_records(
-    altitude: f64,
-    azimuth: f64,
-    surface: Surface,
-    sectors: &[u8],
-    window: &[u8],
-) -> FactorAnswer
-    ensures { λ r. ⌜ r ≡ factorCall altitude azimuth surface (now (sectors .entry)) (now (window .entry)) ⌝ }
-{
-    if sun_fine(altitude, azimuth) & object_checks::surface_fine(surface) {
-        if object_checks::sectors_fine(sectors) & object_checks::window_fine(window) {
-            let table = records::sectors_of(sectors);
-            let objects = records::window_of(window);
-            return factor_among(surface, altitude, azimuth, table, objects);
         }
         return FactorAnswer::Refused(Refusal::Object);
     }

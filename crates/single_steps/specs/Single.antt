@@ -15,7 +15,8 @@ use Rattle.simulation_time.specs.Timestep.{currentHour}
 use Rattle.objects.specs.declared.surface.Surface.{Surface}
 use Rattle.objects.specs.declared.answers.Refusal.{Refusal}
 use Rattle.objects.specs.declared.answers.Refusal.the-variants as refusal
-use Rattle.object_checks.specs.Checks.{surfaceFine, sectorsFine, windowFine}
+use Rattle.objects.specs.Surface.{surfaceFine}
+use Rattle.object_checks.specs.Checks.{sectorsFine, windowFine}
 use Rattle.objects.specs.Refusals.{numberOf}
 use Rattle.jobs.specs.declared.answers.Reading.{Reading}
 use Rattle.jobs.specs.declared.answers.StepAnswer.{StepAnswer}

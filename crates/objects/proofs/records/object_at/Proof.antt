@@ -1,6 +1,8 @@
 -- `object_at` meets its contract: the words are those of the definition.
 use mathlib.Core.Path.{_∙_, ap}
-use Rattle.objects.specs.Records.{distantKind, objectAt}
+use lib.Ieee.{ofBits, ofInt}
+use Rattle.doubles.specs.Arithmetic.{whole}
+use Rattle.objects.specs.Records.{distantKind, objectAt, noObject}
 use borrow.Author.Needs.{needs}
 use Rattle.objects.proofs.records.object_at.Statement.{statement}
 use Rattle.objects.proofs.records.object_at.Tie as tie
@@ -29,7 +31,11 @@ returns c =
     let kind = c .before .before .distant-kind .ensures ∙ ap distantKind (c .before .before .before .word-at .ensures) in
     let height = c .before .double-at .ensures in
     let distance = c .double-at2 .ensures in
-    λ i. record { «object_type» = kind i; height = height i; distance = distance i }
+    rw (c .before .before .before .before .if1 .taken) (λ i. record { «object_type» = kind i; height = height i; distance = distance i })
+
+returns-2 : tie.Need-returns-2
+unfolding noObject whole ofBits ofInt
+returns-2 c = rw (c .if1 .left)
 
 pub object-at-spec : {M : Type 1} → statement M
 object-at-spec =
@@ -41,4 +47,5 @@ object-at-spec =
     double-at-requires
     add-double-at-2
     double-at-requires-2
-    returns)
+    returns
+    returns-2)

@@ -1,11 +1,9 @@
-use mathlib.Core.Path.{_≡_, sym, ap, _∙_, subst}
-use Prim.Native.Nat.{ℕ, _-_, _/_, _≤_, _<_}
+-- `sectors_of` meets its contract. The loop's invariant: the sectors so far stand in their places.
+use mathlib.Core.Path.{_≡_, ap, _∙_}
+use Prim.Native.Nat.{_-_, _≤_, _<_}
 use native.Mathlib.Omega.{arith}
-use lib.ListN.{replicate}
-use Rattle.words.specs.Words.{wordCount}
-use Rattle.objects.specs.declared.sectors.ShadingSegment.{ShadingSegment}
-use Rattle.objects.specs.Records.{sectorPlaces, sectorTable}
-use Rattle.objects.proofs.SectorTables.{no-places, one-more-place}
+use Rattle.objects.specs.Records.{segmentAt, noSegment, sectorPlaces}
+use Rattle.objects.proofs.Places.{none-filled, one-filled}
 use Rattle.objects.proofs.records.sectors_of.Statement.{statement}
 use Rattle.objects.proofs.records.sectors_of.Tie as tie
 
@@ -15,18 +13,14 @@ Inv-loop bytes n places₀ i₀ places i = (i ≤ n) × (n ≤ 36) × (places �
 abbrev μ-loop : tie.MeasureT-loop
 μ-loop bytes n places₀ i₀ places i = n - i
 
-word-count-requires : tie.Need-word-count-requires Inv-loop μ-loop
-word-count-requires c κs = tt
-
-no-segment-requires : tie.Need-no-segment-requires Inv-loop μ-loop
-no-segment-requires c κs = tt
+no-sectors-requires : tie.Need-no-sectors-requires Inv-loop μ-loop
+no-sectors-requires c κs = tt
 
 loop-holds : tie.Need-loop-holds Inv-loop μ-loop
-loop-holds c = (
-  omega arith,
-  subst (λ (n : ℕ). n / 27 ≤ 36) (sym (c .before .word-count .ensures)) (c .before .before .before .pre),
-  ap (λ (s : ShadingSegment). replicate 36 s) (c .no-segment .ensures) ∙ no-places (c .before .before .before .args .bytes .now),
-)
+unfolding sectorPlaces
+loop-holds c =
+    let s = c .before .before in
+    (omega arith, s .pre, c .no-sectors .ensures ∙ none-filled (segmentAt (s .args .bytes .now)) noSegment 36)
 
 segment-at-requires : tie.Need-segment-at-requires Inv-loop μ-loop
 segment-at-requires c κs = omega arith
@@ -44,20 +38,19 @@ loop-less : tie.Need-loop-less Inv-loop μ-loop
 loop-less c = omega arith
 
 loop-again : tie.Need-loop-again Inv-loop μ-loop
+unfolding sectorPlaces
 loop-again c =
     let q = c .before .before .loop in
-    let l = c .before .before .before .before .before .before .args .bytes .now in
+    let l = c .before .before .before .before .before .args .bytes .now in
     let few : q .i < 36 = omega arith in
-    (omega arith, q .inv .1, rw (q .inv .2, c .segment-at .ensures) (one-more-place l (q .i) few))
+    (omega arith, q .inv .1, rw (q .inv .2, c .segment-at .ensures) (one-filled (segmentAt l) noSegment 36 (q .i) few))
 
 returns : tie.Need-returns Inv-loop μ-loop
-unfolding sectorTable
 returns c =
     let q = c .before .loop in
-    let l = c .before .before .before .before .before .args .bytes .now in
-    let e = c .before .before .before .word-count .ensures in
-    let all : q .i ≡ wordCount l / 27 = omega (arith, e) in
-    λ k. record { count = ap (λ (n : ℕ). n / 27) e k; places = (q .inv .2 ∙ ap (sectorPlaces l) all) k }
+    let s = c .before .before .before .before in
+    let all : q .i ≡ s .args .n = omega arith in
+    q .inv .2 ∙ ap (sectorPlaces (s .args .bytes .now)) all
 
 pub sectors-of-spec : {M : Type 1} → statement M
 sectors-of-spec =
@@ -65,8 +58,7 @@ sectors-of-spec =
     (tie.spec
     Inv-loop
     μ-loop
-    word-count-requires
-    no-segment-requires
+    no-sectors-requires
     loop-holds
     segment-at-requires
     mul-places

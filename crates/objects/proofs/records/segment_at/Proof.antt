@@ -1,7 +1,7 @@
 -- `segment_at` meets its contract, place by place.
 use mathlib.Core.List.{[], _∷_}
 use native.Mathlib.Omega.{arith}
-use Rattle.objects.specs.Records.{segmentAt, objectsFrom, recordsFrom}
+use Rattle.objects.specs.Records.{segmentAt, filled, recordsFrom}
 use borrow.Author.Needs.{needs}
 use Rattle.objects.proofs.records.segment_at.Statement.{statement}
 use Rattle.objects.proofs.records.segment_at.Tie as tie
@@ -64,10 +64,10 @@ object-at-requires-6 : tie.Need-object-at-requires-6
 object-at-requires-6 c κs = search needs
 
 add-object-at-7 : tie.Need-add-object-at-7
-add-object-at-7 c = search needs
+add-object-at-7 c = omega (arith, c .before .before .before .before .before .before .before .before .before .before .pre)
 
 object-at-requires-7 : tie.Need-object-at-requires-7
-object-at-requires-7 c κs = search needs
+object-at-requires-7 c κs = omega (arith, c .before .before .before .before .before .before .before .before .before .before .pre)
 
 add-object-at-8 : tie.Need-add-object-at-8
 add-object-at-8 c = omega (arith, c .before .before .before .before .before .before .before .before .before .before .before .pre)
@@ -76,12 +76,13 @@ object-at-requires-8 : tie.Need-object-at-requires-8
 object-at-requires-8 c κs = omega (arith, c .before .before .before .before .before .before .before .before .before .before .before .pre)
 
 returns : tie.Need-returns
-unfolding segmentAt objectsFrom recordsFrom
+unfolding segmentAt filled recordsFrom
 returns c =
     let start360 = c .before .before .before .before .before .before .before .before .before .before .double-at .ensures in
     let end360 = c .before .before .before .before .before .before .before .before .before .double-at2 .ensures in
-    let count = c .before .before .before .before .before .before .before .before .word-at .ensures in
-    λ i. record { start360 = start360 i; end360 = end360 i; count = count i; «shading_objects» = (c .before .before .before .before .before .before .before .object-at .ensures) i ∷ (c .before .before .before .before .before .before .object-at2 .ensures) i ∷ (c .before .before .before .before .before .object-at3 .ensures) i ∷ (c .before .before .before .before .object-at4 .ensures) i ∷ (c .before .before .before .object-at5 .ensures) i ∷ (c .before .before .object-at6 .ensures) i ∷ (c .before .object-at7 .ensures) i ∷ (c .object-at8 .ensures) i ∷ [] }
+    let count = c .before .before .before .before .before .before .before .before .word-at in
+    rw (← (count .ensures))
+    (λ i. record { start360 = start360 i; end360 = end360 i; count = count .result; «shading_objects» = (c .before .before .before .before .before .before .before .object-at .ensures) i ∷ (c .before .before .before .before .before .before .object-at2 .ensures) i ∷ (c .before .before .before .before .before .object-at3 .ensures) i ∷ (c .before .before .before .before .object-at4 .ensures) i ∷ (c .before .before .before .object-at5 .ensures) i ∷ (c .before .before .object-at6 .ensures) i ∷ (c .before .object-at7 .ensures) i ∷ (c .object-at8 .ensures) i ∷ [] })
 
 pub segment-at-spec : {M : Type 1} → statement M
 segment-at-spec =

@@ -1,88 +1,77 @@
--- `window_of` meets its contract, place by place.
-use mathlib.Core.Path.{ap}
-use mathlib.Core.List.{[], _∷_}
-use Prim.Native.Nat.{ℕ, _/_}
-use Rattle.objects.specs.Records.{windowOf, recordsFrom}
-use borrow.Author.Needs.{needs}
+-- `window_of` meets its contract. The loop's invariant: the objects so far stand in their places.
+use mathlib.Core.Path.{_≡_, sym, ap, _∙_, subst}
+use Prim.Native.Nat.{ℕ, _-_, _/_, _≤_, _<_}
+use native.Mathlib.Omega.{arith}
+use Rattle.objects.specs.Records.{windowObjectAt, windowCount, noWindowObject, windowOf, filled}
+use Rattle.objects.proofs.Places.{none-filled, one-filled}
 use Rattle.objects.proofs.records.window_of.Statement.{statement}
 use Rattle.objects.proofs.records.window_of.Tie as tie
 
-word-count-requires : tie.Need-word-count-requires
-word-count-requires c κs = search needs
+abbrev Inv-loop : tie.InvT-loop
+Inv-loop bytes n objects₀ i₀ objects i = (i ≤ n) × (n ≤ 16) × (objects ≡ filled (windowObjectAt bytes) noWindowObject 16 i)
 
-window-object-at-requires : tie.Need-window-object-at-requires
-window-object-at-requires c κs = search needs
+abbrev μ-loop : tie.MeasureT-loop
+μ-loop bytes n objects₀ i₀ objects i = n - i
 
-window-object-at-requires-2 : tie.Need-window-object-at-requires-2
-window-object-at-requires-2 c κs = search needs
+word-count-requires : tie.Need-word-count-requires Inv-loop μ-loop
+word-count-requires c κs = tt
 
-window-object-at-requires-3 : tie.Need-window-object-at-requires-3
-window-object-at-requires-3 c κs = search needs
+no-window-objects-requires : tie.Need-no-window-objects-requires Inv-loop μ-loop
+no-window-objects-requires c κs = tt
 
-window-object-at-requires-4 : tie.Need-window-object-at-requires-4
-window-object-at-requires-4 c κs = search needs
+loop-holds : tie.Need-loop-holds Inv-loop μ-loop
+unfolding windowCount
+loop-holds c =
+    let s = c .before .before .before in (
+      omega arith,
+      subst (λ (n : ℕ). n / 4 ≤ 16) (sym (c .before .word-count .ensures)) (s .pre),
+      c .no-window-objects .ensures ∙ none-filled (windowObjectAt (s .args .bytes .now)) noWindowObject 16,
+    )
 
-window-object-at-requires-5 : tie.Need-window-object-at-requires-5
-window-object-at-requires-5 c κs = search needs
+window-object-at-requires : tie.Need-window-object-at-requires Inv-loop μ-loop
+window-object-at-requires c κs = omega arith
 
-window-object-at-requires-6 : tie.Need-window-object-at-requires-6
-window-object-at-requires-6 c κs = search needs
+mul-objects : tie.Need-mul-objects Inv-loop μ-loop
+mul-objects c = omega arith
 
-window-object-at-requires-7 : tie.Need-window-object-at-requires-7
-window-object-at-requires-7 c κs = search needs
+array-set-from-objects : tie.Need-array-set-from-objects Inv-loop μ-loop
+array-set-from-objects c = omega arith
 
-window-object-at-requires-8 : tie.Need-window-object-at-requires-8
-window-object-at-requires-8 c κs = search needs
+add-i : tie.Need-add-i Inv-loop μ-loop
+add-i c = omega arith
 
-window-object-at-requires-9 : tie.Need-window-object-at-requires-9
-window-object-at-requires-9 c κs = search needs
+loop-less : tie.Need-loop-less Inv-loop μ-loop
+loop-less c = omega arith
 
-window-object-at-requires-10 : tie.Need-window-object-at-requires-10
-window-object-at-requires-10 c κs = search needs
+loop-again : tie.Need-loop-again Inv-loop μ-loop
+loop-again c =
+    let q = c .before .before .loop in
+    let l = c .before .before .before .before .before .before .args .bytes .now in
+    let few : q .i < 16 = omega arith in
+    (omega arith, q .inv .1, rw (q .inv .2, c .window-object-at .ensures) (one-filled (windowObjectAt l) noWindowObject 16 (q .i) few))
 
-window-object-at-requires-11 : tie.Need-window-object-at-requires-11
-window-object-at-requires-11 c κs = search needs
-
-window-object-at-requires-12 : tie.Need-window-object-at-requires-12
-window-object-at-requires-12 c κs = search needs
-
-window-object-at-requires-13 : tie.Need-window-object-at-requires-13
-window-object-at-requires-13 c κs = search needs
-
-window-object-at-requires-14 : tie.Need-window-object-at-requires-14
-window-object-at-requires-14 c κs = search needs
-
-window-object-at-requires-15 : tie.Need-window-object-at-requires-15
-window-object-at-requires-15 c κs = search needs
-
-window-object-at-requires-16 : tie.Need-window-object-at-requires-16
-window-object-at-requires-16 c κs = search needs
-
-returns : tie.Need-returns
-unfolding windowOf recordsFrom
+returns : tie.Need-returns Inv-loop μ-loop
+unfolding windowOf windowCount
 returns c =
-    let count = ap (λ (n : ℕ). n / 4) (c .before .before .before .before .before .before .before .before .before .before .before .before .before .before .before .before .word-count .ensures) in
-    λ i. record { count = count i; objects = (c .before .before .before .before .before .before .before .before .before .before .before .before .before .before .before .window-object-at .ensures) i ∷ (c .before .before .before .before .before .before .before .before .before .before .before .before .before .before .window-object-at2 .ensures) i ∷ (c .before .before .before .before .before .before .before .before .before .before .before .before .before .window-object-at3 .ensures) i ∷ (c .before .before .before .before .before .before .before .before .before .before .before .before .window-object-at4 .ensures) i ∷ (c .before .before .before .before .before .before .before .before .before .before .before .window-object-at5 .ensures) i ∷ (c .before .before .before .before .before .before .before .before .before .before .window-object-at6 .ensures) i ∷ (c .before .before .before .before .before .before .before .before .before .window-object-at7 .ensures) i ∷ (c .before .before .before .before .before .before .before .before .window-object-at8 .ensures) i ∷ (c .before .before .before .before .before .before .before .window-object-at9 .ensures) i ∷ (c .before .before .before .before .before .before .window-object-at10 .ensures) i ∷ (c .before .before .before .before .before .window-object-at11 .ensures) i ∷ (c .before .before .before .before .window-object-at12 .ensures) i ∷ (c .before .before .before .window-object-at13 .ensures) i ∷ (c .before .before .window-object-at14 .ensures) i ∷ (c .before .window-object-at15 .ensures) i ∷ (c .window-object-at16 .ensures) i ∷ [] }
+    let q = c .before .loop in
+    let l = c .before .before .before .before .before .args .bytes .now in
+    let e = ap (λ (n : ℕ). n / 4) (c .before .before .before .word-count .ensures) in
+    let all : q .i ≡ windowCount l = omega (arith, e) in
+    λ k. record { count = e k; objects = (q .inv .2 ∙ ap (filled (windowObjectAt l) noWindowObject 16) all) k }
 
 pub window-of-spec : {M : Type 1} → statement M
 window-of-spec =
     tie.close
     (tie.spec
+    Inv-loop
+    μ-loop
     word-count-requires
+    no-window-objects-requires
+    loop-holds
     window-object-at-requires
-    window-object-at-requires-2
-    window-object-at-requires-3
-    window-object-at-requires-4
-    window-object-at-requires-5
-    window-object-at-requires-6
-    window-object-at-requires-7
-    window-object-at-requires-8
-    window-object-at-requires-9
-    window-object-at-requires-10
-    window-object-at-requires-11
-    window-object-at-requires-12
-    window-object-at-requires-13
-    window-object-at-requires-14
-    window-object-at-requires-15
-    window-object-at-requires-16
+    mul-objects
+    array-set-from-objects
+    add-i
+    loop-less
+    loop-again
     returns)

@@ -1,10 +1,13 @@
-use mathlib.Core.Path.{subst}
-use Prim.Native.Nat.{_<_, _/_}
-use native.Mathlib.Omega.{arith}
+use mathlib.Core.Path.{_≡_, sym, ap, _∙_, subst}
+use Prim.Native.Nat.{ℕ, _≤_, _<_}
 use lib.Ieee.{ofBits}
-use Rattle.words.specs.Words.{wordCount}
-use Rattle.shading.specs.Factor.{shadingFactor, factorIn}
-use Rattle.segments.specs.Walk.{segmentFor, InList}
+use Rattle.doubles.specs.Arithmetic.{whole}
+use Rattle.objects.specs.Objects.{placed}
+use Rattle.objects.specs.Records.{segmentAt}
+use Rattle.objects.proofs.Places.{sectors-taken}
+use Rattle.shading.specs.Factor.{shadingFactor}
+use Rattle.shading.specs.SunPlaces.{sunPlace}
+use Rattle.shading.proofs.SunPlaces.{index-fits, factor-by-list}
 use borrow.Author.Needs.{needs}
 use Rattle.shading.proofs.step.direct_shading_reduction_factor.Statement.{statement}
 use Rattle.shading.proofs.step.direct_shading_reduction_factor.Tie as tie
@@ -13,60 +16,40 @@ outside-solar-beam-requires : tie.Need-outside-solar-beam-requires
 outside-solar-beam-requires c κs = search needs
 
 returns : tie.Need-returns
-unfolding shadingFactor ofBits
+unfolding shadingFactor whole ofBits
 returns c = rw (← (c .before .outside-solar-beam .ensures), c .if1 .taken)
 
-get-segment-in-bytes-requires : tie.Need-get-segment-in-bytes-requires
-get-segment-in-bytes-requires c κs = search needs
+sector-count-requires : tie.Need-sector-count-requires
+sector-count-requires c κs = search needs
 
-enum-known-i : tie.Need-enum-known-i
-enum-known-i c = search needs
+sectors-of-requires : tie.Need-sectors-of-requires
+sectors-of-requires c κs = subst (λ (n : ℕ). n ≤ 36) (sym (c .sector-count .ensures)) (c .before .before .before .before .pre)
 
-sun-on-requires : tie.Need-sun-on-requires
-sun-on-requires c κs = search needs
+sun-place-requires : tie.Need-sun-place-requires
+sun-place-requires c κs = subst (λ (n : ℕ). n ≤ 36) (sym (c .before .sector-count .ensures)) (c .before .before .before .before .before .pre)
+
+place-index-requires : tie.Need-place-index-requires
+place-index-requires c κs = search needs
 
 segment-at-requires : tie.Need-segment-at-requires
 segment-at-requires c κs =
-    let s = c .before .before .before .before .before .before .before .before .args .sectors .now in
-    let there : c .before .before .i .given .0 .0 < wordCount s / 27 = subst (InList s) (c .before .before .i .given .1) (c .before .before .before .before .get-segment-in-bytes .ensures .1) in
-    omega (arith, c .before .before .before .before .before .before .before .before .pre)
+    let s = c .before .before .before .before .before .before .before in let a = s .args in
+    let few : c .before .before .before .sector-count .result ≤ 36 = subst (λ (n : ℕ). n ≤ 36) (sym (c .before .before .before .sector-count .ensures)) (s .pre) in
+    subst (λ (i : ℕ). i < 36) (sym (c .place-index .ensures)) (index-fits (a .surface) (a .altitude) (a .azimuth) _ _ few _ (c .before .sun-place .ensures))
 
-factor-in-requires : tie.Need-factor-in-requires
-factor-in-requires c κs = search needs
-
-enum-told : tie.Need-enum-told
-enum-told c = search needs
-
-enum-told-2 : tie.Need-enum-told-2
-enum-told-2 c = search needs
-
-enum-told-3 : tie.Need-enum-told-3
-enum-told-3 c = search needs
+factor-at-requires : tie.Need-factor-at-requires
+factor-at-requires c κs = search needs
 
 returns-2 : tie.Need-returns-2
-unfolding shadingFactor segmentFor
 returns-2 c =
-    rw (
-      ← (c .before .before .before .before .before .before .before .before .outside-solar-beam .ensures),
-      c .before .before .before .before .before .before .before .if1 .left,
-      ← (c .before .before .before .before .before .before .get-segment-in-bytes .ensures .0),
-      c .before .before .before .before .i .given .1,
-      c .factor-in .ensures,
-      c .before .before .sun-on .ensures,
-      c .before .segment-at .ensures,
-    )
-
-returns-3 : tie.Need-returns-3
-unfolding shadingFactor factorIn segmentFor
-returns-3 c = rw (← (c .before .before .before .before .outside-solar-beam .ensures), c .before .before .before .if1 .left, ← (c .before .before .get-segment-in-bytes .ensures .0), c .enum-told .given .1)
-
-returns-4 : tie.Need-returns-4
-unfolding shadingFactor factorIn segmentFor
-returns-4 c = rw (← (c .before .before .before .before .outside-solar-beam .ensures), c .before .before .before .if1 .left, ← (c .before .before .get-segment-in-bytes .ensures .0), c .enum-told2 .given .1)
-
-returns-5 : tie.Need-returns-5
-unfolding shadingFactor factorIn segmentFor
-returns-5 c = rw (← (c .before .before .before .before .outside-solar-beam .ensures), c .before .before .before .if1 .left, ← (c .before .before .get-segment-in-bytes .ensures .0), c .enum-told3 .given .1)
+    let s = c .before .before .before .before .before .before .before .before .before in let a = s .args in
+    let count = c .before .before .before .before .before .sector-count in
+    let few : count .result ≤ 36 = subst (λ (n : ℕ). n ≤ 36) (sym (count .ensures)) (s .pre) in
+    let sectors = sectors-taken (a .sectors .now) (count .result) _ (count .ensures) few (c .before .before .before .before .sectors-of .ensures) in
+    c .factor-at .ensures
+    ∙ factor-by-list (a .surface) (a .altitude) (a .azimuth) (a .sectors .now) (placed (a .window)) _ _
+    (c .before .before .before .sun-place .ensures ∙ ap (sunPlace (a .surface) (a .altitude) (a .azimuth)) sectors)
+    (c .before .segment-at .ensures ∙ ap (segmentAt (a .sectors .now)) (c .before .before .place-index .ensures))
 
 pub direct-shading-reduction-factor-spec : {M : Type 1} → statement M
 direct-shading-reduction-factor-spec =
@@ -74,15 +57,10 @@ direct-shading-reduction-factor-spec =
     (tie.spec
     outside-solar-beam-requires
     returns
-    get-segment-in-bytes-requires
-    enum-known-i
-    sun-on-requires
+    sector-count-requires
+    sectors-of-requires
+    sun-place-requires
+    place-index-requires
     segment-at-requires
-    factor-in-requires
-    enum-told
-    enum-told-2
-    enum-told-3
-    returns-2
-    returns-3
-    returns-4
-    returns-5)
+    factor-at-requires
+    returns-2)

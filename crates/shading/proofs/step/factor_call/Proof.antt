@@ -6,7 +6,7 @@ use Rattle.shading.specs.Call.{factorCall}
 use Rattle.object_checks.specs.Checks.{sectorsFine, windowFine}
 use Rattle.objects.specs.Objects.{placed}
 use Rattle.object_checks.proofs.AcceptedSectors.{sector-count}
-use Rattle.object_checks.proofs.AcceptedWindow.{window-places}
+use Rattle.object_checks.proofs.AcceptedWindow.{window-count, window-places}
 use borrow.Author.Needs.{needs}
 use Rattle.shading.proofs.step.factor_call.Statement.{statement}
 use Rattle.shading.proofs.step.factor_call.Tie as tie
@@ -24,7 +24,11 @@ window-fine-requires : tie.Need-window-fine-requires
 window-fine-requires c κs = search needs
 
 window-of-requires : tie.Need-window-of-requires
-window-of-requires c κs = search needs
+window-of-requires c κs =
+    let l = c .before .before .before .before .before .before .before .before .args .sectors .now in
+    let w = c .before .before .before .before .before .before .before .before .args .window .now in
+    let both : sectorsFine l && windowFine w ≡ true = rw (c .before .before .sectors-fine .ensures, c .before .window-fine .ensures) at (c .if2 .taken) in
+    window-count w (and-r (sectorsFine l) (windowFine w) (subst T (sym both) tt))
 
 direct-shading-reduction-factor-requires : tie.Need-direct-shading-reduction-factor-requires
 direct-shading-reduction-factor-requires c κs =

@@ -1,9 +1,9 @@
 -- `surface_fine` meets its contract, by the definition.
 use mathlib.Core.Path.{refl}
 use lib.Ieee.{ofBits}
-use Rattle.object_checks.specs.Checks.{surfaceFine}
-use Rattle.object_checks.proofs.surface_fine.Statement.{statement}
-use Rattle.object_checks.proofs.surface_fine.Tie as tie
+use Rattle.objects.specs.Surface.{surfaceFine}
+use Rattle.objects.proofs.surface.surface_fine.Statement.{statement}
+use Rattle.objects.proofs.surface.surface_fine.Tie as tie
 
 returns : tie.Need-returns
 unfolding surfaceFine ofBits
