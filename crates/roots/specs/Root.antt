@@ -1,4 +1,5 @@
 -- The square root of a double as it is computed, over whole numbers. What it is, said without computing: `IsRoot`.
+-- `leb` and `ltb` test ≤ and <, `cond t x y` is x where the test t is passed and y where not, `suc n` is n + 1, and / drops the rest.
 use Prim.Native.Nat.{ℕ, zero, suc, _+_, _-_, _*_, _/_, _^_}
 use mathlib.Core.Bool.{true, false, cond}
 use lib.Dec.{leb, ltb}
