@@ -54,6 +54,6 @@ hourWith l d t o day shift hour conversion diffuse direct reflectivity =
 unfoldable pub hourAt : Float → Float → ℤ → ℕ → ℕ → Float → Float → Float → Float → Float → ProbeHour
 hourAt latitude longitude timezone hour conversion tilt orientation diffuse direct reflectivity =
     let day = dayOf (hour / 24 + 1) in
-    let surface = sinCosOf (orientation180 orientation) in
-    hourWith (sinCosOf latitude) (sinCosOf (day .declination)) (sinCosOf tilt) surface day (timeShift timezone longitude) (hour % 24)
+    let o = sinCosOf (orientation180 orientation) in
+    hourWith (sinCosOf latitude) (sinCosOf (day .declination)) (sinCosOf tilt) o day (timeShift timezone longitude) (hour % 24)
     conversion diffuse direct reflectivity
