@@ -1,161 +1,212 @@
--- The claim on two jobs compared is about something: two jobs that meet its premises, one with no objects and one with a distant
--- obstacle, at noon on the first of January. Computed by the checker from the definitions.
-use mathlib.Core.Path.{_≡_, refl, sym, subst}
+-- The claim on two jobs compared is about something: three jobs of two steps, at noon and one on the first of January. `bare` has no
+-- objects; `built` has a distant obstacle, a distant overhang and an overhang at the window; `mixed` has these in another order and
+-- some twice, and its sector starts at −0.0. All premises are met, computed by the checker from the definitions.
+use mathlib.Core.Path.{_≡_, refl, sym, _∙_, subst}
 use mathlib.Core.Logic.{inl, inr}
-use mathlib.Core.Bool.{Bool, true, false, not, _&&_, true≢false}
-use mathlib.Core.List.{List, [], _∷_, _++_, List·Memᴰ, List·Memᴰ·not-nil, List·Memᴰ·cases-cons}
-use Prim.Native.Nat.{ℕ, _*_, _<_}
+use mathlib.Core.Bool.{Bool, true, false, not, _&&_}
+use mathlib.Core.List.{List, [], _∷_, _++_, List·Memᴰ, List·Memᴰ·head, List·Memᴰ·tail, List·Memᴰ·not-nil, List·Memᴰ·cases-cons}
+use Prim.Native.Nat.{ℕ, zero, suc, _*_, _<_}
 use native.Mathlib.Omega.{arith}
 use lib.Dec.{T}
 use lib.IntN.{pos}
 use lib.ListN.{replicate}
 use lib.Ieee.{Float, add, sub, mul, div, neg, lt, le, eq, ne, isNan, fits, toUnsigned, ofInt, ofBits}
 use lib.Ieee.Fits.{and-l, and-r}
-use Rattle.doubles.specs.Arithmetic.{whole, decimal, bits}
-use Rattle.doubles.specs.Functions.{floorOf, toRadians, toDegrees, minOf2, maxOf2, floatMin, floatMax, largestOf}
-use Rattle.doubles.specs.Order.{_≼_, Number}
+use Rattle.doubles.specs.Arithmetic.{_⊕_, whole, decimal, bits}
+use Rattle.doubles.specs.Functions.{floorOf, cubeOf, toRadians, toDegrees, minOf2, maxOf2, floatMin, floatMax, largestOf}
+use Rattle.doubles.specs.Order.{_≼_, _≈_, Number, Finite}
 use Rattle.doubles.specs.Ranges.{within, aboveZero}
 use Rattle.angles.specs.Sine.{isAngle, quarterTurns, quadrant, remainder, sineSum, cosineSum, sineSeries, cosineSeries, sineAt, cosineAt, clamp, sine, cosine, tangent}
-use Rattle.arcsines.specs.Arcsine.{isSine, arcsineSeries, halfPi, arcsineUpward, arcsine}
+use Rattle.arcsines.specs.Arcsine.{isSine, arcsineSeries, halfPi, arcsineUpward, arcsine, arccosine}
 use Rattle.powers.specs.Power.{logarithmOf, powerOf, powerBy, powMinus1253}
 use Rattle.words.specs.Words.{number, wordCount, wordAt, doubleAt}
-use Rattle.sun.specs.declared.hour.Hour.{Hour}
 use Rattle.days.specs.Day.{orbitDeviation, solarDeclination, equationOfTime, extraTerrestrialRadiation, dayOf}
 use Rattle.sun.specs.Hour.{sinCosOf, timeShift, solarTime, hourAngle, altitudeSine, cutAltitude, solarAltitude, solarZenith, azimuthDenominator, solarAzimuth, airMass, hourOf}
 use Rattle.sun.specs.Site.{siteFine, hoursInYear}
+use Rattle.irradiance.specs.Surface.{incidenceArgument, incidenceAngle, cosineOfDegrees, aOverB, incidenceBy, incidenceOf}
+use Rattle.irradiance.specs.Sky.{directBeam, altitudeTerm, clearness, skyBrightness, limits, firstAbove, tableRow, coefficients, brightnessOf, brightnessIn, brightness, cutBrightness, circumsolarBrightness, horizontalBrightness, skyOf}
+use Rattle.irradiance.specs.Parts.{directIrradiance, skyIrradiance, circumsolarIrradiance, horizontalIrradiance, groundReflection, irradianceOf}
 use Rattle.orientation.specs.Orientation.{orientation180, wrappedOnce}
 use Rattle.simulation_time.specs.Steps.{runFine, goesOn, stepsFrom, stepCount, timeAt, timesFrom, times, atAll}
 use Rattle.simulation_time.specs.Timestep.{currentHour, seriesIndex}
 use Rattle.simulation_time.specs.RunChecks.{hourFine, hoursFine, runAccepted}
-use Rattle.objects.specs.declared.surface.Surface.{Surface}
-use Rattle.objects.specs.declared.sectors.ShadingObject.{ShadingObject}
 use Rattle.objects.specs.declared.sectors.ShadingSegment.{ShadingSegment}
 use Rattle.objects.specs.declared.answers.FactorAnswer.{FactorAnswer}
 use Rattle.objects.specs.declared.answers.FactorAnswer.the-variants as factor
 use Rattle.words.specs.Lists.{firstFine}
 use Rattle.objects.specs.Surface.{surfaceFine}
 use Rattle.object_checks.specs.Checks.{recordsFine, windowValuesFine, windowRecordFine, windowFine, objectValuesFine, objectFine, objectUnused, tripleFine, boundsFine, sectorRecordFine, sectorsFine}
-use Rattle.objects.specs.Records.{recordsFrom, distantKind, objectAt, objectsFrom, segmentAt, sectorsOf, windowObjectsOf}
+use Rattle.objects.specs.Records.{recordsFrom, filled, distantKind, objectAt, noObject, objectsFrom, segmentAt, sectorCount, sectorsOf, windowKind, windowObjectAt, windowCount, windowObjectsOf}
 use Rattle.beam.specs.Beam.{within90, outsideSolarBeam}
-use Rattle.extents.specs.Extents.{obstacleHeight}
+use Rattle.extents.specs.Extents.{obstacleHeight, overhangHeight, windowOverhangHeight}
 use Rattle.segments.specs.Segments.{found, betweenEnds, holdsAzimuth, visit, walkFrom, segmentOf}
-use Rattle.objects.specs.Objects.{isObstacle, isOverhang, counted}
+use Rattle.objects.specs.declared.window.WindowShadingType.the-variants.{Obstacle}
+use Rattle.objects.specs.Objects.{isObstacle, isOverhang, kindNumber, ofKind, counted}
 use Rattle.shading.specs.declared.sun_on_surface.SunOnSurface.{SunOnSurface}
-use Rattle.shading.specs.Factor.{extents, sunOn, obstacleExtents, overhangExtents, windowOverhangExtents, rightFinExtents, leftFinExtents, overhangShade, sunlitBetween, sunlitHeight, sunlitWidth, sunlitPart, leastOf, reductionFactor, hasReveal, factorIn, shadingFactor}
+use Rattle.shading.specs.Factor.{extents, sunOn, nearObstacleHeight, obstacleExtents, overhangExtents, windowOverhangExtents, rightFinExtents, leftFinExtents, overhangShade, sunlitBetween, sunlitHeight, sunlitWidth, sunlitPart, leastOf, reductionFactor, hasReveal, factorIn, shadingFactor}
 use Rattle.shading_laws.specs.Premises.{AllNumbers, NoNanExtent, Holds}
 use Rattle.jobs.specs.declared.answers.Checked.the-variants as check
 use Rattle.jobs.specs.Series.{inSeries, readSeries}
 use Rattle.jobs.specs.Job.{Job, indexAt, readingAt}
 use Rattle.jobs.specs.Checks.{indexFine, readingFine, resultsFine, tried, checked}
-use Rattle.jobs.specs.Step.{sunAt, shadingAt, rowWith, stepWith, stepAt}
-use Rattle.jobs.specs.Run.{numberFor, onRow, runFrom, runChecked, runOf}
-use Rattle.jobs.specs.Comparison.{factorAt, countOf, SameSeries, Alike, sectorCount, BoundedAlike, triple, sectorObjects, windowObjects, HoldsAll, NoNan, Doubles, IsAccepted, Comparable}
+use Rattle.jobs.specs.Step.{sunAt, irradianceAt, shadingAt, rowWith, stepWith, stepAt}
+use Rattle.jobs.specs.Run.{numberFor, countFor, onRow, runFrom, runChecked, runOf}
+use Rattle.jobs.specs.Comparison.{countOf, sumOf, SameSeries, Alike, triple, sectorObjects, windowObject, windowObjects, HoldsAll, SameObjects, NoNan, Doubles, FiniteDirect, IsAccepted, Comparable}
 use Rattle.segments.proofs.SameWalks.{found-has}
-use Rattle.jobs.proofs.TwoJobs.{two-jobs-compared}
+use Rattle.shading_laws.proofs.Members.{extents-into}
+use Rattle.jobs.proofs.RunLaws.{done, accepted-run}
+use Rattle.jobs.proofs.TwoJobs.{direct-is, row-of, two-jobs-compared}
 
 -- ---- the jobs
 
--- 100, 0.25, 360, 1 as doubles, and 1 as a whole number
-hundred : List ℕ
-hundred = 0 ∷ 0 ∷ 0 ∷ 0 ∷ 0 ∷ 0 ∷ 0x59 ∷ 0x40 ∷ []
+word : ℕ → List ℕ
+word n = n ∷ replicate 7 0
 
-quarter : List ℕ
-quarter = 0 ∷ 0 ∷ 0 ∷ 0 ∷ 0 ∷ 0 ∷ 0xD0 ∷ 0x3F ∷ []
-
-round-all : List ℕ
-round-all = 0 ∷ 0 ∷ 0 ∷ 0 ∷ 0 ∷ 0x80 ∷ 0x76 ∷ 0x40 ∷ []
-
-metre : List ℕ
-metre = 0 ∷ 0 ∷ 0 ∷ 0 ∷ 0 ∷ 0 ∷ 0xF0 ∷ 0x3F ∷ []
-
-single : List ℕ
-single = 1 ∷ 0 ∷ 0 ∷ 0 ∷ 0 ∷ 0 ∷ 0 ∷ 0 ∷ []
+-- a double by its two highest bytes
+double : ℕ → ℕ → List ℕ
+double high next = replicate 6 0 ++ next ∷ high ∷ []
 
 zeros : ℕ → List ℕ
 zeros n = replicate (8 * n) 0
 
--- one sector 0..360: with no object, and with an obstacle a metre high a metre away
-bare : List ℕ
-bare = zeros 1 ++ round-all ++ zeros 25
+quarter : List ℕ
+quarter = double 0x3F 0xD0
 
-built : List ℕ
-built = zeros 1 ++ round-all ++ single ++ zeros 1 ++ metre ++ metre ++ zeros 21
+metre : List ℕ
+metre = double 0x3F 0xF0
 
-jobWith : List ℕ → Job
-jobWith sectors = record {
-  site = record { latitude = whole 51; longitude = whole 0; timezone = pos 0; «start_day» = 0; «time_series_step» = whole 24; «leap_year» = 0; «direct_beam_conversion» = 0 };
-  run = record { start = whole 12; end = whole 13; step = whole 1 };
-  surface = record { tilt = whole 90; orientation = whole 180; «base_height» = whole 0; height = whole 2; width = whole 1 };
+two : List ℕ
+two = double 0x40 0
+
+hundred : List ℕ
+hundred = double 0x40 0x59
+
+round : List ℕ
+round = replicate 5 0 ++ 0x80 ∷ 0x76 ∷ 0x40 ∷ []
+
+minus-zero : List ℕ
+minus-zero = double 0x80 0
+
+-- an obstacle a metre high a metre away, an overhang two metres up a metre away, and one at the window, two metres deep
+wall : List ℕ
+wall = zeros 1 ++ metre ++ metre
+
+eaves : List ℕ
+eaves = word 1 ++ two ++ metre
+
+awning : List ℕ
+awning = word 1 ++ two ++ quarter ++ zeros 1
+
+-- a rooflight
+jobWith : List ℕ → List ℕ → Job
+jobWith sectors window = record {
+  site = record {
+    latitude = whole 51;
+    longitude = whole 0;
+    timezone = pos 0;
+    «start_day» = 0;
+    «time_series_step» = whole 24;
+    «leap_year» = 0;
+    «direct_beam_conversion» = 0;
+  };
+  run = record { start = whole 12; end = whole 14; step = whole 1 };
+  surface = record { tilt = whole 10; orientation = whole 180; «base_height» = whole 0; height = whole 2; width = whole 1 };
   diffuse = hundred;
   direct = hundred;
   reflectivity = quarter;
   sectors = sectors;
-  window = [];
+  window = window;
 }
+
+-- one sector, 0..360
+bare : Job
+bare = jobWith (zeros 1 ++ round ++ zeros 25) []
+
+built : Job
+built = jobWith (zeros 1 ++ round ++ word 2 ++ wall ++ eaves ++ zeros 18) awning
+
+mixed : Job
+mixed = jobWith (minus-zero ++ round ++ word 3 ++ eaves ++ wall ++ eaves ++ zeros 15) (awning ++ awning)
+
+room : List ℕ
+room = zeros 12
 
 -- ---- all that the values are computed from: to unfold these names unfolds them
 
 lists : ℕ
-unfolding hundred quarter round-all metre single zeros bare built jobWith number wordCount wordAt doubleAt ofBits sectorCount triple sectorObjects windowObjects
-    recordsFrom distantKind objectAt objectsFrom segmentAt sectorsOf windowObjectsOf
+unfolding word double zeros quarter metre two hundred round minus-zero wall eaves awning jobWith bare built mixed room number wordCount wordAt doubleAt ofBits sectorCount triple
+    sectorObjects windowObject windowObjects recordsFrom distantKind objectAt objectsFrom segmentAt sectorsOf windowKind windowObjectAt windowObjectsOf
 lists = 0
 
 doubles : ℕ
-unfolding add sub mul div lt le neg eq ne isNan toUnsigned bits whole decimal ofInt floorOf toRadians toDegrees minOf2 maxOf2 floatMin floatMax largestOf
+unfolding add sub mul div lt le neg eq ne isNan toUnsigned bits whole decimal ofInt floorOf cubeOf toRadians toDegrees minOf2 maxOf2 floatMin floatMax largestOf
 doubles = 0
 
 checks : ℕ
 unfolding lists doubles checked tried siteFine hoursInYear atAll indexFine readingFine resultsFine indexAt readingAt runAccepted runFine hoursFine hourFine times timesFrom
-    stepCount stepsFrom goesOn currentHour seriesIndex within aboveZero surfaceFine firstFine recordsFine windowValuesFine windowRecordFine windowFine objectValuesFine objectFine
-    objectUnused tripleFine boundsFine sectorRecordFine sectorsFine
+    stepCount stepsFrom goesOn currentHour seriesIndex inSeries readSeries within aboveZero surfaceFine firstFine recordsFine windowValuesFine windowRecordFine windowFine
+    objectValuesFine objectFine objectUnused tripleFine boundsFine sectorRecordFine sectorsFine
 checks = 0
 
 sun : ℕ
 unfolding lists doubles sine cosine tangent isAngle quarterTurns quadrant remainder sineSeries sineSum cosineSeries cosineSum sineAt cosineAt clamp arcsine isSine arcsineUpward
     arcsineSeries halfPi powMinus1253 powerBy powerOf logarithmOf orbitDeviation solarDeclination equationOfTime extraTerrestrialRadiation dayOf sinCosOf timeShift
-    solarTime hourAngle altitudeSine cutAltitude solarAltitude solarZenith azimuthDenominator solarAzimuth airMass hourOf orientation180 currentHour sunAt
+    solarTime hourAngle altitudeSine cutAltitude solarAltitude solarZenith azimuthDenominator solarAzimuth airMass hourOf orientation180 wrappedOnce currentHour sunAt timeAt
 sun = 0
 
 shade : ℕ
-unfolding sun within90 wrappedOnce outsideSolarBeam obstacleHeight betweenEnds holdsAzimuth visit walkFrom segmentOf extents isObstacle isOverhang sunOn obstacleExtents overhangExtents
-    windowOverhangExtents rightFinExtents leftFinExtents overhangShade sunlitBetween sunlitHeight sunlitWidth sunlitPart leastOf reductionFactor hasReveal counted factorIn
-    shadingFactor shadingAt
+unfolding sun within90 outsideSolarBeam obstacleHeight overhangHeight windowOverhangHeight betweenEnds holdsAzimuth visit walkFrom segmentOf extents isObstacle isOverhang
+    kindNumber ofKind sunOn obstacleExtents overhangExtents windowOverhangExtents rightFinExtents leftFinExtents overhangShade sunlitBetween sunlitHeight sunlitWidth sunlitPart leastOf
+    reductionFactor hasReveal counted factorIn shadingFactor shadingAt
 shade = 0
 
--- ---- both are accepted
+sky : ℕ
+unfolding sun arccosine incidenceArgument incidenceAngle cosineOfDegrees aOverB incidenceBy incidenceOf directBeam altitudeTerm clearness skyBrightness limits firstAbove tableRow coefficients
+    brightnessOf brightnessIn brightness cutBrightness circumsolarBrightness horizontalBrightness skyOf directIrradiance skyIrradiance circumsolarIrradiance horizontalIrradiance
+    groundReflection irradianceOf irradianceAt indexAt readingAt readSeries seriesIndex
+sky = 0
+
+-- ---- they are accepted
+
+isBelow : Float → FactorAnswer → Bool
+isBelow x (factor.Factor f) = lt f x
+isBelow x (factor.Refused r) = false
 
 isFactor : FactorAnswer → Bool
 isFactor (factor.Factor f) = true
 isFactor (factor.Refused r) = false
 
--- the factor of the one step
-answered : Job → FactorAnswer
-answered job = shadingAt (job .surface) (sunAt (job .site) (job .run .start)) (job .sectors) (job .window)
+-- a step's factor
+answered : Job → Float → FactorAnswer
+answered job time = shadingAt (job .surface) (sunAt (job .site) time) (job .sectors) (job .window)
 
-one-step : (job : Job) (results : List ℕ) → checked job results ≡ check.Steps 1 → isFactor (answered job) ≡ true → IsAccepted (runOf job results)
+two-steps : (job : Job) → checked job room ≡ check.Steps 2 → T (isFactor (answered job (job .run .start)))
+    → T (isFactor (answered job (job .run .start ⊕ job .run .step))) → IsAccepted (runOf job room)
 unfolding answered runOf
-one-step job results c t = go (answered job) refl t
+two-steps job c t u = go (answered job (job .run .start)) (answered job (job .run .start ⊕ job .run .step)) refl refl t u
   where
-    go : (a : FactorAnswer) → answered job ≡ a → isFactor a ≡ true → IsAccepted (runOf job results)
-    go (factor.Refused r) e t = unfold isFactor in absurd (true≢false (sym t))
-    go (factor.Factor f) e t = unfold runChecked runFrom onRow stepAt stepWith rowWith numberFor in rw (c, e)
+    go : (a b : FactorAnswer) → answered job (job .run .start) ≡ a → answered job (job .run .start ⊕ job .run .step) ≡ b
+        → T (isFactor a) → T (isFactor b) → IsAccepted (runOf job room)
+    go (factor.Refused r) b e d t u = unfold isFactor in absurd t
+    go (factor.Factor f) (factor.Refused r) e d t u = unfold isFactor in absurd u
+    go (factor.Factor f) (factor.Factor g) e d t u = unfold runChecked runFrom onRow stepAt stepWith rowWith numberFor in rw (c, e, d)
 
-bare-accepted : IsAccepted (runOf (jobWith bare) (zeros 6))
-unfolding answered isFactor checks shade inSeries readSeries
-bare-accepted = one-step (jobWith bare) (zeros 6) refl refl
+bare-accepted : IsAccepted (runOf bare room)
+unfolding answered isFactor checks shade
+bare-accepted = two-steps bare refl tt tt
 
-built-accepted : IsAccepted (runOf (jobWith built) (zeros 6))
-unfolding answered isFactor checks shade inSeries readSeries
-built-accepted = one-step (jobWith built) (zeros 6) refl refl
+built-accepted : IsAccepted (runOf built room)
+unfolding answered isFactor checks shade
+built-accepted = two-steps built refl tt tt
 
--- the obstacle does shade
-isBelow : Float → FactorAnswer → Bool
-isBelow x (factor.Factor f) = lt f x
-isBelow x (factor.Refused r) = false
+mixed-accepted : IsAccepted (runOf mixed room)
+unfolding answered isFactor checks shade
+mixed-accepted = two-steps mixed refl tt tt
 
-built-shaded : isBelow (whole 1) (answered (jobWith built)) ≡ true
+-- the objects do shade
+built-shaded : T (isBelow (whole 1) (answered built (whole 12)) && isBelow (whole 1) (answered built (whole 13)))
 unfolding answered isBelow shade
-built-shaded = refl
+built-shaded = tt
 
 -- ---- no extent is NaN
 
@@ -172,95 +223,182 @@ all-numbers (y ∷ xs) t x m =
       | inr k ↦ all-numbers xs (and-r (not (isNan y)) (numbers xs) t) x k
     ]
 
--- with nothing at the window
-fine-extents : Surface → SunOnSurface → List ShadingObject → Bool
-fine-extents surface sun distants = numbers (obstacleExtents surface sun distants) && numbers (overhangExtents surface sun distants)
+-- the sun on the surface at a step
+sunThen : Job → ℕ → SunOnSurface
+sunThen job i = let hour = sunAt (job .site) (timeAt (job .run) i) in sunOn (job .surface) (hour .altitude) (hour .azimuth)
 
-no-nan-extent : (surface : Surface) (sun : SunOnSurface) (distants : List ShadingObject) → T (fine-extents surface sun distants) → NoNanExtent surface sun distants []
-unfolding fine-extents windowOverhangExtents rightFinExtents leftFinExtents extents
-no-nan-extent surface sun distants t = record {
-  obstacles = all-numbers (obstacleExtents surface sun distants) (and-l (numbers (obstacleExtents surface sun distants)) (numbers (overhangExtents surface sun distants)) t);
-  overhangs = all-numbers (overhangExtents surface sun distants) (and-r (numbers (obstacleExtents surface sun distants)) (numbers (overhangExtents surface sun distants)) t);
-  window-overhangs = λ x m. absurd (List·Memᴰ·not-nil m);
-  right-fins = λ x m. absurd (List·Memᴰ·not-nil m);
-  left-fins = λ x m. absurd (List·Memᴰ·not-nil m);
-  near-obstacles = λ o m k. absurd (List·Memᴰ·not-nil m);
-}
+-- of the first sector and the window, at a step
+abbrev FineAt : Job → ℕ → Type 0
+FineAt job i = NoNanExtent (job .surface) (sunThen job i) (counted (segmentAt (job .sectors) 0)) (windowObjectsOf (job .window))
 
--- the sun on the surface at the one step
-sunThen : Job → SunOnSurface
-sunThen job = let hour = sunAt (job .site) (job .run .start) in sunOn (job .surface) (hour .altitude) (hour .azimuth)
+module _ (job : Job) (i : ℕ) where
+  nearHeights : List Float
+  nearHeights = extents (ofKind Obstacle) (nearObstacleHeight (job .surface) (sunThen job i)) (windowObjectsOf (job .window))
 
--- one step, one sector, and nothing at the window
-no-nan : (job : Job) → stepCount (job .run) ≡ 1 → sectorsOf (job .sectors) ≡ segmentAt (job .sectors) 0 ∷ [] → windowObjectsOf (job .window) ≡ []
-    → T (fine-extents (job .surface) (sunThen job) (counted (segmentAt (job .sectors) 0))) → NoNan job
-unfolding timeAt sunThen
-no-nan job c e w t = record { at-step = λ i h. let z : i ≡ 0 = omega (arith, c) in rw (z, w) (record { at-found = λ k s f. no-nan-extent _ _ _ (found-fine s f) }) }
+  fine-at : T (numbers (obstacleExtents (job .surface) (sunThen job i) (counted (segmentAt (job .sectors) 0))))
+      → T (numbers (overhangExtents (job .surface) (sunThen job i) (counted (segmentAt (job .sectors) 0))))
+      → T (numbers (windowOverhangExtents (sunThen job i) (windowObjectsOf (job .window))))
+      → T (numbers (rightFinExtents (sunThen job i) (windowObjectsOf (job .window))))
+      → T (numbers (leftFinExtents (sunThen job i) (windowObjectsOf (job .window))))
+      → T (numbers nearHeights) → FineAt job i
+  unfolding nearHeights
+  fine-at o h w r l n = record {
+    obstacles = all-numbers _ o;
+    overhangs = all-numbers _ h;
+    window-overhangs = all-numbers _ w;
+    right-fins = all-numbers _ r;
+    left-fins = all-numbers _ l;
+    near-obstacles = λ b m k.
+        all-numbers nearHeights n _ (extents-into (ofKind Obstacle) (nearObstacleHeight (job .surface) (sunThen job i)) (windowObjectsOf (job .window)) b m k);
+  }
+
+-- two steps, one sector
+no-nan : (job : Job) → stepCount (job .run) ≡ 2 → sectorsOf (job .sectors) ≡ segmentAt (job .sectors) 0 ∷ [] → FineAt job 0 → FineAt job 1 → NoNan job
+unfolding sunThen
+no-nan job c e f g = record { at-step = λ i h. record { at-found = λ k s m. found-fine i (each i (omega (arith, c))) s m } }
   where
-    hour : Hour
-    hour = sunAt (job .site) (job .run .start)
+    each : (i : ℕ) → i < 2 → FineAt job i
+    each zero h = f
+    each (suc zero) h = g
+    each (suc (suc i)) h = absurd (omega arith)
 
-    Fine : ShadingSegment → Type 0
-    Fine s = T (fine-extents (job .surface) (sunOn (job .surface) (hour .altitude) (hour .azimuth)) (counted s))
+    Fine : ℕ → ShadingSegment → Type 0
+    Fine i s = NoNanExtent (job .surface) (sunThen job i) (counted s) (windowObjectsOf (job .window))
 
-    found-fine : (s : ShadingSegment) → segmentOf (hour .azimuth) (sectorsOf (job .sectors)) ≡ found s → Fine s
-    found-fine = found-has Fine (hour .azimuth) (sectorsOf (job .sectors)) (λ s m.
+    found-fine : (i : ℕ) → FineAt job i → (s : ShadingSegment) → segmentOf (sunAt (job .site) (timeAt (job .run) i) .azimuth) (sectorsOf (job .sectors)) ≡ found s → Fine i s
+    found-fine i t = found-has (Fine i) (sunAt (job .site) (timeAt (job .run) i) .azimuth) (sectorsOf (job .sectors)) (λ s m.
         elim (List·Memᴰ·cases-cons (subst (List·Memᴰ s) e m)) [
-          | inl g ↦ subst Fine (sym g) t
-          | inr g ↦ absurd (List·Memᴰ·not-nil g)
+          | inl q ↦ subst (Fine i) (sym q) t
+          | inr q ↦ absurd (List·Memᴰ·not-nil q)
         ])
 
-bare-no-nan : NoNan (jobWith bare)
-unfolding checks shade sunThen fine-extents numbers
-bare-no-nan = no-nan (jobWith bare) refl refl refl tt
+bare-no-nan : NoNan bare
+unfolding checks shade sunThen numbers nearHeights nearObstacleHeight
+bare-no-nan = no-nan bare refl refl (fine-at bare 0 tt tt tt tt tt tt) (fine-at bare 1 tt tt tt tt tt tt)
 
-built-no-nan : NoNan (jobWith built)
-unfolding checks shade sunThen fine-extents numbers
-built-no-nan = no-nan (jobWith built) refl refl refl tt
+built-no-nan : NoNan built
+unfolding checks shade sunThen numbers nearHeights nearObstacleHeight
+built-no-nan = no-nan built refl refl (fine-at built 0 tt tt tt tt tt tt) (fine-at built 1 tt tt tt tt tt tt)
 
--- ---- they are alike and bounded alike, and the second holds all objects of the first
+mixed-no-nan : NoNan mixed
+unfolding checks shade sunThen numbers nearHeights nearObstacleHeight
+mixed-no-nan = no-nan mixed refl refl (fine-at mixed 0 tt tt tt tt tt tt) (fine-at mixed 1 tt tt tt tt tt tt)
+
+-- ---- they are alike and bounded alike
 
 same-series : (l : List ℕ) → SameSeries l l
 same-series l = record { lengths = refl; values = λ i. refl }
 
-alike : Alike (jobWith bare) (jobWith built)
-unfolding jobWith
-alike = record { sites = refl; runs = refl; surfaces = refl; diffuses = same-series hundred; directs = same-series hundred; reflectivities = same-series quarter }
+module _ (s t v w : List ℕ) where
+  alike : Alike (jobWith s v) (jobWith t w)
+  unfolding jobWith
+  alike = record {
+    sites = refl;
+    runs = refl;
+    surfaces = refl;
+    diffuses = same-series hundred;
+    directs = same-series hundred;
+    reflectivities = same-series quarter;
+  }
 
-bounded : BoundedAlike bare built
+  are-doubles : Doubles (jobWith s v .surface)
+  unfolding jobWith whole fits
+  are-doubles = record { base-fits = record { holds = tt }; height-fits = record { holds = tt }; width-fits = record { holds = tt } }
+
+level : (x y : Float) → T (le x y && le y x) → x ≈ y
+level x y t = record { below = record { holds = and-l (le x y) (le y x) t }; above = record { holds = and-r (le x y) (le y x) t } }
+
+bare-built : Comparable bare built room room
 unfolding lists le
-bounded = record {
-  lengths = refl;
-  starts = λ i h. let z : i ≡ 0 = omega arith in rw z (record { below = record { holds = tt }; above = record { holds = tt } });
-  ends = λ i h. let z : i ≡ 0 = omega arith in rw z (record { below = record { holds = tt }; above = record { holds = tt } });
-}
-
-holds-none : {Object : Type 0} (ys : List Object) → Holds ys []
-holds-none ys o m = absurd (List·Memᴰ·not-nil m)
-
-more : HoldsAll (jobWith built) (jobWith bare)
-unfolding lists
-more = record {
-  in-sectors = λ i h. let z : i ≡ 0 = omega arith in rw z (holds-none (sectorObjects built 0));
-  at-window = λ o m. m;
-}
-
-are-doubles : Doubles (jobWith bare .surface)
-unfolding jobWith whole fits
-are-doubles = record { base-fits = record { holds = tt }; height-fits = record { holds = tt }; width-fits = record { holds = tt } }
-
-comparable : Comparable (jobWith bare) (jobWith built) (zeros 6) (zeros 6)
-unfolding jobWith
-comparable = record {
-  alike = alike;
-  bounded = bounded;
+bare-built = record {
+  alike = alike (bare .sectors) (built .sectors) (bare .window) (built .window);
+  bounded = record {
+    lengths = refl;
+    starts = λ i h. let z : i ≡ 0 = omega arith in rw z (level _ _ tt);
+    ends = λ i h. let z : i ≡ 0 = omega arith in rw z (level _ _ tt);
+  };
   first-accepted = bare-accepted;
   second-accepted = built-accepted;
   first-extents = bare-no-nan;
   second-extents = built-no-nan;
-  doubles = are-doubles;
+  doubles = are-doubles (bare .sectors) (built .sectors) (bare .window) (built .window);
 }
 
--- so the claim speaks of them, and says that the obstacle makes no step's factor larger
-factors : (i : ℕ) → i < countOf (runOf (jobWith built) (zeros 6)) → factorAt (runOf (jobWith built) (zeros 6)) i ≼ factorAt (runOf (jobWith bare) (zeros 6)) i
-factors = two-jobs-compared (jobWith bare) (jobWith built) (zeros 6) (zeros 6) comparable .second-more more .factors
+built-mixed : Comparable built mixed room room
+unfolding lists le
+built-mixed = record {
+  alike = alike (built .sectors) (mixed .sectors) (built .window) (mixed .window);
+  bounded = record {
+    lengths = refl;
+    starts = λ i h. let z : i ≡ 0 = omega arith in rw z (level _ _ tt);
+    ends = λ i h. let z : i ≡ 0 = omega arith in rw z (level _ _ tt);
+  };
+  first-accepted = built-accepted;
+  second-accepted = mixed-accepted;
+  first-extents = built-no-nan;
+  second-extents = mixed-no-nan;
+  doubles = are-doubles (built .sectors) (mixed .sectors) (built .window) (mixed .window);
+}
+
+-- ---- and hold each other's objects
+
+holds-none : {Object : Type 0} {ys : List Object} → Holds ys []
+holds-none o m = absurd (List·Memᴰ·not-nil m)
+
+and-held : {Object : Type 0} {x : Object} {xs ys : List Object} → List·Memᴰ x ys → Holds ys xs → Holds ys (x ∷ xs)
+and-held {Object} {x} {xs} {ys} m h o k =
+    elim (List·Memᴰ·cases-cons k) [
+      | inl e ↦ subst (λ (z : Object). List·Memᴰ z ys) (sym e) m
+      | inr l ↦ h o l
+    ]
+
+more : HoldsAll built bare
+unfolding lists
+more = record {
+  in-sectors = λ i h. let z : i ≡ 0 = omega arith in rw z holds-none;
+  at-window = holds-none;
+}
+
+same : SameObjects built mixed
+unfolding lists
+same = record {
+  there = record {
+    in-sectors = λ i h. let z : i ≡ 0 = omega arith in rw z (and-held (List·Memᴰ·tail (List·Memᴰ·head refl)) (and-held (List·Memᴰ·head refl) holds-none));
+    at-window = and-held (List·Memᴰ·head refl) holds-none;
+  };
+  back = record {
+    in-sectors = λ i h. let z : i ≡ 0 = omega arith in
+        rw z (and-held (List·Memᴰ·tail (List·Memᴰ·head refl)) (and-held (List·Memᴰ·head refl) (and-held (List·Memᴰ·tail (List·Memᴰ·head refl)) holds-none)));
+    at-window = and-held (List·Memᴰ·head refl) (and-held (List·Memᴰ·head refl) holds-none);
+  };
+}
+
+-- ---- every direct value is finite
+
+directThen : Job → ℕ → Float
+directThen job i = let time = timeAt (job .run) i in irradianceAt (job .site) (job .surface) time (readingAt job time) .direct
+
+finite-direct : (job : Job) → IsAccepted (runOf job room) → stepCount (job .run) ≡ 2 → Finite (directThen job 0) → Finite (directThen job 1) → FiniteDirect (runOf job room)
+unfolding countOf countFor done directThen
+finite-direct job a c f g =
+    let run = accepted-run job room a in
+    subst FiniteDirect (sym (run .comes-to)) (λ i h. subst Finite (sym (direct-is run i h ∙ row-of run i h .direct)) (each i (omega (arith, c))))
+  where
+    each : (i : ℕ) → i < 2 → Finite (directThen job i)
+    each zero h = f
+    each (suc zero) h = g
+    each (suc (suc i)) h = absurd (omega arith)
+
+built-finite : FiniteDirect (runOf built room)
+unfolding checks sky directThen
+built-finite = finite-direct built built-accepted refl (record { holds = tt }) (record { holds = tt })
+
+-- ---- so the claim speaks of them
+
+-- the objects make no factor and no sum larger
+no-larger : sumOf (runOf built room) ≼ sumOf (runOf bare room)
+no-larger = two-jobs-compared bare built room room bare-built .second-more more .sums built-finite
+
+-- their order and number is all one
+same-sum : sumOf (runOf built room) ≡ sumOf (runOf mixed room)
+same-sum = two-jobs-compared built mixed room room built-mixed .same-sums same

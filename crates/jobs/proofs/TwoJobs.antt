@@ -63,12 +63,12 @@ module _ {job : Job} {results : List ℕ} (a : AcceptedRun job results) where
   unfolding factorAt
   factor-is i h = done-rows a i h .factor
 
-  direct-is : (i : ℕ) → i < stepCount (job .run) → directAt (done job results) i ≡ rowAt job i .direct
+  pub direct-is : (i : ℕ) → i < stepCount (job .run) → directAt (done job results) i ≡ rowAt job i .direct
   unfolding directAt
   direct-is i h = done-rows a i h .direct
 
   -- the step behind a row
-  row-of : (i : ℕ) → i < stepCount (job .run) → StepRow job (timeAt (job .run) i) (rowAt job i)
+  pub row-of : (i : ℕ) → i < stepCount (job .run) → StepRow job (timeAt (job .run) i) (rowAt job i)
   row-of i h = step-row job (timeAt (job .run) i) (rowAt job i) (a .has-rows i h)
 
   -- its factor is the answer of the lists' records
