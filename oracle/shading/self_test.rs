@@ -2,6 +2,7 @@
 //! must pass, and each wrong function must be found. The library is not called.
 
 use super::laws::LAWS;
+use super::walks::{all_ends, Walks};
 use super::{compared_alone, law_alone, wrong};
 use crate::comparison::{Outcome, Settings};
 use crate::pilgartze::FactorCall;
@@ -28,12 +29,27 @@ fn found(
     Ok(functions.len())
 }
 
+/// A place that no walk ended at is an error, whichever it is.
+fn every_place_is_asked_for(settings: &Settings) -> Outcome {
+    let places = all_ends().count();
+    for missing in 0..=places {
+        let mut walks = Walks::default();
+        let met = all_ends().enumerate().filter(|&(k, _)| k != missing);
+        met.for_each(|(_, walked)| walks.note(walked));
+        if walks.report(settings, "factor").is_ok() != (missing == places) {
+            return Err(format!("self-test: place {missing} of the walks' ends"));
+        }
+    }
+    Ok(())
+}
+
 pub fn run(seed: u64) -> Outcome {
     let settings = &Settings {
         seed,
         count: 60_000,
         print: false,
     };
+    every_place_is_asked_for(settings)?;
     compared_alone(settings, wrong::without_flaw())
         .map_err(|words| format!("self-test, the plain factor: {words}"))?;
     let compared = |function| compared_alone(settings, function);

@@ -1,6 +1,6 @@
 -- Laws of hexadecimal digits in a list of bytes: what is written is read back, all else stays as it was, and nothing but what is written for a word is read as it.
 use mathlib.Core.Path.{_≡_, refl, sym, _∙_, ap, ap₂}
-use mathlib.Core.List.{List, [], _∷_}
+use mathlib.Core.List.{List, _∷_}
 use Prim.Native.Nat.{ℕ, zero, suc, _+_, _-_, _*_, _/_, _%_, _^_, _≤_, _<_}
 use native.Mathlib.Nat.{div-one, mod-lt, mod-eq-of-lt, div-div-eq-div-mul, pow-suc}
 use native.Mathlib.Decide.{decLt}
@@ -136,10 +136,3 @@ module _ (l : List ℕ) (i w : ℕ) (e : digitsAt l i ≡ Word w) where
 
   pub read-below : w < 2 ^ 64
   read-below = omega (arith, only-written .1)
-
--- ---- worked values
-
-pub digits-of-nan : digitsOf 0x7FF8_0000_0000_0000
-    ≡ 0x37 ∷ 0x46 ∷ 0x46 ∷ 0x38 ∷ 0x30 ∷ 0x30 ∷ 0x30 ∷ 0x30 ∷ 0x30 ∷ 0x30 ∷ 0x30 ∷ 0x30 ∷ 0x30 ∷ 0x30 ∷ 0x30 ∷ 0x30 ∷ []
-unfolding digitsOf digits digit
-digits-of-nan = refl

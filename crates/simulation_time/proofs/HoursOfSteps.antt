@@ -4,12 +4,11 @@ use mathlib.Core.Bool.{Bool, true, _&&_, _||_, and-true, and-false}
 use Prim.Native.Nat.{ℕ, zero, suc, _+_, _-_, _≤_, _<_}
 use native.Mathlib.Decide.{decLt}
 use native.Mathlib.Omega.{arith}
-use borrow.Author.Tests.{lt-ltb, le-ltb, ltb-true}
+use borrow.Author.Tests.{lt-ltb, le-ltb}
 use lib.Dec.{T, ltb, eqb, eqb·suc-zero}
 use lib.Ieee.{Float, toUnsigned}
 use lib.Ieee.Bits.{is-true}
-use lib.Ieee.Fits.{and-l, and-r}
-use Rattle.doubles.specs.Arithmetic.{whole}
+use lib.Ieee.Fits.{and-l}
 use Rattle.doubles.specs.Order.{_≼_, Fits}
 use Rattle.simulation_time.specs.declared.run.Run.{Run}
 use Rattle.simulation_time.specs.Steps.{runFine, stepCount, timeAt, timesFrom, times, atAll}
@@ -27,10 +26,6 @@ hour-is f = cast-floor 32 f
 -- a later time has no earlier hour
 pub hour-mono : {x y : Float} → Fits x → Fits y → x ≼ y → currentHour x ≤ currentHour y
 hour-mono f g h = rw (hour-is f, hour-is g) (cast-mono 32 h)
-
--- a time of the year has an hour up to 8784
-pub hour-few : {time : Float} → Fits time → time ≼ whole 8784 → currentHour time ≤ 8784
-hour-few f h = rw (hour-is f) (unfold toUnsigned whole in cast-mono 32 h)
 
 -- of two hours only the later counts
 later-counts : (m n hours : ℕ) → m ≤ n → ltb m hours && ltb n hours ≡ ltb n hours
@@ -67,30 +62,12 @@ module _ {run : Run} (a : Accepted run) (hours : ℕ) where
           let last : atAll (hourFine hours) (timesFrom (suc n) (run .step) (run .start)) ≡ ltb (currentHour (timeAt run (0 + n))) hours = unfold timeAt in by-last n 0 (omega arith) in
           rw (eqb·suc-zero n, k) (last ∙ ap (λ (i : ℕ). ltb (currentHour (timeAt run i)) hours) z)
 
-  -- where the check passes, every step's hour is below the limit
-  pub step-hour : hoursFine hours run ≡ true → (i : ℕ) → i < stepCount run → currentHour (timeAt run i) < hours
-  step-hour fine i h = go (stepCount run) refl h
-    where
-      go : (n : ℕ) → stepCount run ≡ n → i < n → currentHour (timeAt run i) < hours
-      go zero e l = absurd (omega arith)
-      go (suc n) e l =
-          let k : suc n - 1 ≡ n = omega arith in
-          let t : eqb (suc n) 0 || ltb (currentHour (timeAt run (suc n - 1))) hours ≡ true = rw e at (sym hours-by-last ∙ fine) in
-          let last : currentHour (timeAt run n) < hours = ltb-true (currentHour (timeAt run n)) hours (rw (eqb·suc-zero n, k) at t) in
-          let m : currentHour (timeAt run i) ≤ currentHour (timeAt run n) =
-          hour-mono (reached a i h .fits) (reached a n (omega arith) .fits) (never-falls a i n (omega arith) (omega arith)) in
-          omega arith
-
 -- ---- refusal 2 does not hold
 
 module _ (hours : ℕ) (run : Run) (h : runAccepted hours run ≡ true) where
   pub fields-fine : runFine run ≡ true
   unfolding runAccepted
   fields-fine = is-true (runFine run) (and-l (runFine run) (hoursFine hours run) (subst T (sym h) tt))
-
-  pub hours-fine : hoursFine hours run ≡ true
-  unfolding runAccepted
-  hours-fine = is-true (hoursFine hours run) (and-r (runFine run) (hoursFine hours run) (subst T (sym h) tt))
 
   -- the count that the check hands out
   pub checked-count : checkedRun hours run .count ≡ stepCount run

@@ -3,7 +3,6 @@ use mathlib.Core.Path.{_≡_, refl, sym, ap, _∙_, subst}
 use mathlib.Core.Bool.{Bool, true, false, true≢false}
 use Prim.Native.Nat.{ℕ, zero, suc, _+_, _-_, _≤_, _<_, zero-le, suc-le-suc}
 use native.Mathlib.Nat.{lt-irrefl}
-use native.Mathlib.Numerals.{add-one}
 use native.Mathlib.Decide.{decLt}
 use native.Mathlib.Omega.{arith}
 use borrow.Author.Count.{below-more}
@@ -20,16 +19,6 @@ use Rattle.simulation_time.specs.Steps.{goesOn, stepsFrom, stepCount, ti
 use Rattle.doubles.proofs.Differences.{below-difference}
 use Rattle.simulation_time.proofs.Quarters.{quarters, quarters-grow, quarters-few}
 use Rattle.simulation_time.proofs.Accepted.{Accepted, time-finite, step-nonneg, step-finite, end-finite}
-
--- ---- each time from the last
-
-pub time-first : (run : Run) → timeAt run 0 ≡ run .start
-unfolding timeAt
-time-first run = refl
-
-pub time-next : (run : Run) (i : ℕ) → timeAt run (i + 1) ≡ timeAt run i ⊕ run .step
-unfolding timeAt
-time-next run i = rw (add-one i)
 
 -- ---- which steps there are
 
@@ -171,10 +160,6 @@ module _ {run : Run} (a : Accepted run) where
   -- a step lies in the year
   pub reached : (i : ℕ) → i < stepCount run → Reached run i
   reached i h = reached-from a i (λ j l. step-there j (omega arith))
-
-  -- every step but the first lies within the run
-  pub later-within : (i : ℕ) → suc i < stepCount run → timeAt run (suc i) ≼ run .end
-  later-within i h = next-within a i (reached i (omega arith)) (step-there (suc i) h)
 
   -- times never fall
   pub never-falls : (i j : ℕ) → i ≤ j → j < stepCount run → timeAt run i ≼ timeAt run j

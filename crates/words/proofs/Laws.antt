@@ -1,7 +1,7 @@
 -- Laws of words and doubles in a list of bytes: what is stored is read back, all else stays as it was, and a part word counts for nothing.
 use mathlib.Core.Path.{_≡_, refl, sym, _∙_, ap}
 use mathlib.Core.Logic.{_≢_}
-use mathlib.Core.List.{List, [], _∷_, _++_}
+use mathlib.Core.List.{List, _++_}
 use Prim.Native.Nat.{ℕ, zero, suc, _+_, _*_, _/_, _%_, _^_, _≤_, _<_}
 use native.Mathlib.Nat.{mod-eq-of-lt, mod-one, pow-suc}
 use native.Mathlib.Decide.{decLt}
@@ -11,7 +11,7 @@ use lib.Dec.{T, ltb, lit<}
 use lib.ListN.{length, getD, set, length-set, length-append, List·getD-append}
 use lib.Seq.{sets, getD-set-same}
 use lib.Ieee.{Float, nan, fits, binary64, ofBits, toBits}
-use lib.Ieee.Bits.{ofBits-toBits, ofBits-fits, toBits-lt}
+use lib.Ieee.Bits.{ofBits-toBits, toBits-lt}
 use Rattle.words.specs.Words.{number, bytesOf, wordCount, wordAt, putWord, doubleAt, putDouble}
 use Rattle.words.proofs.Bases.{cut-lowest}
 use Rattle.words.proofs.Stores.{getD-sets-before, length-tested, before-tested, behind-tested}
@@ -139,10 +139,6 @@ module _ (l e : List ℕ) (whole : length l % 8 ≡ 0) (part : length e < 8) whe
 
 -- ---- the same for doubles
 
-pub double-fits : (l : List ℕ) (k : ℕ) → T (fits binary64 (doubleAt l k))
-unfolding doubleAt
-double-fits l k = ofBits-fits binary64 (wordAt l k)
-
 module _ (l : List ℕ) (k : ℕ) (x : Float) where
   pub length-putDouble : length (putDouble l k x) ≡ length l
   unfolding putDouble
@@ -169,13 +165,3 @@ module _ (l : List ℕ) (k : ℕ) (x : Float) where
 pub stored-nan : (l : List ℕ) (k : ℕ) → k < wordCount l → wordAt (putDouble l k nan) k ≡ 0x7FF8_0000_0000_0000
 unfolding putDouble
 stored-nan l k h = ap (λ (w : ℕ). wordAt (putWord l k w) k) nan-pattern ∙ stored-word l k 0x7FF8_0000_0000_0000 h (lit< tt)
-
--- ---- worked values
-
-pub bytes-of-one : bytesOf 8 0x3FF0_0000_0000_0000 ≡ 0 ∷ 0 ∷ 0 ∷ 0 ∷ 0 ∷ 0 ∷ 0xF0 ∷ 0x3F ∷ []
-unfolding bytesOf
-bytes-of-one = refl
-
-pub one-of-bytes : wordAt (0 ∷ 0 ∷ 0 ∷ 0 ∷ 0 ∷ 0 ∷ 0xF0 ∷ 0x3F ∷ 7 ∷ []) 0 ≡ 0x3FF0_0000_0000_0000
-unfolding wordAt wordCount number
-one-of-bytes = refl
