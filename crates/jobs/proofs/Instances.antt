@@ -24,7 +24,7 @@ use Rattle.days.specs.Day.{orbitDeviation, solarDeclination, equationOfTime, ex
 use Rattle.sun.specs.Hour.{sinCosOf, timeShift, solarTime, hourAngle, altitudeSine, cutAltitude, solarAltitude, solarZenith, azimuthDenominator, solarAzimuth, airMass, hourOf}
 use Rattle.sun.specs.Site.{siteFine, hoursInYear}
 use Rattle.irradiance.specs.Surface.{incidenceArgument, incidenceAngle, cosineOfDegrees, aOverB, incidenceBy, incidenceOf}
-use Rattle.irradiance.specs.Sky.{directBeam, altitudeTerm, clearness, skyBrightness, limits, firstAbove, tableRow, coefficients, brightnessOf, brightnessIn, brightness, cutBrightness, circumsolarBrightness, horizontalBrightness, skyOf}
+use Rattle.irradiance.specs.Sky.{directBeam, altitudeTerm, clearness, skyBrightness, limits, firstAbove, tableRow, coefficients, coefficientsAt, brightnessOf, brightnessIn, brightness, cutBrightness, circumsolarBrightness, horizontalBrightness, skyOf}
 use Rattle.irradiance.specs.Parts.{directIrradiance, skyIrradiance, circumsolarIrradiance, horizontalIrradiance, groundReflection, irradianceOf}
 use Rattle.orientation.specs.Orientation.{orientation180, wrappedOnce}
 use Rattle.simulation_time.specs.Steps.{runFine, goesOn, stepsFrom, stepCount, timeAt, timesFrom, times, atAll}
@@ -39,7 +39,7 @@ use Rattle.object_checks.specs.Checks.{recordsFine, windowValuesFine, windowRec
 use Rattle.objects.specs.Records.{recordsFrom, filled, distantKind, objectAt, noObject, objectsFrom, segmentAt, sectorCount, sectorsOf, windowKind, windowObjectAt, windowCount, windowObjectsOf}
 use Rattle.beam.specs.Beam.{within90, outsideSolarBeam}
 use Rattle.extents.specs.Extents.{obstacleHeight, overhangHeight, windowOverhangHeight}
-use Rattle.segments.specs.Segments.{found, betweenEnds, holdsAzimuth, visit, walkFrom, segmentOf}
+use Rattle.segments.specs.Segments.{found, betweenEnds, holdsAzimuth, visit, placeFrom, placeOf, sectorAt, segmentIn, segmentOf}
 use Rattle.objects.specs.declared.window.WindowShadingType.the-variants.{Obstacle}
 use Rattle.objects.specs.Objects.{isObstacle, isOverhang, kindNumber, ofKind, counted}
 use Rattle.shading.specs.declared.sun_on_surface.SunOnSurface.{SunOnSurface}
@@ -135,7 +135,7 @@ room = zeros 12
 
 lists : ℕ
 unfolding word double zeros quarter metre two hundred round minus-zero wall eaves awning jobWith bare built mixed room number wordCount wordAt doubleAt ofBits sectorCount triple
-    sectorObjects windowObject windowObjects recordsFrom distantKind objectAt objectsFrom segmentAt sectorsOf windowKind windowObjectAt windowObjectsOf
+    sectorObjects windowObject windowObjects recordsFrom filled distantKind objectAt noObject objectsFrom segmentAt sectorsOf windowKind windowObjectAt windowCount windowObjectsOf
 lists = 0
 
 doubles : ℕ
@@ -155,13 +155,13 @@ unfolding lists doubles sine cosine tangent isAngle quarterTurns quadrant remain
 sun = 0
 
 shade : ℕ
-unfolding sun within90 outsideSolarBeam obstacleHeight overhangHeight windowOverhangHeight betweenEnds holdsAzimuth visit walkFrom segmentOf extents isObstacle isOverhang
+unfolding sun within90 outsideSolarBeam obstacleHeight overhangHeight windowOverhangHeight betweenEnds holdsAzimuth visit placeFrom placeOf sectorAt segmentIn segmentOf extents isObstacle isOverhang
     kindNumber ofKind sunOn obstacleExtents overhangExtents windowOverhangExtents rightFinExtents leftFinExtents overhangShade sunlitBetween sunlitHeight sunlitWidth sunlitPart leastOf
     reductionFactor hasReveal counted factorIn shadingFactor shadingAt
 shade = 0
 
 sky : ℕ
-unfolding sun arccosine incidenceArgument incidenceAngle cosineOfDegrees aOverB incidenceBy incidenceOf directBeam altitudeTerm clearness skyBrightness limits firstAbove tableRow coefficients
+unfolding sun arccosine incidenceArgument incidenceAngle cosineOfDegrees aOverB incidenceBy incidenceOf directBeam altitudeTerm clearness skyBrightness limits firstAbove tableRow coefficients coefficientsAt
     brightnessOf brightnessIn brightness cutBrightness circumsolarBrightness horizontalBrightness skyOf directIrradiance skyIrradiance circumsolarIrradiance horizontalIrradiance
     groundReflection irradianceOf irradianceAt indexAt readingAt readSeries seriesIndex
 sky = 0

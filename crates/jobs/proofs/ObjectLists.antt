@@ -12,19 +12,19 @@ use lib.Ieee.{binary64, ofBits}
 use lib.Ieee.Fits.{and-l, and-r}
 use Rattle.doubles.specs.Arithmetic.{whole}
 use Rattle.doubles.specs.Ranges.{within}
-use Rattle.words.specs.Words.{wordCount, wordAt, doubleAt}
+use Rattle.words.specs.Words.{wordAt, doubleAt}
 use Rattle.objects.specs.declared.sectors.ShadingObject.{ShadingObject}
 use Rattle.objects.specs.declared.sectors.ShadingSegment.{ShadingSegment}
 use Rattle.objects.specs.declared.window.WindowShadingObject.{WindowShadingObject}
 use Rattle.words.specs.Lists.{firstFine}
 use Rattle.object_checks.specs.Checks.{tripleFine, boundsFine, sectorRecordFine, sectorsFine}
 use Rattle.objects.specs.Objects.{counted}
-use Rattle.objects.specs.Records.{recordsFrom, distantKind, objectAt, objectsFrom, segmentAt, sectorsOf, windowKind, windowObjectAt, windowObjectsOf}
+use Rattle.objects.specs.Records.{recordsFrom, filled, distantKind, objectAt, noObject, objectsFrom, segmentAt, sectorCount, sectorsOf, windowKind, windowObjectAt, windowCount, windowObjectsOf}
 use Rattle.segments.specs.SameSectors.{SameBounds, PlaceByPlace, none, and-then}
 use Rattle.shading_laws.specs.Premises.{Holds, MoreInSector, SameInSector}
 use Rattle.object_checks.proofs.Accepted.{length-records, member-records}
 use Rattle.object_checks.proofs.AcceptedSectors.{counted-objects, sector-record}
-use Rattle.jobs.specs.Comparison.{sectorCount, BoundedAlike, triple, sectorObjects, windowObject, windowObjects}
+use Rattle.jobs.specs.Comparison.{BoundedAlike, triple, sectorObjects, windowObject, windowObjects}
 
 -- ---- objects by their words
 
@@ -82,7 +82,7 @@ object-is l i = refl
 pub window-holds : (l m : List ℕ) → Holds (windowObjects m) (windowObjects l) → Holds (windowObjectsOf m) (windowObjectsOf l)
 unfolding windowObjects windowObjectsOf
 window-holds l m h =
-    made-holds objectOf (windowObject l) (windowObject m) (windowObjectAt l) (windowObjectAt m) (object-is l) (object-is m) (wordCount m / 4) (wordCount l / 4) h
+    made-holds objectOf (windowObject l) (windowObject m) (windowObjectAt l) (windowObjectAt m) (object-is l) (object-is m) (windowCount m) (windowCount l) h
 
 objects-hold : (l m : List ℕ) (i : ℕ) → Holds (sectorObjects m i) (sectorObjects l i)
     → Holds (objectsFrom m (27 * i + 3) (wordAt m (27 * i + 2))) (objectsFrom l (27 * i + 3) (wordAt l (27 * i + 2)))
@@ -95,7 +95,7 @@ objects-hold l m i h =
 -- ---- sectors
 
 few-counted : (l : List ℕ) → T (sectorsFine l) → (i : ℕ) → i < sectorCount l → wordAt l (27 * i + 2) ≤ 8
-unfolding sectorCount sectorRecordFine boundsFine
+unfolding sectorRecordFine boundsFine
 few-counted l t i h =
     let k = 27 * i in
     let a = within (whole 0) (whole 360) (doubleAt l k) in
@@ -126,10 +126,10 @@ place-by-place R l m (suc n) i h = and-then (h i (omega arith)) (place-by-place 
 
 by-places : (R : ShadingSegment → ShadingSegment → Type 0) (l m : List ℕ) → sectorCount l ≡ sectorCount m
     → ((i : ℕ) → i < sectorCount l → R (segmentAt l i) (segmentAt m i)) → PlaceByPlace R (sectorsOf l) (sectorsOf m)
-unfolding sectorsOf sectorCount
+unfolding sectorsOf
 by-places R l m e h =
-    subst (λ (n : ℕ). PlaceByPlace R (recordsFrom (segmentAt l) 0 (wordCount l / 27)) (recordsFrom (segmentAt m) 0 n)) e
-    (place-by-place R l m (wordCount l / 27) 0 (λ j k. h j (omega arith)))
+    subst (λ (n : ℕ). PlaceByPlace R (recordsFrom (segmentAt l) 0 (sectorCount l)) (recordsFrom (segmentAt m) 0 n)) e
+    (place-by-place R l m (sectorCount l) 0 (λ j k. h j (omega arith)))
 
 module _ (l m : List ℕ) (t : T (sectorsFine l)) (u : T (sectorsFine m)) (b : BoundedAlike l m) where
   -- m holds all objects of l
@@ -155,14 +155,14 @@ no-records place n e = sym (length-records place n 0) ∙ ap length e
 -- no window objects, no records of them
 pub no-window : (l : List ℕ) → windowObjects l ≡ [] → windowObjectsOf l ≡ []
 unfolding windowObjects windowObjectsOf recordsFrom
-no-window l e = ap (recordsFrom (windowObjectAt l) 0) (no-records (windowObject l) (wordCount l / 4) e)
+no-window l e = ap (recordsFrom (windowObjectAt l) 0) (no-records (windowObject l) (windowCount l) e)
 
 -- no counted triples, no counted objects
 no-counted : (l : List ℕ) (i : ℕ) → sectorObjects l i ≡ [] → counted (segmentAt l i) ≡ []
 unfolding sectorObjects counted segmentAt
-no-counted l i e = ap (λ (n : ℕ). take n (objectsFrom l (27 * i + 3) 8)) (no-records (λ (n : ℕ). triple l (27 * i + 3 + 3 * n)) (wordAt l (27 * i + 2)) e)
+no-counted l i e = ap (λ (n : ℕ). take n (filled (λ (j : ℕ). objectAt l (27 * i + 3 + 3 * j)) noObject 8 n)) (no-records (λ (n : ℕ). triple l (27 * i + 3 + 3 * n)) (wordAt l (27 * i + 2)) e)
 
 -- so of every sector of the list
 pub none-counted : (l : List ℕ) → ((i : ℕ) → i < sectorCount l → sectorObjects l i ≡ []) → (s : ShadingSegment) → List·Memᴰ s (sectorsOf l) → counted s ≡ []
-unfolding sectorsOf sectorCount
-none-counted l h = member-records (segmentAt l) (λ (s : ShadingSegment). counted s ≡ []) (wordCount l / 27) 0 (λ i k. no-counted l i (h i (omega arith)))
+unfolding sectorsOf
+none-counted l h = member-records (segmentAt l) (λ (s : ShadingSegment). counted s ≡ []) (sectorCount l) 0 (λ i k. no-counted l i (h i (omega arith)))

@@ -9,7 +9,7 @@ use Rattle.doubles.specs.Order.{_≼_, _≈_, Finite, Fits}
 use Rattle.words.specs.Words.{wordCount, wordAt, doubleAt}
 use Rattle.simulation_time.specs.Steps.{stepCount, timeAt}
 use Rattle.objects.specs.declared.surface.Surface.{Surface}
-use Rattle.objects.specs.Records.{recordsFrom, sectorsOf, windowObjectsOf}
+use Rattle.objects.specs.Records.{recordsFrom, sectorCount, sectorsOf, windowCount, windowObjectsOf}
 use Rattle.shading_laws.specs.Premises.{Holds, NoNanAt}
 use Rattle.jobs.specs.Job.{Job}
 use Rattle.jobs.specs.Step.{sunAt}
@@ -57,9 +57,6 @@ pub record Alike (j k : Job) : Type 0 where
   pub reflectivities : SameSeries (j .reflectivity) (k .reflectivity)
 
 -- sectors bounded alike: the lists are equally long, and sectors at the same place start and end alike, as numbers: 0.0 and −0.0 do
-unfoldable pub sectorCount : List ℕ → ℕ
-sectorCount l = wordCount l / 27
-
 pub record BoundedAlike (l m : List ℕ) : Type 0 where
   pub lengths : sectorCount l ≡ sectorCount m
   pub starts : (i : ℕ) → i < sectorCount l → doubleAt l (27 * i) ≈ doubleAt m (27 * i)
@@ -76,7 +73,7 @@ unfoldable pub windowObject : List ℕ → ℕ → List ℕ
 windowObject l i = wordAt l (4 * i) ∷ wordAt l (4 * i + 1) ∷ wordAt l (4 * i + 2) ∷ wordAt l (4 * i + 3) ∷ []
 
 unfoldable pub windowObjects : List ℕ → List (List ℕ)
-windowObjects l = recordsFrom (windowObject l) 0 (wordCount l / 4)
+windowObjects l = recordsFrom (windowObject l) 0 (windowCount l)
 
 -- k holds all objects of j, sector by sector, and window with window: each of those is somewhere in its list
 pub record HoldsAll (k j : Job) : Type 0 where

@@ -1,5 +1,4 @@
 -- What a run keeps from step to step, worked out once: of the site and the surface for all steps, of the day and of the hour.
-use mathlib.Core.List.{List}
 use Prim.Native.Nat.{ℕ, _+_, _/_}
 use lib.Dec.{eqb}
 use Rattle.sun.specs.declared.site.Site.{Site}
@@ -11,9 +10,7 @@ use Rattle.irradiance.specs.Sky.{skyOf}
 use Rattle.irradiance.specs.Surface.{incidenceOf}
 use Rattle.irradiance.specs.Parts.{irradianceOf}
 use Rattle.objects.specs.declared.surface.Surface.{Surface}
-use Rattle.objects.specs.declared.window.WindowShadingObject.{WindowShadingObject}
-use Rattle.objects.specs.Records.{sectorsOf}
-use Rattle.shading.specs.Factor.{shadingFactor}
+use Rattle.objects.specs.declared.answers.FactorAnswer.{FactorAnswer}
 use Rattle.jobs.specs.declared.answers.Reading.{Reading}
 use Rattle.jobs.specs.declared.answers.StepAnswer.{StepAnswer}
 use Rattle.jobs.specs.Step.{rowWith}
@@ -34,8 +31,8 @@ unfoldable pub keptDay : ℕ → KeptDay
 keptDay index = record { index = index; values = dayOf (index + 1); declination = sinCosOf (dayOf (index + 1) .declination) }
 
 -- an hour of the year, which counts from 0
-unfoldable pub keptHour : Site → Surface → List ℕ → List WindowShadingObject → ℕ → KeptHour
-keptHour site surface sectors window hour =
+unfoldable pub keptHour : Site → Surface → ℕ → KeptHour
+keptHour site surface hour =
     let day = keptDay (hour / 24) in
     let fixed = fixedOf site surface in
     let sun = hourOf site hour in
@@ -44,7 +41,6 @@ keptHour site surface sectors window hour =
       «extra_terrestrial_radiation» = day .values .«extra_terrestrial_radiation»;
       sun = sun;
       incidence = incidenceOf (fixed .latitude) (day .declination) (fixed .tilt) (fixed .orientation) sun;
-      factor = shadingFactor surface (sun .altitude) (sun .azimuth) (sectorsOf sectors) window;
     }
 
 -- the irradiance by what is kept
@@ -53,6 +49,6 @@ irradianceKept fixed conversion kept reading =
     let sky = skyOf (eqb conversion 1) (kept .sun) (kept .«extra_terrestrial_radiation») (reading .diffuse) (reading .direct) in
     irradianceOf (fixed .tilt) (kept .incidence) sky (kept .sun .«sin_altitude») (reading .reflectivity)
 
--- the step by what is kept
-unfoldable pub stepKept : Site → Fixed → KeptHour → Reading → StepAnswer
-stepKept site fixed kept reading = rowWith (kept .sun) (irradianceKept fixed (site .«direct_beam_conversion») kept reading) (kept .factor)
+-- the step by what is kept, and by its hour's factor
+unfoldable pub stepKept : Site → Fixed → KeptHour → FactorAnswer → Reading → StepAnswer
+stepKept site fixed kept factor reading = rowWith (kept .sun) (irradianceKept fixed (site .«direct_beam_conversion») kept reading) factor

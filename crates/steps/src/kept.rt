@@ -1,18 +1,14 @@
 // What a run keeps from step to step, so that each thing is worked out once: what depends on the site and the surface alone, on the day,
 // and on the hour.
 ghost use mathlib.Core.Path.{_≡_};
-ghost use Prim.Native.Nat.{_/_, _≤_};
-ghost use Rattle.words.specs.Words.{wordCount};
-ghost use Rattle.objects.specs.Objects.{placed};
+ghost use Prim.Native.Nat.{_/_};
 ghost use Rattle.steps.specs.Kept.{fixedOf, keptDay, keptHour, irradianceKept};
 use angles::SinCos;
 use days::Day;
 use irradiance::parts::Irradiance;
 use irradiance::surface::Incidence;
 use jobs::answers::Reading;
-use objects::answers::FactorAnswer;
 use objects::surface::Surface;
-use objects::window::WindowShading;
 use sun::hour::Hour;
 use sun::hour::sin_cos_of_degrees;
 use sun::site::Site;
@@ -75,7 +71,6 @@ pub struct KeptHour {
     pub extra_terrestrial_radiation: f64,
     pub sun: Hour,
     pub incidence: Incidence,
-    pub factor: FactorAnswer,
 }
 
 // Arcsines that do not wait for each other are worked out two at a time: those of the altitude and the incidence here.
@@ -85,13 +80,10 @@ pub fn kept_hour(
     fixed: Fixed,
     day: KeptDay,
     hour: u32,
-    sectors: &[u8],
-    window: WindowShading,
 ) -> KeptHour
     requires { ⌜ fixed ≡ fixedOf site surface ⌝ }
     requires { ⌜ day ≡ keptDay (hour / 24) ⌝ }
-    requires { ⌜ wordCount (now sectors) / 27 ≤ 36 ⌝ }
-    ensures { λ r. ⌜ r ≡ keptHour site surface (now (sectors .entry)) (placed window) hour ⌝ }
+    ensures { λ r. ⌜ r ≡ keptHour site surface hour ⌝ }
 {
     let l = fixed.latitude;
     let t = fixed.tilt;
@@ -106,19 +98,11 @@ pub fn kept_hour(
     let cos_incidence = irradiance::surface::incidence_cosine(arcsines.second);
     let sun = sun::hour::hour_from(l, d, hour_angles, arcsines.first);
     let incidence = irradiance::surface::incidence_by(cos_incidence, sun.cos_zenith);
-    let factor = shading::step::direct_shading_reduction_factor(
-        surface,
-        sun.altitude,
-        sun.azimuth,
-        sectors,
-        window,
-    );
     KeptHour {
         hour: hour,
         extra_terrestrial_radiation: day.values.extra_terrestrial_radiation,
         sun: sun,
         incidence: incidence,
-        factor: factor,
     }
 }
 

@@ -18,13 +18,19 @@ use simulation_time::timestep::time_series_idx;
 use sun::site::Site;
 use words::store_double;
 
-pub fn step_row(fixed: Fixed, conversion: u64, kept: KeptHour, reading: Reading) -> StepAnswer
-    ensures { λ r. ⌜ r ≡ rowWith (kept .sun) (irradianceKept fixed conversion kept reading) (kept .factor) ⌝ }
+// The step's row where its hour has a factor.
+pub fn step_row(
+    fixed: Fixed,
+    conversion: u64,
+    kept: KeptHour,
+    factor: FactorAnswer,
+    reading: Reading,
+) -> StepAnswer
+    ensures { λ r. ⌜ r ≡ rowWith (kept .sun) (irradianceKept fixed conversion kept reading) factor ⌝ }
 {
-    let answer = kept.factor;
-    match answer {
+    match factor {
         FactorAnswer::Refused(refusal) => StepAnswer::Refused(refusal),
-        FactorAnswer::Factor(factor) => {
+        FactorAnswer::Factor(value) => {
             let parts = irradiance_kept(fixed, conversion, kept, reading);
             StepAnswer::Row(Row {
                 altitude: kept.sun.altitude,
@@ -32,7 +38,7 @@ pub fn step_row(fixed: Fixed, conversion: u64, kept: KeptHour, reading: Reading)
                 direct: parts.direct,
                 diffuse: parts.diffuse,
                 total: parts.total,
-                factor: factor,
+                factor: value,
             })
         }
     }
@@ -43,17 +49,25 @@ pub fn step_at(
     site: Site,
     fixed: Fixed,
     kept: KeptHour,
+    factor: FactorAnswer,
     time: f64,
     diffuse: &[u8],
     direct: &[u8],
     reflectivity: &[u8],
 ) -> StepAnswer
     requires { ⌜ site .«start_day» ≤ 365 ⌝ }
-    ensures { λ r. ⌜ r ≡ stepKept site fixed kept (readSeries (now (diffuse .entry)) (now (direct .entry)) (now (reflectivity .entry)) (seriesIndex time (site .«start_day») (site .«time_series_step»))) ⌝ }
+    ensures { λ r. ⌜ r ≡ stepKept site fixed kept factor
+        (readSeries (now (diffuse .entry)) (now (direct .entry)) (now (reflectivity .entry)) (seriesIndex time (site .«start_day») (site .«time_series_step»))) ⌝ }
 {
     let index = time_series_idx(time, site.start_day as u32, site.time_series_step);
     let reading = read_series(diffuse, direct, reflectivity, index);
-    step_row(fixed, site.direct_beam_conversion, kept, reading)
+    step_row(
+        fixed,
+        site.direct_beam_conversion,
+        kept,
+        factor,
+        reading,
+    )
 }
 
 // Stores the i-th row.

@@ -26,18 +26,15 @@ hour-from-requires c κs = tt
 incidence-by-requires : tie.Need-incidence-by-requires
 incidence-by-requires c κs = tt
 
-direct-shading-reduction-factor-requires : tie.Need-direct-shading-reduction-factor-requires
-direct-shading-reduction-factor-requires c κs = c .before .before .before .before .before .before .before .before .before .before .before .before .before .pre .1 .1
-
 returns : tie.Need-returns
 unfolding keptHour keptDay fixedOf
 returns c =
-    let q = c .before .before .before .before .before .before .before .before .before .before .before .before .before .before .pre in
-    let angles = c .before .before .before .before .before .before .before .before .hour-angles-by .ensures in
-    let arcsines = c .before .before .before .before .asin-both .ensures in
-    let sun = sun-put-together _ _ _ _ _ _ _ _ _ angles (c .before .before .before .before .before .before .altitude-sine .ensures) (arcsines .0) (c .before .before .hour-from .ensures) in
-    let incidence = incidence-put-together _ _ _ _ _ _ _ _ _ _ _ _ _ angles (c .before .before .before .before .before .incidence-argument .ensures) (arcsines .1) (c .before .before .before .incidence-cosine .ensures) (c .before .incidence-by .ensures) sun in
-    rw (c .direct-shading-reduction-factor .ensures, incidence, sun, q .1 .0, q .0, hour-by-parts)
+    let q = c .before .before .before .before .before .before .before .before .before .before .before .before .pre in
+    let angles = c .before .before .before .before .before .before .before .hour-angles-by .ensures in
+    let arcsines = c .before .before .before .asin-both .ensures in
+    let sun = sun-put-together _ _ _ _ _ _ _ _ _ angles (c .before .before .before .before .before .altitude-sine .ensures) (arcsines .0) (c .before .hour-from .ensures) in
+    let incidence = incidence-put-together _ _ _ _ _ _ _ _ _ _ _ _ _ angles (c .before .before .before .before .incidence-argument .ensures) (arcsines .1) (c .before .before .incidence-cosine .ensures) (c .incidence-by .ensures) sun in
+    rw (incidence, sun, q .1, q .0, hour-by-parts)
 
 pub kept-hour-spec : {M : Type 1} → statement M
 kept-hour-spec =
@@ -50,5 +47,4 @@ kept-hour-spec =
     incidence-cosine-requires
     hour-from-requires
     incidence-by-requires
-    direct-shading-reduction-factor-requires
     returns)
