@@ -15,10 +15,16 @@ use jobs::answers::RunAnswer;
 use jobs::answers::StepAnswer;
 use object_checks::sectors_fine;
 use object_checks::window_fine;
+use objects::answers::FactorAnswer;
 use objects::answers::Refusal;
+use objects::records::sector_count;
+use objects::records::sectors_of;
 use objects::records::window_of;
 use objects::surface::Surface;
 use objects::surface::surface_fine;
+use shading::step::factor_at;
+use shading::step::place_index;
+use shading::step::sun_place;
 use simulation_time::run::Run;
 use simulation_time::steps::check_run;
 use simulation_time::timestep::current_hour;
@@ -122,8 +128,9 @@ fn refused_at(refusal: Refusal, step: u64) -> RunAnswer
     }
 }
 
-// All steps of a job that has passed the checks.
-pub fn run_steps(
+// All steps of a job that has passed the checks. The sectors are read into a table once, and the factor is worked out once an hour:
+// `shaded` says that it is that of the hour which is kept.
+fn run_steps(
     site: Site,
     run: Run,
     count: u64,
@@ -142,10 +149,14 @@ pub fn run_steps(
     ensures { λ r. ⌜ ran r (now (results .exit)) ≡ runFrom count (jobOf site run surface (now (diffuse .entry)) (now (direct .entry)) (now (reflectivity .entry)) (now (sectors .entry)) (now (window .entry))) 0 (run .start) (whole 0) (now (results .entry)) ⌝ }
 {
     let objects = window_of(window);
+    let n = sector_count(sectors);
+    let places = sectors_of(sectors, n);
     let fixed = fixed_of(site, surface);
     let first = current_hour(run.start);
     let mut day = kept_day(first / 24);
-    let mut kept = kept_hour(site, surface, fixed, day, first, sectors, objects);
+    let mut kept = kept_hour(site, surface, fixed, day, first);
+    let mut factor = FactorAnswer::Factor(1.0);
+    let mut shaded = false;
     let mut time = run.start;
     let mut sum = 0.0;
     let mut i: u64 = 0;
@@ -153,9 +164,33 @@ pub fn run_steps(
         let hour = current_hour(time);
         if hour != kept.hour {
             day = day_for(hour / 24, day);
-            kept = kept_hour(site, surface, fixed, day, hour, sectors, objects);
+            kept = kept_hour(site, surface, fixed, day, hour);
+            shaded = false;
         }
-        let answer = step_at(site, fixed, kept, time, diffuse, direct, reflectivity);
+        if !shaded {
+            let sun = sun_place(surface, kept.sun.altitude, kept.sun.azimuth, places, n);
+            let place = sun.place;
+            let segment = places[place_index(place)];
+            factor = factor_at(
+                surface,
+                kept.sun.altitude,
+                kept.sun.azimuth,
+                sun,
+                segment,
+                objects,
+            );
+            shaded = true;
+        }
+        let answer = step_at(
+            site,
+            fixed,
+            kept,
+            factor,
+            time,
+            diffuse,
+            direct,
+            reflectivity,
+        );
         match answer {
             StepAnswer::Refused(refusal) => {
                 return refused_at(refusal, i);

@@ -14,8 +14,10 @@ use objects::answers::number_of;
 use objects::records::window_of;
 use objects::surface::Surface;
 use objects::surface::surface_fine;
+use shading::step::direct_shading_reduction_factor;
 use simulation_time::timestep::current_hour;
 use steps::kept::fixed_of;
+use steps::kept::irradiance_kept;
 use steps::kept::kept_day;
 use steps::kept::kept_hour;
 use steps::rows::step_row;
@@ -111,8 +113,15 @@ fn step_with(
     let fixed = fixed_of(site, surface);
     let hour = current_hour(time);
     let day = kept_day(hour / 24);
-    let kept = kept_hour(site, surface, fixed, day, hour, sectors, objects);
-    step_row(fixed, site.direct_beam_conversion, kept, reading)
+    let kept = kept_hour(site, surface, fixed, day, hour);
+    let factor = direct_shading_reduction_factor(
+        surface,
+        kept.sun.altitude,
+        kept.sun.azimuth,
+        sectors,
+        objects,
+    );
+    step_row(fixed, site.direct_beam_conversion, kept, factor, reading)
 }
 
 fn store_step(answer: StepAnswer, results: &mut [u8]) -> Single
@@ -161,38 +170,9 @@ fn irradiance_with(site: Site, time: f64, surface: Surface, reading: Reading) ->
     let fixed = fixed_of(site, surface);
     let hour = current_hour(time);
     let day = kept_day(hour / 24);
-    let latitude = fixed.latitude;
-    let tilt = fixed.tilt;
-    let declination = day.declination;
-    let sun = sun::hour::hour_by(
-        latitude,
-        declination,
-        day.values.equation_of_time,
-        fixed.time_shift,
-        hour % 24,
-    );
-    let orientation = fixed.orientation;
-    let incidence = irradiance::surface::incidence_of(
-        latitude,
-        declination,
-        tilt,
-        orientation,
-        sun,
-    );
-    let sky = irradiance::sky::sky_of(
-        site.direct_beam_conversion == 1,
-        sun,
-        day.values.extra_terrestrial_radiation,
-        reading.diffuse,
-        reading.direct,
-    );
-    let parts = irradiance::parts::calculated_direct_diffuse_total_irradiance(
-        tilt,
-        incidence,
-        sky,
-        sun.sin_altitude,
-        reading.reflectivity,
-    );
+    let kept = kept_hour(site, surface, fixed, day, hour);
+    let parts = irradiance_kept(fixed, site.direct_beam_conversion, kept, reading);
+    let sun = kept.sun;
     SunAndIrradiance {
         sun: sun,
         parts: parts,

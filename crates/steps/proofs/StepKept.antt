@@ -8,6 +8,10 @@ use Rattle.sun.specs.Hour.{hourOf}
 use Rattle.simulation_time.specs.Timestep.{currentHour}
 use Rattle.objects.specs.declared.surface.Surface.{Surface}
 use Rattle.objects.specs.declared.answers.FactorAnswer.{FactorAnswer}
+use Rattle.objects.specs.declared.sectors.ShadingSegment.{ShadingSegment}
+use Rattle.objects.specs.declared.window.WindowShadingObject.{WindowShadingObject}
+use Rattle.objects.specs.Records.{sectorsOf, windowObjectsOf}
+use Rattle.shading.specs.Factor.{shadingFactor}
 use Rattle.jobs.specs.declared.answers.Reading.{Reading}
 use Rattle.jobs.specs.declared.answers.StepAnswer.{StepAnswer}
 use Rattle.jobs.specs.Step.{sunAt, irradianceAt, shadingAt, stepWith}
@@ -27,6 +31,28 @@ module _ (site : Site) (surface : Surface) (sectors window : List ℕ) (time : F
       → answer ≡ stepKept site fixed kept factor reading → answer ≡ stepWith site surface sectors window time reading
   unfolding sunAt
   by-kept fixed kept factor answer f k s e = e ∙ rw (f, k, s) kept-step
+
+module _ (site : Site) (surface : Surface) (hour : ℕ) (kept : KeptHour) (k : kept ≡ keptHour site surface hour) where
+  kept-sun : kept .sun ≡ hourOf site hour
+  unfolding keptHour
+  kept-sun = ap (λ (x : KeptHour). x .sun) k
+
+  -- the factor for the kept sun is the hour's
+  pub kept-factor : (sectors window : List ℕ) (ss : List ShadingSegment) (ws : List WindowShadingObject) (factor : FactorAnswer) → ss ≡ sectorsOf sectors
+      → ws ≡ windowObjectsOf window → factor ≡ shadingFactor surface (kept .sun .altitude) (kept .sun .azimuth) ss ws
+      → factor ≡ shadingAt surface (hourOf site hour) sectors window
+  unfolding shadingAt
+  kept-factor sectors window ss ws factor s w f = f ∙ rw (kept-sun, s, w)
+
+module _ (site : Site) (surface : Surface) (time : Float) (kept : KeptHour) (k : kept ≡ keptHour site surface (currentHour time)) where
+  pub sun-by-kept : kept .sun ≡ sunAt site time
+  unfolding sunAt
+  sun-by-kept = kept-sun site surface (currentHour time) kept k
+
+  pub irradiance-by-kept : (reading : Reading) (fixed : Fixed) → fixed ≡ fixedOf site surface
+      → irradianceKept fixed (site .«direct_beam_conversion») kept reading ≡ irradianceAt site surface time reading
+  unfolding irradianceKept keptHour keptDay fixedOf irradianceAt sunAt
+  irradiance-by-kept reading fixed f = rw (k, f)
 
 pub of-its-hour : (site : Site) (surface : Surface) (hour : ℕ) (kept : KeptHour) → kept ≡ keptHour site surface hour → kept ≡ keptHour site surface (kept .hour)
 unfolding keptHour

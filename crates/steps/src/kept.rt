@@ -74,13 +74,7 @@ pub struct KeptHour {
 }
 
 // Arcsines that do not wait for each other are worked out two at a time: those of the altitude and the incidence here.
-pub fn kept_hour(
-    site: Site,
-    surface: Surface,
-    fixed: Fixed,
-    day: KeptDay,
-    hour: u32,
-) -> KeptHour
+pub fn kept_hour(site: Site, surface: Surface, fixed: Fixed, day: KeptDay, hour: u32) -> KeptHour
     requires { ⌜ fixed ≡ fixedOf site surface ⌝ }
     requires { ⌜ day ≡ keptDay (hour / 24) ⌝ }
     ensures { λ r. ⌜ r ≡ keptHour site surface hour ⌝ }

@@ -61,13 +61,7 @@ pub fn step_at(
 {
     let index = time_series_idx(time, site.start_day as u32, site.time_series_step);
     let reading = read_series(diffuse, direct, reflectivity, index);
-    step_row(
-        fixed,
-        site.direct_beam_conversion,
-        kept,
-        factor,
-        reading,
-    )
+    step_row(fixed, site.direct_beam_conversion, kept, factor, reading)
 }
 
 // Stores the i-th row.

@@ -1,37 +1,33 @@
--- `irradiance_with` meets its contract.
-use mathlib.Core.Path.{refl}
-use Rattle.sun.proofs.HourParts.{hour-by-parts}
-use Rattle.jobs.specs.Step.{sunAt, irradianceAt}
-use Rattle.steps.specs.Kept.{fixedOf, keptDay}
-use borrow.Author.Needs.{needs}
+-- `irradiance_with` meets its contract: what is kept of the hour is that of the time.
+use mathlib.Core.Path.{_∙_, ap}
+use Rattle.steps.specs.Kept.{keptHour}
+use Rattle.steps.proofs.StepKept.{sun-by-kept, irradiance-by-kept}
 use Rattle.single_steps.proofs.irradiance_with.Statement.{statement}
 use Rattle.single_steps.proofs.irradiance_with.Tie as tie
 
 fixed-of-requires : tie.Need-fixed-of-requires
-fixed-of-requires c κs = search needs
+fixed-of-requires c κs = tt
 
 current-hour-requires : tie.Need-current-hour-requires
-current-hour-requires c κs = search needs
+current-hour-requires c κs = tt
 
 kept-day-requires : tie.Need-kept-day-requires
-kept-day-requires c κs = search needs
+kept-day-requires c κs = tt
 
-hour-by-requires : tie.Need-hour-by-requires
-hour-by-requires c κs = search needs
+kept-hour-requires : tie.Need-kept-hour-requires
+kept-hour-requires c κs = (c .before .before .fixed-of .ensures, c .kept-day .ensures)
 
-incidence-of-requires : tie.Need-incidence-of-requires
-incidence-of-requires c κs = search needs
-
-sky-of-requires : tie.Need-sky-of-requires
-sky-of-requires c κs = search needs
-
-calculated-direct-diffuse-total-irradiance-requires :
-    tie.Need-calculated-direct-diffuse-total-irradiance-requires
-calculated-direct-diffuse-total-irradiance-requires c κs = search needs
+irradiance-kept-requires : tie.Need-irradiance-kept-requires
+irradiance-kept-requires c κs = tt
 
 returns : tie.Need-returns
-unfolding sunAt irradianceAt keptDay fixedOf
-returns c = (rw (c .before .before .before .before .before .hour-by .ensures, c .before .before .before .before .before .before .before .before .before .kept-day .ensures, c .before .before .before .before .before .before .before .before .before .before .current-hour .ensures, c .before .before .before .before .before .before .before .before .before .before .before .fixed-of .ensures, hour-by-parts) refl, rw (c .calculated-direct-diffuse-total-irradiance .ensures, c .before .sky-of .ensures, c .before .before .before .incidence-of .ensures, c .before .before .before .before .before .hour-by .ensures, c .before .before .before .before .before .before .before .before .before .kept-day .ensures, c .before .before .before .before .before .before .before .before .before .before .current-hour .ensures, c .before .before .before .before .before .before .before .before .before .before .before .fixed-of .ensures, hour-by-parts) refl)
+returns c =
+    let a = c .before .before .before .before .before .before .args in
+    let kept = c .before .before .kept-hour .ensures ∙ ap (keptHour (a .site) (a .surface)) (c .before .before .before .before .current-hour .ensures) in
+    (
+      sun-by-kept (a .site) (a .surface) (a .time) _ kept,
+      c .before .irradiance-kept .ensures ∙ irradiance-by-kept (a .site) (a .surface) (a .time) _ kept (a .reading) _ (c .before .before .before .before .before .fixed-of .ensures),
+    )
 
 pub irradiance-with-spec : {M : Type 1} → statement M
 irradiance-with-spec =
@@ -40,8 +36,6 @@ irradiance-with-spec =
     fixed-of-requires
     current-hour-requires
     kept-day-requires
-    hour-by-requires
-    incidence-of-requires
-    sky-of-requires
-    calculated-direct-diffuse-total-irradiance-requires
+    kept-hour-requires
+    irradiance-kept-requires
     returns)
