@@ -303,7 +303,7 @@ module _ (s t v w : List ℕ) where
 
   are-doubles : Doubles (jobWith s v .surface)
   unfolding jobWith whole fits
-  are-doubles = record { base-fits = record { holds = tt }; height-fits = record { holds = tt }; width-fits = record { holds = tt } }
+  are-doubles = record { height-fits = record { holds = tt }; width-fits = record { holds = tt } }
 
 level : (x y : Float) → T (le x y && le y x) → x ≈ y
 level x y t = record { below = record { holds = and-l (le x y) (le y x) t }; above = record { holds = and-r (le x y) (le y x) t } }

@@ -24,7 +24,7 @@ use Rattle.objects.specs.Surface.{surfaceFine}
 use Rattle.object_checks.specs.Checks.{sectorsFine, windowFine}
 use Rattle.objects.specs.Records.{windowObjectsOf}
 use Rattle.shading_laws.specs.Premises.{AcceptedSurface, AcceptedNear}
-use Rattle.object_checks.proofs.Accepted.{within-range, base-range, height-range, width-range}
+use Rattle.object_checks.proofs.Accepted.{within-range, height-range, width-range}
 use Rattle.object_checks.proofs.AcceptedWindow.{window-in-range}
 use Rattle.jobs.specs.declared.answers.Checked.{Checked}
 use Rattle.jobs.specs.declared.answers.Checked.the-variants.{Steps, Refused}
@@ -121,11 +121,8 @@ module _ {job : Job} {results : List ℕ} (p : Passed job results) where
     height-to = height-range (job .surface) (p .surface-fine) .1;
     width-from = width-range (job .surface) (p .surface-fine) .0;
     width-to = width-range (job .surface) (p .surface-fine) .1;
-    base-from = base-range (job .surface) (p .surface-fine) .0;
-    base-to = base-range (job .surface) (p .surface-fine) .1;
     height-fits = d .height-fits;
     width-fits = d .width-fits;
-    base-fits = d .base-fits;
   }
 
   -- every near obstacle's transparency is from 0 to 1

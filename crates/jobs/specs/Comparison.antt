@@ -96,10 +96,9 @@ pub record NoNan (job : Job) : Type 0 where
       → let sun = sunAt (job .site) (timeAt (job .run) i) in
       NoNanAt (job .surface) (sun .altitude) (sun .azimuth) (sectorsOf (job .sectors)) (windowObjectsOf (job .window))
 
--- The surface's lengths are doubles. `pilgartze_run` ensures this of every surface that it is passed, so nobody has to see to it: it
--- stands here because the type `Float` has other values too, which no double is.
+-- The surface's height and width are doubles. `pilgartze_run` ensures this of every surface that it is passed, so that nobody has to see
+-- to it; it stands here because the type `Float` has other values too, which no double is.
 pub record Doubles (surface : Surface) : Type 0 where
-  pub base-fits : Fits (surface .«base_height»)
   pub height-fits : Fits (surface .height)
   pub width-fits : Fits (surface .width)
 
@@ -145,6 +144,7 @@ pub record Comparable (j k : Job) (r s : List ℕ) : Type 0 where
   pub second-accepted : IsAccepted (runOf k s)
   pub first-extents : NoNan j
   pub second-extents : NoNan k
+  -- ensured by `pilgartze_run`
   pub doubles : Doubles (j .surface)
 
 abbrev pub TwoJobsCompared : Type 0

@@ -108,8 +108,8 @@ pub extern "C" fn pilgartze_version() -> u64
     1000000
 }
 
-// A run: a row of six doubles for each step, and the sum of factor times direct. The surface's lengths are doubles, which is what two
-// jobs compared ask of them (`Comparison` of `jobs`).
+// A run: a row of six doubles for each step, and the sum of factor times direct. That height and width are doubles is what the claim on
+// two jobs compared asks of them (`Comparison` of `jobs`).
 #[no_mangle]
 pub extern "C" fn pilgartze_run(
     latitude: f64,

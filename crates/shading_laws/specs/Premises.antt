@@ -19,17 +19,14 @@ use Rattle.objects.specs.Objects.{counted, ofKind}
 use Rattle.shading.specs.declared.sun_on_surface.SunOnSurface.{SunOnSurface}
 use Rattle.shading.specs.Factor.{sunOn, nearObstacleHeight, obstacleExtents, overhangExtents, windowOverhangExtents, rightFinExtents, leftFinExtents}
 
--- an accepted surface: height and width from 0.001 to 1000, base height from 0 to 1000, each a double
+-- an accepted surface: height and width from 0.001 to 1000, each a double
 pub record AcceptedSurface (surface : Surface) : Type 0 where
   pub height-from : decimal 1 3 ≼ surface .height
   pub height-to : surface .height ≼ whole 1000
   pub width-from : decimal 1 3 ≼ surface .width
   pub width-to : surface .width ≼ whole 1000
-  pub base-from : whole 0 ≼ surface .«base_height»
-  pub base-to : surface .«base_height» ≼ whole 1000
   pub height-fits : Fits (surface .height)
   pub width-fits : Fits (surface .width)
-  pub base-fits : Fits (surface .«base_height»)
 
 -- every member of a list of extents is a number
 abbrev pub AllNumbers : List Float → Type 0

@@ -32,7 +32,6 @@ returns c =
     let results = ap (λ x. x .results) e in (
       λ i. (answer i, results i),
       record {
-        base-fits = record { holds = passes _ (passed .0 .1) };
         height-fits = record { holds = passes _ (passed .1 .0 .1) };
         width-fits = record { holds = passes _ (passed .1 .1 .0 .1) };
       },
