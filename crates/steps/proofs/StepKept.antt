@@ -54,14 +54,16 @@ module _ (site : Site) (surface : Surface) (time : Float) (kept : KeptHour) (k :
   unfolding irradianceKept keptHour keptDay fixedOf irradianceAt sunAt
   irradiance-by-kept reading fixed f = rw (k, f)
 
-pub of-its-hour : (site : Site) (surface : Surface) (hour : ℕ) (kept : KeptHour) → kept ≡ keptHour site surface hour → kept ≡ keptHour site surface (kept .hour)
+pub its-hour : (site : Site) (surface : Surface) (hour : ℕ) (kept : KeptHour) → kept ≡ keptHour site surface hour → kept .hour ≡ hour
 unfolding keptHour
-of-its-hour site surface hour kept e = e ∙ sym (ap (λ (k : KeptHour). keptHour site surface (k .hour)) e)
+its-hour site surface hour kept e = ap (λ (k : KeptHour). k .hour) e
+
+pub of-its-hour : (site : Site) (surface : Surface) (hour : ℕ) (kept : KeptHour) → kept ≡ keptHour site surface hour → kept ≡ keptHour site surface (kept .hour)
+of-its-hour site surface hour kept e = e ∙ ap (keptHour site surface) (sym (its-hour site surface hour kept e))
 
 pub day-of-its-hour : (site : Site) (surface : Surface) (hour : ℕ) (kept : KeptHour) (day : KeptDay)
     → kept ≡ keptHour site surface hour → day ≡ keptDay (hour / 24) → day ≡ keptDay (kept .hour / 24)
-unfolding keptHour
-day-of-its-hour site surface hour kept day e d = d ∙ sym (ap (λ (k : KeptHour). keptDay (k .hour / 24)) e)
+day-of-its-hour site surface hour kept day e d = d ∙ ap (λ (h : ℕ). keptDay (h / 24)) (sym (its-hour site surface hour kept e))
 
 pub of-its-day : (index : ℕ) (kept : KeptDay) → kept ≡ keptDay index → kept ≡ keptDay (kept .index)
 unfolding keptDay

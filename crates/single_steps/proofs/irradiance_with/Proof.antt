@@ -23,8 +23,7 @@ irradiance-kept-requires c κs = tt
 returns : tie.Need-returns
 returns c =
     let a = c .before .before .before .before .before .before .args in
-    let kept = c .before .before .kept-hour .ensures ∙ ap (keptHour (a .site) (a .surface)) (c .before .before .before .before .current-hour .ensures) in
-    (
+    let kept = c .before .before .kept-hour .ensures ∙ ap (keptHour (a .site) (a .surface)) (c .before .before .before .before .current-hour .ensures) in (
       sun-by-kept (a .site) (a .surface) (a .time) _ kept,
       c .before .irradiance-kept .ensures ∙ irradiance-by-kept (a .site) (a .surface) (a .time) _ kept (a .reading) _ (c .before .before .before .before .before .fixed-of .ensures),
     )

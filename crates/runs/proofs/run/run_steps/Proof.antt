@@ -1,0 +1,286 @@
+-- `run_steps` meets its contract. The loop's invariant: from here the run goes on to what it comes to from the start, what is kept is
+-- that of its hour, and so is the factor where it is shaded.
+use mathlib.Core.Path.{_≡_, refl, sym, _∙_, ap, subst}
+use mathlib.Core.Bool.{Bool, true, false, not}
+use mathlib.Core.Logic.{⊎-elim}
+use lib.Dec.{T}
+use lib.Ieee.{ofBits}
+use Prim.Native.Nat.{ℕ, _+_, _-_, _/_, _≤_, _<_}
+use native.Mathlib.Omega.{arith}
+use borrow.Author.Needs.{needs}
+use denote.Ref.{now}
+use lib.ListN.{length, take, getD}
+use Rattle.simulation_time.specs.Timestep.{currentHour}
+use Rattle.doubles.specs.Arithmetic.{_⊕_, _⊗_, whole}
+use Rattle.sun.specs.Hour.{hourOf}
+use Rattle.objects.specs.declared.answers.FactorAnswer.{FactorAnswer}
+use Rattle.objects.specs.Objects.{placed}
+use Rattle.objects.specs.Records.{sectorCount, sectorsOf, windowObjectsOf}
+use Rattle.objects.proofs.Places.{sectors-taken}
+use Rattle.object_checks.proofs.AcceptedSectors.{sector-count}
+use Rattle.object_checks.proofs.AcceptedWindow.{window-count, window-places}
+use Rattle.shading.proofs.SunPlaces.{index-fits, factor-by-table}
+use Rattle.jobs.specs.Job.{Job, jobOf, indexAt, readingAt}
+use Rattle.jobs.specs.Step.{shadingAt}
+use Rattle.jobs.specs.declared.answers.RunAnswer.{RunAnswer}
+use Rattle.jobs.specs.Run.{ran, runFrom}
+use Rattle.jobs.proofs.RowStores.{length-putRow}
+use Rattle.steps.specs.Kept.{fixedOf, keptDay, keptHour}
+use Rattle.steps.proofs.StepKept.{kept-factor, by-kept, its-hour, of-its-hour, day-of-its-hour, of-its-day}
+use Rattle.runs.proofs.StepByStep.{job-step, row-next, refused-here, at-end, at-start}
+use Rattle.runs.proofs.run.run_steps.Statement.{statement}
+use Rattle.runs.proofs.run.run_steps.Tie as tie
+
+abbrev Inv-loop : tie.InvT-loop
+Inv-loop site run count surface diffuse direct reflectivity sectors window results₀ objects n places fixed first day₀ kept₀ factor₀ shaded₀ time₀ sum₀ i₀ results day kept factor shaded time sum i =
+    (i ≤ count)
+    × (length results ≡ length results₀)
+    × (fixed ≡ fixedOf site surface)
+    × (placed objects ≡ windowObjectsOf window)
+    × (n ≤ 36)
+    × (take n places ≡ sectorsOf sectors)
+    × (day ≡ keptDay (kept .hour / 24))
+    × (kept ≡ keptHour site surface (kept .hour))
+    × (shaded ≡ true → factor ≡ shadingAt surface (hourOf site (kept .hour)) sectors window)
+    × (runFrom (count - i) (jobOf site run surface diffuse direct reflectivity sectors window) i time sum results
+    ≡ runFrom count (jobOf site run surface diffuse direct reflectivity sectors window) 0 (run .start) (whole 0) results₀)
+
+abbrev μ-loop : tie.MeasureT-loop
+μ-loop site run count surface diffuse direct reflectivity sectors window results₀ objects n places fixed first day₀ kept₀ factor₀ shaded₀ time₀ sum₀ i₀ results day kept factor shaded time sum i = count - i
+
+few-sectors : (c : tie.Start Inv-loop μ-loop) (n : ℕ) → n ≡ sectorCount (now (c .args .sectors)) → n ≤ 36
+few-sectors c n e = subst (λ (m : ℕ). m ≤ 36) (sym e) (sector-count (now (c .args .sectors)) (subst T (sym (c .pre .1 .1 .0)) tt))
+
+abbrev job : tie.Start Inv-loop μ-loop → Job
+job c =
+    let a = c .args in
+    jobOf (a .site) (a .run) (a .surface) (now (a .diffuse)) (now (a .direct)) (now (a .reflectivity)) (now (a .sectors)) (now (a .window))
+
+window-of-requires : tie.Need-window-of-requires Inv-loop μ-loop
+window-of-requires c κs = let s = c .before .before .before .before .before .before in window-count (now (s .args .window)) (subst T (sym (s .pre .1 .1 .1)) tt)
+
+sector-count-requires : tie.Need-sector-count-requires Inv-loop μ-loop
+sector-count-requires c κs = tt
+
+sectors-of-requires : tie.Need-sectors-of-requires Inv-loop μ-loop
+sectors-of-requires c κs = few-sectors (c .before .before .before .before .before .before .before .before) _ (c .sector-count .ensures)
+
+fixed-of-requires : tie.Need-fixed-of-requires Inv-loop μ-loop
+fixed-of-requires c κs = tt
+
+current-hour-requires : tie.Need-current-hour-requires Inv-loop μ-loop
+current-hour-requires c κs = tt
+
+kept-day-requires : tie.Need-kept-day-requires Inv-loop μ-loop
+kept-day-requires c κs = tt
+
+kept-hour-requires : tie.Need-kept-hour-requires Inv-loop μ-loop
+kept-hour-requires c κs = (c .before .before .fixed-of .ensures, c .kept-day .ensures)
+
+never : {A : Type 0} → false ≡ true → A
+never e = absurd (subst T (sym e) tt)
+
+loop-holds : tie.Need-loop-holds Inv-loop μ-loop
+unfolding ofBits whole placed
+loop-holds c =
+    let s = c .before .before .before .before .before .before .before .before .before .before .before .before .before in
+    let count = c .before .before .before .before .before .sector-count .ensures in
+    let few = few-sectors s _ count in (
+      omega arith,
+      refl,
+      c .before .before .before .fixed-of .ensures,
+      ap placed (c .before .before .before .before .before .before .window-of .ensures) ∙ window-places (now (s .args .window)) (subst T (sym (s .pre .1 .1 .1)) tt),
+      few,
+      sectors-taken (now (s .args .sectors)) _ _ count few (c .before .before .before .before .sectors-of .ensures),
+      day-of-its-hour _ _ _ _ _ (c .kept-hour .ensures) (c .before .kept-day .ensures),
+      of-its-hour _ _ _ _ (c .kept-hour .ensures),
+      λ e. never e,
+      at-start (job s) (s .args .count) (now (s .args .results)),
+    )
+
+current-hour-requires-2 : tie.Need-current-hour-requires-2 Inv-loop μ-loop
+current-hour-requires-2 c κs = tt
+
+day-for-requires : tie.Need-day-for-requires Inv-loop μ-loop
+day-for-requires c κs = of-its-day _ _ (c .before .before .before .before .loop .inv .6)
+
+kept-hour-requires-2 : tie.Need-kept-hour-requires-2 Inv-loop μ-loop
+kept-hour-requires-2 c κs = (c .before .before .before .before .before .loop .inv .2, c .day-for .ensures)
+
+-- the day and the hour that the step goes by, and its factor where it is shaded, whichever way they came
+kept-now : (c : tie.Joined1 Inv-loop μ-loop)
+    → let l = c .before .before .before .before in
+    let s = l .before .before .before .before .before .before .before .before .before .before .before .before .before .before in
+    (c .if1 .day ≡ keptDay (currentHour (l .loop .time) / 24))
+    × (c .if1 .kept ≡ keptHour (s .args .site) (s .args .surface) (currentHour (l .loop .time)))
+    × (c .if1 .shaded ≡ true → l .loop .factor ≡ shadingAt (s .args .surface) (hourOf (s .args .site) (currentHour (l .loop .time))) (now (s .args .sectors)) (now (s .args .window)))
+kept-now c =
+    let l = c .before .before .before .before in
+    let a = l .before .before .before .before .before .before .before .before .before .before .before .before .before .before .args in
+    let q = l .loop .inv in
+    let same = c .before .before .current-hour2 .ensures in
+    let hour = keptHour (a .site) (a .surface) in
+    let shade : ℕ → FactorAnswer = λ (h : ℕ). shadingAt (a .surface) (hourOf (a .site) h) (now (a .sectors)) (now (a .window)) in
+    ⊎-elim
+    (λ w. (w .3 ∙ w .1 .ensures ∙ ap (λ (h : ℕ). keptDay (h / 24)) same, w .4 ∙ w .2 .ensures ∙ ap hour same, λ e. never (sym (w .5) ∙ e)))
+    (λ w. (
+      w .1 ∙ q .6 ∙ ap (λ (h : ℕ). keptDay (h / 24)) (sym (w .0 .left) ∙ same),
+      w .2 ∙ q .7 ∙ ap hour (sym (w .0 .left) ∙ same),
+      λ e. q .8 (sym (w .3) ∙ e) ∙ ap shade (sym (w .0 .left) ∙ same),
+    ))
+    (c .if1 .came)
+
+sun-place-requires : tie.Need-sun-place-requires Inv-loop μ-loop
+sun-place-requires c κs = c .before .before .before .before .before .loop .inv .4
+
+place-index-requires : tie.Need-place-index-requires Inv-loop μ-loop
+place-index-requires c κs = tt
+
+-- the place of the sector is one of the table's
+there : (c : tie.After-place-index Inv-loop μ-loop) → c .place-index .result < 36
+there c =
+    let l = c .before .before .before .before .before .before .before in
+    let a = l .before .before .before .before .before .before .before .before .before .before .before .before .before .before .args in
+    subst (λ (i : ℕ). i < 36) (sym (c .place-index .ensures)) (index-fits (a .surface) _ _ _ _ (l .loop .inv .4) _ (c .before .sun-place .ensures))
+
+mul-segment : tie.Need-mul-segment Inv-loop μ-loop
+mul-segment c = omega (arith, there c)
+
+array-copy-out-segment : tie.Need-array-copy-out-segment Inv-loop μ-loop
+array-copy-out-segment c = there c
+
+factor-at-requires : tie.Need-factor-at-requires Inv-loop μ-loop
+factor-at-requires c κs = tt
+
+holds : (b : Bool) → not b ≡ false → b ≡ true
+holds true e = refl
+holds false e = sym e
+
+-- the factor that the step goes by, whichever way it came
+factor-now : (c : tie.Joined2 Inv-loop μ-loop)
+    → let l = c .before .before .before .before .before in
+    let s = l .before .before .before .before .before .before .before .before .before .before .before .before .before .before in
+    c .if2 .factor ≡ shadingAt (s .args .surface) (hourOf (s .args .site) (currentHour (l .loop .time))) (now (s .args .sectors)) (now (s .args .window))
+factor-now c =
+    let l = c .before .before .before .before .before in
+    let s = l .before .before .before .before .before .before .before .before .before .before .before .before .before .before in
+    let a = s .args in
+    let q = l .loop .inv in
+    let kept = kept-now (c .before) in
+    ⊎-elim
+    (λ w.
+    kept-factor (a .site) (a .surface) _ _ (kept .1) (now (a .sectors)) (now (a .window)) _ _ _ (q .5) (q .3)
+    (w .5 ∙ w .4 .ensures
+    ∙ factor-by-table (a .surface) _ _ _ _ (q .4) _ _ _ _ (w .1 .ensures) (ap (λ (i : ℕ). getD (l .before .before .before .before .before .sectors-of .result) i _) (w .2 .ensures))))
+    (λ w. w .1 ∙ kept .2 (holds _ (w .0 .left)))
+    (c .if2 .came)
+
+step-at-requires : tie.Need-step-at-requires Inv-loop μ-loop
+step-at-requires c κs = c .before .before .before .before .before .before .before .before .before .before .before .before .before .before .before .before .before .before .before .pre .0
+
+enum-known-answer : tie.Need-enum-known-answer Inv-loop μ-loop
+enum-known-answer c = search needs
+
+refused-at-requires : tie.Need-refused-at-requires Inv-loop μ-loop
+refused-at-requires c κs = tt
+
+same-length : tie.Need-same-length Inv-loop μ-loop
+same-length c = c .before .before .before .before .before .before .before .before .before .before .loop .inv .1
+
+returns : tie.Need-returns Inv-loop μ-loop
+unfolding readingAt indexAt
+returns c =
+    let j = c .before .before .before .before .before in
+    let l = j .before .before .before .before .before in
+    let s = l .before .before .before .before .before .before .before .before .before .before .before .before .before .before in
+    let q = l .loop in
+    let e = job-step (job s) (q .time) _ (by-kept (s .args .site) (s .args .surface) (now (s .args .sectors)) (now (s .args .window)) (q .time) (readingAt (job s) (q .time)) _ _ _ _ (q .inv .2) (kept-now (j .before) .1) (factor-now j) (c .before .before .before .before .step-at .ensures)) in
+    ap (λ (r : RunAnswer). ran r (q .results)) (c .refused-at .ensures)
+    ∙ refused-here (job s) (s .args .count) (q .i) (q .time) (q .sum) (q .results) _ (sym e ∙ c .before .before .answer .given .1) (omega (arith, j .before .before .before .before .loop-test .taken))
+    ∙ q .inv .9
+
+enum-known-answer-2 : tie.Need-enum-known-answer-2 Inv-loop μ-loop
+enum-known-answer-2 c = search needs
+
+store-row-requires : tie.Need-store-row-requires Inv-loop μ-loop
+store-row-requires c κs = let j = c .before .before .before .before .before in let s = j .before .before .before .before .before .before .before .before .before .before .before .before .before .before .before .before .before .before .before in omega (arith, j .before .before .before .before .loop-test .taken, s .pre .1 .0)
+
+add-i : tie.Need-add-i Inv-loop μ-loop
+add-i c = let j = c .before .before .before .before .before .before .before .before .before .before in let s = j .before .before .before .before .before .before .before .before .before .before .before .before .before .before .before .before .before .before .before in omega (arith, j .before .before .before .before .loop-test .taken, s .pre .1 .0)
+
+loop-less : tie.Need-loop-less Inv-loop μ-loop
+loop-less c = let j = c .before .before .before .before .before .before .before .before .before .before in omega (arith, j .before .before .before .before .loop-test .taken)
+
+loop-again : tie.Need-loop-again Inv-loop μ-loop
+unfolding readingAt indexAt
+loop-again c =
+    let j = c .before .before .before .before .before .before .before .before .before .before in
+    let l = j .before .before .before .before .before in
+    let s = l .before .before .before .before .before .before .before .before .before .before .before .before .before .before in
+    let a = s .args in
+    let q = l .loop in
+    let row = c .before .before .before .before .before .before .before .answer2 .given .0 .0 in
+    let kept = kept-now (j .before) in
+    let hour = its-hour (a .site) (a .surface) _ _ (kept .1) in
+    let shade : ℕ → FactorAnswer = λ (h : ℕ). shadingAt (a .surface) (hourOf (a .site) h) (now (a .sectors)) (now (a .window)) in
+    let e = job-step (job s) (q .time) _ (by-kept (a .site) (a .surface) (now (a .sectors)) (now (a .window)) (q .time) (readingAt (job s) (q .time)) _ _ _ _ (q .inv .2) (kept .1) (factor-now j) (c .before .before .before .before .before .before .before .before .before .step-at .ensures)) in
+    let on = j .before .before .before .before .loop-test .taken in
+    let stored = c .before .before .before .before .store-row .ensures in (
+      omega (arith, on),
+      ap length stored ∙ length-putRow (q .results) (q .i) row ∙ q .inv .1,
+      q .inv .2,
+      q .inv .3,
+      q .inv .4,
+      q .inv .5,
+      day-of-its-hour _ _ _ _ _ (kept .1) (kept .0),
+      of-its-hour _ _ _ _ (kept .1),
+      λ _. factor-now j ∙ ap shade (sym hour),
+      ap (runFrom (a .count - (q .i + 1)) (job s) (q .i + 1) (q .time ⊕ a .run .step) (q .sum ⊕ row .factor ⊗ row .direct)) stored
+          ∙ row-next (job s) (a .count) (q .i) (q .time) (q .sum) (q .results) row (sym e ∙ c .before .before .before .before .before .before .before .answer2 .given .1) on
+          ∙ q .inv .9,
+    )
+
+same-length-2 : tie.Need-same-length-2 Inv-loop μ-loop
+same-length-2 c = c .before .loop .inv .1
+
+returns-2 : tie.Need-returns-2 Inv-loop μ-loop
+returns-2 c =
+    let l = c .before in
+    let s = l .before .before .before .before .before .before .before .before .before .before .before .before .before .before in
+    let q = l .loop in
+    at-end (job s) (s .args .count) (q .i) (q .time) (q .sum) (q .results) (omega (arith, c .loop-test .left, q .inv .0)) ∙ q .inv .9
+
+pub run-steps-spec : {M : Type 1} → statement M
+run-steps-spec =
+    tie.close
+    (tie.spec
+    Inv-loop
+    μ-loop
+    window-of-requires
+    sector-count-requires
+    sectors-of-requires
+    fixed-of-requires
+    current-hour-requires
+    kept-day-requires
+    kept-hour-requires
+    loop-holds
+    current-hour-requires-2
+    day-for-requires
+    kept-hour-requires-2
+    sun-place-requires
+    place-index-requires
+    mul-segment
+    array-copy-out-segment
+    factor-at-requires
+    step-at-requires
+    enum-known-answer
+    refused-at-requires
+    same-length
+    returns
+    enum-known-answer-2
+    store-row-requires
+    add-i
+    loop-less
+    loop-again
+    same-length-2
+    returns-2)
