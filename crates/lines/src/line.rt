@@ -100,7 +100,7 @@ pub fn listed_factor(
 {
     let sectors = whole_horizon();
     let window = one_obstacle(shade, distance, transparency);
-    shading::step::factor_call_by_records(altitude, azimuth, surface, &sectors, &window)
+    shading::step::factor_call(altitude, azimuth, surface, &sectors, &window)
 }
 
 // The answer to a line without its line feed.

@@ -8,17 +8,17 @@ whole-horizon-requires c κs = tt
 one-obstacle-requires : tie.Need-one-obstacle-requires
 one-obstacle-requires c κs = tt
 
-slice-aggregate-factor-call-by-records : tie.Need-slice-aggregate-factor-call-by-records
-slice-aggregate-factor-call-by-records c = c .before .before .whole-horizon .ensures .1
+slice-aggregate-factor-call : tie.Need-slice-aggregate-factor-call
+slice-aggregate-factor-call c = c .before .before .whole-horizon .ensures .1
 
-slice-aggregate-factor-call-by-records-2 : tie.Need-slice-aggregate-factor-call-by-records-2
-slice-aggregate-factor-call-by-records-2 c = c .before .before .one-obstacle .ensures .1
+slice-aggregate-factor-call-2 : tie.Need-slice-aggregate-factor-call-2
+slice-aggregate-factor-call-2 c = c .before .before .one-obstacle .ensures .1
 
-factor-call-by-records-requires : tie.Need-factor-call-by-records-requires
-factor-call-by-records-requires c κs = tt
+factor-call-requires : tie.Need-factor-call-requires
+factor-call-requires c κs = tt
 
 returns : tie.Need-returns
-returns c = rw (c .factor-call-by-records .ensures, c .before .before .before .before .whole-horizon .ensures .0, c .before .before .before .one-obstacle .ensures .0)
+returns c = rw (c .factor-call .ensures, c .before .before .before .before .whole-horizon .ensures .0, c .before .before .before .one-obstacle .ensures .0)
 
 pub listed-factor-spec : {M : Type 1} → statement M
-listed-factor-spec = tie.close (tie.spec whole-horizon-requires one-obstacle-requires slice-aggregate-factor-call-by-records slice-aggregate-factor-call-by-records-2 factor-call-by-records-requires returns)
+listed-factor-spec = tie.close (tie.spec whole-horizon-requires one-obstacle-requires slice-aggregate-factor-call slice-aggregate-factor-call-2 factor-call-requires returns)
