@@ -46,9 +46,9 @@
  * - The sun's azimuth is counted from south, eastwards positive: south 0, east 90, west -90, north 180 or -180.
  *   azimuth = 180 - orientation.
  *
- * The sun is inside the beam where its azimuth is at most 90 degrees from the way the surface faces (a difference beyond
- * 180 is shifted by 360 once) and its altitude at most 90 from the tilt. That can be so at night too, when the altitude
- * is 0. A NaN is outside the beam.
+ * The sun is inside the beam where its azimuth is at most 90 degrees from the way the surface faces (a difference
+ * beyond 180 is shifted by 360 once) and its altitude at most 90 from the tilt. That can be so at night too, when the
+ * altitude is 0. A NaN is outside the beam.
  */
 #ifndef PILGARTZE_H
 #define PILGARTZE_H
