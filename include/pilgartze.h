@@ -15,9 +15,21 @@
  * - the answer and every byte of the results follow from the input alone. A NaN is stored as 7FF8000000000000; only the
  *   bits of a NaN in the answer's sum are left open.
  * It keeps no state, takes no memory from the heap and at most PILGARTZE_STACK_BYTES of the stack, and calls nothing of
- * the C library but memcpy, not even its mathematics.
+ * the C library but memcpy and memset, not even its mathematics.
  * So any number of threads may call at once, also with the same series, sectors and window, as long as each has results
  * of its own.
+ *
+ * Also proved: two jobs compared. A job is one call of the run; a shade extent is the height or width of shade that is
+ * worked out for one object. Take two accepted jobs with
+ * - the same site, run and surface;
+ * - series of equally many values, and the same doubles in them;
+ * - equally many sectors, and those at the same place start and end at the same numbers (0.0 and -0.0 are one number);
+ * - no shade extent that is NaN, in either job, at any step.
+ * Then both have the same steps and the same direct values. Every factor lies from 0 to 1, and is exactly 1 with no
+ * objects. The same objects, in any order and number, give the same factors and sum, bit for bit. Where either job
+ * holds all objects of the other, sector by sector and at the window, its factors are nowhere larger. Where every
+ * direct value is finite, its sum is not larger either, and each sum lies from 0 to the sum of the direct values.
+ * Objects are the same where all their words are. That no extent is NaN is measured, not proved: none is known to be.
  *
  * What the library asks, as any C function does:
  * - A list's pointer and length name memory that is there, and no other thread writes to it during the call.
@@ -33,6 +45,10 @@
  *   west 270.
  * - The sun's azimuth is counted from south, eastwards positive: south 0, east 90, west -90, north 180 or -180.
  *   azimuth = 180 - orientation.
+ *
+ * The sun is inside the beam where its azimuth is at most 90 degrees from the way the surface faces (a difference
+ * beyond 180 is shifted by 360 once) and its altitude at most 90 from the tilt. That can be so at night too, when the
+ * altitude is 0. A NaN is outside the beam.
  */
 #ifndef PILGARTZE_H
 #define PILGARTZE_H
@@ -73,9 +89,10 @@ uint64_t pilgartze_version(void);
 
 /* ---- Stack ---------------------------------------------------------------------------------------------------- */
 
-/* No call takes more bytes of stack than this, its arguments and memcpy included: enough for a thread's stack, beside
- * what the caller needs. It is not proved but worked out from the library's machine code, and measured (soak/run). */
-#define PILGARTZE_STACK_BYTES 16384
+/* No call takes more bytes of stack than this, its arguments, memcpy and memset included: enough for a thread's stack,
+ * beside what the caller needs. It is not proved but worked out from the library's machine code, and measured
+ * (soak/run). */
+#define PILGARTZE_STACK_BYTES 65536
 
 /* ---- Refusals ------------------------------------------------------------------------------------------------- */
 
@@ -99,13 +116,16 @@ enum pilgartze_refusal {
     PILGARTZE_REFUSED_READING = 6,
     /* results: the results list is too short for the steps. */
     PILGARTZE_REFUSED_RESULTS = 7,
-    /* gap: a sector does not start where the one before it ends. */
+    /* gap: a sector does not start where the one before it ends. 8 to 10 come only where the sun is inside the beam,
+     * and go by the sectors in their order, up to the one with the sun: at each gap, then turned, then whether the sun
+     * is in it. */
     PILGARTZE_REFUSED_GAP = 8,
     /* turned: a sector ends below its start. */
     PILGARTZE_REFUSED_TURNED = 9,
     /* no sector: the sun is in none of the sectors. */
     PILGARTZE_REFUSED_NO_SECTOR = 10,
-    /* reveal: the sun shines on the surface and there is a reveal at the window, for which there is no factor. */
+    /* reveal: an object at the window is a reveal (kind 4), for which there is no factor; the sun is inside the beam,
+     * and a sector with it is found. */
     PILGARTZE_REFUSED_REVEAL = 11,
     /* line: a line of a shade listing is malformed. The shade listing has this number; no call below gives it. */
     PILGARTZE_REFUSED_LINE = 12
@@ -169,7 +189,7 @@ typedef struct pilgartze_object {
 /* A part of the horizon with the objects that stand there. A list has at most 36 sectors; each starts where the one
  * before it ends. The sun is in a sector where it is strictly between its ends: a sun exactly on a border is in none,
  * and so is one exactly in the north. Whether there is a gap is looked at only up to the sector with the sun.
- * Let the sectors go all the way round, from 0 to 360: where the surface faces a sun that is in no sector the step is
+ * Let the sectors go all the way round, from 0 to 360: where the sun is inside the beam and in no sector the step is
  * refused (10), and that can be so at night too, when the altitude is 0. With nothing in the distance one free sector
  * from 0 to 360 does. */
 typedef struct pilgartze_sector {
@@ -187,7 +207,7 @@ enum pilgartze_window_kind {
     PILGARTZE_OVERHANG = 1,
     PILGARTZE_RIGHT_FIN = 2, /* seldom shades: only where the azimuth less (180 - orientation) is below -270 */
     PILGARTZE_LEFT_FIN = 3,
-    PILGARTZE_REVEAL = 4 /* refused (11) when the sun shines on the surface */
+    PILGARTZE_REVEAL = 4 /* refused (11) where the sun is inside the beam and a sector with it is found */
 };
 
 /* An object at the window. A list has at most 16. */
@@ -235,7 +255,8 @@ typedef struct pilgartze_row {
     double direct;   /* W/m2 on the unshaded surface: the beam, and the sky's light from around the sun; not below 0 */
     double diffuse;  /* W/m2: the rest of the sky's light, and what the ground reflects; can be below 0 */
     double total;    /* direct + diffuse */
-    double factor;   /* 0..1, the part of direct that reaches the surface; 1 where it faces away from the sun */
+    double factor;   /* the part of direct that reaches the surface; 1 outside the beam. From 0 to 1: proved where no
+                        shade extent is NaN; none is known to be; that is measured, not proved */
 } pilgartze_row;
 
 /* The irradiance on the unshaded surface and what it is added up of, in W/m2. Direct includes circumsolar; diffuse is
@@ -262,7 +283,7 @@ typedef struct pilgartze_answer {
 
 typedef struct pilgartze_factor_answer {
     uint64_t number; /* an enum pilgartze_refusal; 0: accepted */
-    double factor;   /* 0..1; 0 where refused */
+    double factor;   /* 0 where refused; else as in a row, and from 0 to 1 as there */
 } pilgartze_factor_answer;
 
 /* The structs are the library's records, byte for byte. */
