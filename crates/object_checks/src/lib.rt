@@ -1,14 +1,11 @@
 // Refusal 4: whether the lists of shading objects are in their ranges. Tests of values are joined without
 // branches. An accepted list is looked at to its end in any case, so the loops do not stop early.
 use words::double_at;
-use words::double_in;
 use words::word_at;
-use words::word_in;
 ghost use mathlib.Core.Path.{_≡_};
 ghost use Rattle.words.specs.Lists.{firstFine};
 ghost use Rattle.object_checks.specs.Checks.{windowValuesFine, windowRecordFine, windowFine, objectValuesFine, objectFine, objectUnused, tripleFine, boundsFine, sectorRecordFine, sectorsFine};
-ghost use Prim.Native.Nat.{_+_, _*_, _<_, _≤_};
-ghost use lib.ListN.{length};
+ghost use Prim.Native.Nat.{_<_};
 
 fn window_values_fine(kind: u64, size: f64, distance: f64, transparency: f64, spare: u64) -> bool
     ensures { λ r. ⌜ r ≡ windowValuesFine kind size distance transparency spare ⌝ }
@@ -61,25 +58,25 @@ fn object_values_fine(kind: u64, height: f64, distance: f64) -> bool
 }
 
 fn object_fine(bytes: &[u8], k: usize) -> bool
-    requires { ⌜ (k < 972) × (8 * k + 24 ≤ length (now bytes)) ⌝ }
+    requires { ⌜ k < 972 ⌝ }
     ensures { λ r. ⌜ r ≡ objectFine (now (bytes .entry)) k ⌝ }
 {
     object_values_fine(
-        word_in(bytes, k),
-        double_in(bytes, k + 1),
-        double_in(bytes, k + 2),
+        word_at(bytes, k),
+        double_at(bytes, k + 1),
+        double_at(bytes, k + 2),
     )
 }
 
 fn object_unused(bytes: &[u8], k: usize) -> bool
-    requires { ⌜ (k < 972) × (8 * k + 24 ≤ length (now bytes)) ⌝ }
+    requires { ⌜ k < 972 ⌝ }
     ensures { λ r. ⌜ r ≡ objectUnused (now (bytes .entry)) k ⌝ }
 {
-    (word_in(bytes, k) == 0) & (word_in(bytes, k + 1) == 0) & (word_in(bytes, k + 2) == 0)
+    (word_at(bytes, k) == 0) & (word_at(bytes, k + 1) == 0) & (word_at(bytes, k + 2) == 0)
 }
 
 fn triple_fine(bytes: &[u8], count: u64, k: usize, j: usize) -> bool
-    requires { ⌜ (k < 951) × (j < 8) × (8 * k + 192 ≤ length (now bytes)) ⌝ }
+    requires { ⌜ (k < 951) × (j < 8) ⌝ }
     ensures { λ r. ⌜ r ≡ tripleFine (now (bytes .entry)) count k j ⌝ }
 {
     if (j as u64) < count {
@@ -89,7 +86,7 @@ fn triple_fine(bytes: &[u8], count: u64, k: usize, j: usize) -> bool
 }
 
 fn triples_fine(bytes: &[u8], count: u64, k: usize) -> bool
-    requires { ⌜ (k < 951) × (8 * k + 192 ≤ length (now bytes)) ⌝ }
+    requires { ⌜ k < 951 ⌝ }
     ensures { λ r. ⌜ r ≡ firstFine (tripleFine (now (bytes .entry)) count k) 8 ⌝ }
 {
     let mut fine = true;
@@ -110,12 +107,12 @@ fn bounds_fine(start360: f64, end360: f64, count: u64) -> bool
 }
 
 fn sector_record_fine(bytes: &[u8], i: usize) -> bool
-    requires { ⌜ (i < 36) × (216 * i + 216 ≤ length (now bytes)) ⌝ }
+    requires { ⌜ i < 36 ⌝ }
     ensures { λ r. ⌜ r ≡ sectorRecordFine (now (bytes .entry)) i ⌝ }
 {
     let k = 27 * i;
-    let count = word_in(bytes, k + 2);
-    bounds_fine(double_in(bytes, k), double_in(bytes, k + 1), count)
+    let count = word_at(bytes, k + 2);
+    bounds_fine(double_at(bytes, k), double_at(bytes, k + 1), count)
         & triples_fine(bytes, count, k + 3)
 }
 

@@ -3,8 +3,6 @@
 
 ghost use mathlib.Core.Path.{_≡_};
 ghost use mathlib.Core.List.{[], _∷_};
-ghost use Prim.Native.Nat.{_+_, _*_, _≤_};
-ghost use lib.ListN.{length};
 ghost use lib.Ieee.{binary64, ofBits, toBits};
 ghost use Rattle.words.specs.Words.{number, wordCount, wordAt, putWord, doubleAt, putDouble};
 
@@ -29,30 +27,22 @@ fn joined(b0: u8, b1: u8, b2: u8, b3: u8, b4: u8, b5: u8, b6: u8, b7: u8) -> u64
         + (b7 as u64) * 0x100_0000_0000_0000
 }
 
-// The k-th word of a list that has it, for loops over whole records, which need not test each word.
-pub fn word_in(bytes: &[u8], k: usize) -> u64
-    requires { ⌜ 8 * k + 8 ≤ length (now bytes) ⌝ }
-    ensures { λ r. ⌜ r ≡ wordAt (now (bytes .entry)) k ⌝ }
-{
-    let a = 8 * k;
-    joined(
-        bytes[a],
-        bytes[a + 1],
-        bytes[a + 2],
-        bytes[a + 3],
-        bytes[a + 4],
-        bytes[a + 5],
-        bytes[a + 6],
-        bytes[a + 7],
-    )
-}
-
 // The k-th word, and 0 where there is no such whole word.
 pub fn word_at(bytes: &[u8], k: usize) -> u64
     ensures { λ r. ⌜ r ≡ wordAt (now (bytes .entry)) k ⌝ }
 {
     if k < bytes.len() / 8 {
-        return word_in(bytes, k);
+        let a = 8 * k;
+        return joined(
+            bytes[a],
+            bytes[a + 1],
+            bytes[a + 2],
+            bytes[a + 3],
+            bytes[a + 4],
+            bytes[a + 5],
+            bytes[a + 6],
+            bytes[a + 7],
+        );
     }
     0
 }
@@ -106,14 +96,6 @@ pub fn double_at(bytes: &[u8], k: usize) -> f64
     ensures { λ r. ⌜ r ≡ doubleAt (now (bytes .entry)) k ⌝ }
 {
     double_of_bits(word_at(bytes, k))
-}
-
-// The k-th word's double, of a list that has it.
-pub fn double_in(bytes: &[u8], k: usize) -> f64
-    requires { ⌜ 8 * k + 8 ≤ length (now bytes) ⌝ }
-    ensures { λ r. ⌜ r ≡ doubleAt (now (bytes .entry)) k ⌝ }
-{
-    double_of_bits(word_in(bytes, k))
 }
 
 // Writes the bits of x as the k-th word.

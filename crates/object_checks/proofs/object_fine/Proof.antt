@@ -4,36 +4,36 @@ use native.Mathlib.Omega.{arith}
 use Rattle.object_checks.proofs.object_fine.Statement.{statement}
 use Rattle.object_checks.proofs.object_fine.Tie as tie
 
-word-in-requires : tie.Need-word-in-requires
-word-in-requires c κs = omega (arith, c .before .pre .1)
+word-at-requires : tie.Need-word-at-requires
+word-at-requires c κs = tt
 
-add-double-in : tie.Need-add-double-in
-add-double-in c = omega (arith, c .before .before .pre .0)
+add-double-at : tie.Need-add-double-at
+add-double-at c = omega arith
 
-double-in-requires : tie.Need-double-in-requires
-double-in-requires c κs = omega (arith, c .before .before .pre .1)
+double-at-requires : tie.Need-double-at-requires
+double-at-requires c κs = tt
 
-add-double-in-2 : tie.Need-add-double-in-2
-add-double-in-2 c = omega (arith, c .before .before .before .pre .0)
+add-double-at-2 : tie.Need-add-double-at-2
+add-double-at-2 c = omega arith
 
-double-in-requires-2 : tie.Need-double-in-requires-2
-double-in-requires-2 c κs = omega (arith, c .before .before .before .pre .1)
+double-at-requires-2 : tie.Need-double-at-requires-2
+double-at-requires-2 c κs = tt
 
 object-values-fine-requires : tie.Need-object-values-fine-requires
 object-values-fine-requires c κs = tt
 
 returns : tie.Need-returns
 unfolding objectFine
-returns c = rw (c .object-values-fine .ensures, c .before .double-in2 .ensures, c .before .before .double-in .ensures, c .before .before .before .word-in .ensures)
+returns c = rw (c .object-values-fine .ensures, c .before .double-at2 .ensures, c .before .before .double-at .ensures, c .before .before .before .word-at .ensures)
 
 pub object-fine-spec : {M : Type 1} → statement M
 object-fine-spec =
     tie.close
     (tie.spec
-    word-in-requires
-    add-double-in
-    double-in-requires
-    add-double-in-2
-    double-in-requires-2
+    word-at-requires
+    add-double-at
+    double-at-requires
+    add-double-at-2
+    double-at-requires-2
     object-values-fine-requires
     returns)

@@ -4,32 +4,32 @@ use native.Mathlib.Omega.{arith}
 use Rattle.object_checks.proofs.object_unused.Statement.{statement}
 use Rattle.object_checks.proofs.object_unused.Tie as tie
 
-word-in-requires : tie.Need-word-in-requires
-word-in-requires c κs = omega (arith, c .before .pre .1)
+word-at-requires : tie.Need-word-at-requires
+word-at-requires c κs = tt
 
-add-word-in : tie.Need-add-word-in
-add-word-in c = omega (arith, c .before .before .pre .0)
+add-word-at : tie.Need-add-word-at
+add-word-at c = omega arith
 
-word-in-requires-2 : tie.Need-word-in-requires-2
-word-in-requires-2 c κs = omega (arith, c .before .before .pre .1)
+word-at-requires-2 : tie.Need-word-at-requires-2
+word-at-requires-2 c κs = tt
 
-add-word-in-2 : tie.Need-add-word-in-2
-add-word-in-2 c = omega (arith, c .before .before .before .pre .0)
+add-word-at-2 : tie.Need-add-word-at-2
+add-word-at-2 c = omega arith
 
-word-in-requires-3 : tie.Need-word-in-requires-3
-word-in-requires-3 c κs = omega (arith, c .before .before .before .pre .1)
+word-at-requires-3 : tie.Need-word-at-requires-3
+word-at-requires-3 c κs = tt
 
 returns : tie.Need-returns
 unfolding objectUnused
-returns c = rw (c .word-in3 .ensures, c .before .word-in2 .ensures, c .before .before .word-in .ensures)
+returns c = rw (c .word-at3 .ensures, c .before .word-at2 .ensures, c .before .before .word-at .ensures)
 
 pub object-unused-spec : {M : Type 1} → statement M
 object-unused-spec =
     tie.close
     (tie.spec
-    word-in-requires
-    add-word-in
-    word-in-requires-2
-    add-word-in-2
-    word-in-requires-3
+    word-at-requires
+    add-word-at
+    word-at-requires-2
+    add-word-at-2
+    word-at-requires-3
     returns)

@@ -8,20 +8,20 @@ use Rattle.object_checks.proofs.sector_record_fine.Tie as tie
 mul-k : tie.Need-mul-k
 mul-k c = omega arith
 
-add-word-in : tie.Need-add-word-in
-add-word-in c = omega arith
+add-word-at : tie.Need-add-word-at
+add-word-at c = omega arith
 
-word-in-requires : tie.Need-word-in-requires
-word-in-requires c κs = omega (arith, c .before .pre .1)
+word-at-requires : tie.Need-word-at-requires
+word-at-requires c κs = tt
 
-double-in-requires : tie.Need-double-in-requires
-double-in-requires c κs = omega (arith, c .before .before .pre .1)
+double-at-requires : tie.Need-double-at-requires
+double-at-requires c κs = tt
 
-add-double-in : tie.Need-add-double-in
-add-double-in c = omega arith
+add-double-at : tie.Need-add-double-at
+add-double-at c = omega arith
 
-double-in-requires-2 : tie.Need-double-in-requires-2
-double-in-requires-2 c κs = omega (arith, c .before .before .before .pre .1)
+double-at-requires-2 : tie.Need-double-at-requires-2
+double-at-requires-2 c κs = tt
 
 bounds-fine-requires : tie.Need-bounds-fine-requires
 bounds-fine-requires c κs = tt
@@ -30,22 +30,22 @@ add-triples-fine : tie.Need-add-triples-fine
 add-triples-fine c = omega arith
 
 triples-fine-requires : tie.Need-triples-fine-requires
-triples-fine-requires c κs = let q = c .before .before .before .before .before .pre in (omega (arith, q .0), omega (arith, q .1))
+triples-fine-requires c κs = search needs
 
 returns : tie.Need-returns
 unfolding sectorRecordFine
-returns c = rw (c .triples-fine .ensures, c .before .bounds-fine .ensures, c .before .before .double-in2 .ensures, c .before .before .before .double-in .ensures, c .before .before .before .before .word-in .ensures)
+returns c = rw (c .triples-fine .ensures, c .before .bounds-fine .ensures, c .before .before .double-at2 .ensures, c .before .before .before .double-at .ensures, c .before .before .before .before .word-at .ensures)
 
 pub sector-record-fine-spec : {M : Type 1} → statement M
 sector-record-fine-spec =
     tie.close
     (tie.spec
     mul-k
-    add-word-in
-    word-in-requires
-    double-in-requires
-    add-double-in
-    double-in-requires-2
+    add-word-at
+    word-at-requires
+    double-at-requires
+    add-double-at
+    double-at-requires-2
     bounds-fine-requires
     add-triples-fine
     triples-fine-requires

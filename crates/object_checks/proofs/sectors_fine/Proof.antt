@@ -31,7 +31,7 @@ unfolding firstFine
 loop-holds c = (omega arith, refl)
 
 sector-record-fine-requires : tie.Need-sector-record-fine-requires Inv-loop μ-loop
-sector-record-fine-requires c κs = (omega arith, omega arith)
+sector-record-fine-requires c κs = omega arith
 
 add-i : tie.Need-add-i Inv-loop μ-loop
 add-i c = search needs

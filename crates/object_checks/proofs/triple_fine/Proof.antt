@@ -14,7 +14,7 @@ add-object-fine : tie.Need-add-object-fine
 add-object-fine c = search needs
 
 object-fine-requires : tie.Need-object-fine-requires
-object-fine-requires c κs = let q = c .before .before .pre in (omega (arith, q .0, q .1), omega (arith, q .1, q .2))
+object-fine-requires c κs = search needs
 
 returns : tie.Need-returns
 returns c = let a = c .before .before .before .args in c .object-fine .ensures ∙ counted-triple (now (a .bytes)) (a .count) (a .k) (a .j) (omega arith)
@@ -26,7 +26,7 @@ add-object-unused : tie.Need-add-object-unused
 add-object-unused c = search needs
 
 object-unused-requires : tie.Need-object-unused-requires
-object-unused-requires c κs = let q = c .before .before .pre in (omega (arith, q .0, q .1), omega (arith, q .1, q .2))
+object-unused-requires c κs = search needs
 
 returns-2 : tie.Need-returns-2
 returns-2 c = let a = c .before .before .before .args in c .object-unused .ensures ∙ unused-triple (now (a .bytes)) (a .count) (a .k) (a .j) (omega arith)

@@ -22,7 +22,7 @@ unfolding firstFine
 loop-holds c = (omega arith, refl)
 
 triple-fine-requires : tie.Need-triple-fine-requires Inv-loop μ-loop
-triple-fine-requires c κs = let q = c .before .before .before .pre in (q .0, omega arith, q .1)
+triple-fine-requires c κs = (omega arith, omega arith)
 
 add-j : tie.Need-add-j Inv-loop μ-loop
 add-j c = search needs
