@@ -46,9 +46,9 @@ use Rattle.shading.specs.declared.sun_on_surface.SunOnSurface.{SunOnSurface}
 use Rattle.shading.specs.Factor.{extents, sunOn, nearObstacleHeight, obstacleExtents, overhangExtents, windowOverhangExtents, rightFinExtents, leftFinExtents, overhangShade, sunlitBetween, sunlitHeight, sunlitWidth, sunlitPart, leastOf, reductionFactor, hasReveal, factorIn, shadingFactor}
 use Rattle.shading_laws.specs.Premises.{AllNumbers, NoNanExtent, Holds}
 use Rattle.jobs.specs.declared.answers.Checked.the-variants as check
-use Rattle.jobs.specs.Series.{inSeries, readSeries}
+use Rattle.weather.specs.Weather.{inSeries, readSeries, readingFine}
 use Rattle.jobs.specs.Job.{Job, indexAt, readingAt}
-use Rattle.jobs.specs.Checks.{indexFine, readingFine, resultsFine, tried, checked}
+use Rattle.jobs.specs.Checks.{indexFine, resultsFine, tried, checked}
 use Rattle.jobs.specs.Step.{sunAt, irradianceAt, shadingAt, rowWith, stepWith, stepAt}
 use Rattle.jobs.specs.Run.{numberFor, countFor, onRow, runFrom, runChecked, runOf}
 use Rattle.jobs.specs.Comparison.{countOf, sumOf, SameSeries, Alike, triple, sectorObjects, windowObject, windowObjects, HoldsAll, SameObjects, NoNan, Doubles, FiniteDirect, IsAccepted, Comparable}

@@ -26,10 +26,11 @@ use Rattle.objects.specs.Records.{windowObjectsOf}
 use Rattle.shading_laws.specs.Premises.{AcceptedSurface, AcceptedNear}
 use Rattle.object_checks.proofs.Accepted.{within-range, height-range, width-range}
 use Rattle.object_checks.proofs.AcceptedWindow.{window-in-range}
+use Rattle.weather.specs.Weather.{readingFine}
 use Rattle.jobs.specs.declared.answers.Checked.{Checked}
 use Rattle.jobs.specs.declared.answers.Checked.the-variants.{Steps, Refused}
 use Rattle.jobs.specs.Job.{Job, readingAt}
-use Rattle.jobs.specs.Checks.{indexFine, readingFine, resultsFine, tried, checked}
+use Rattle.jobs.specs.Checks.{indexFine, resultsFine, tried, checked}
 use Rattle.jobs.specs.Comparison.{Doubles}
 
 -- ---- the tests, one by one

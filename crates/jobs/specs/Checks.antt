@@ -4,8 +4,6 @@ use mathlib.Core.List.{List}
 use Prim.Native.Nat.{ℕ, _*_}
 use lib.Dec.{leb}
 use lib.Ieee.{Float}
-use Rattle.doubles.specs.Arithmetic.{whole}
-use Rattle.doubles.specs.Ranges.{within}
 use Rattle.words.specs.Words.{wordCount}
 use Rattle.sun.specs.Site.{siteFine, hoursInYear}
 use Rattle.simulation_time.specs.Steps.{stepCount, times, atAll}
@@ -14,10 +12,9 @@ use Rattle.objects.specs.declared.answers.Refusal.{Refusal}
 use Rattle.objects.specs.declared.answers.Refusal.the-variants as refusal
 use Rattle.objects.specs.Surface.{surfaceFine}
 use Rattle.object_checks.specs.Checks.{sectorsFine, windowFine}
-use Rattle.jobs.specs.declared.answers.Reading.{Reading}
 use Rattle.jobs.specs.declared.answers.Checked.{Checked}
 use Rattle.jobs.specs.declared.answers.Checked.the-variants.{Steps, Refused}
-use Rattle.jobs.specs.Series.{inSeries}
+use Rattle.weather.specs.Weather.{inSeries, readingFine}
 use Rattle.jobs.specs.Job.{Job, indexAt, readingAt}
 
 -- ---- 5 and 6: the series, at every step
@@ -25,14 +22,6 @@ use Rattle.jobs.specs.Job.{Job, indexAt, readingAt}
 -- the index is not past the end of any of the three lists
 unfoldable pub indexFine : Job → Float → Bool
 indexFine job time = inSeries (job .diffuse) (job .direct) (job .reflectivity) (indexAt job time)
-
--- diffuse and direct 0..10,000 W/m², reflectivity 0..1
-unfoldable pub readingFine : Reading → Bool
-unfolding within whole
-readingFine reading =
-    within (whole 0) (whole 10000) (reading .diffuse)
-    && within (whole 0) (whole 10000) (reading .direct)
-    && within (whole 0) (whole 1) (reading .reflectivity)
 
 -- ---- 7: the results
 

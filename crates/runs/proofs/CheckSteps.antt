@@ -21,7 +21,8 @@ use Rattle.objects.specs.Surface.{surfaceFine}
 use Rattle.object_checks.specs.Checks.{sectorsFine, windowFine}
 use Rattle.jobs.specs.declared.answers.Checked.the-variants.{Steps, Refused}
 use Rattle.jobs.specs.Job.{Job, readingAt}
-use Rattle.jobs.specs.Checks.{indexFine, readingFine, resultsFine, tried, seriesChecked, checked}
+use Rattle.weather.specs.Weather.{readingFine}
+use Rattle.jobs.specs.Checks.{indexFine, resultsFine, tried, seriesChecked, checked}
 
 abbrev pub IndicesAre : Job → Bool → Type 0
 IndicesAre job b = atAll (indexFine job) (times (job .run)) ≡ b

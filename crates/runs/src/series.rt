@@ -2,19 +2,12 @@
 ghost use mathlib.Core.Path.{_≡_};
 ghost use Rattle.simulation_time.specs.Steps.{timesFrom, atAll};
 ghost use Rattle.simulation_time.specs.Timestep.{seriesIndex};
-ghost use Rattle.jobs.specs.Series.{inSeries, readSeries};
-ghost use Rattle.jobs.specs.Checks.{readingFine};
+ghost use Rattle.weather.specs.Weather.{inSeries, readSeries, readingFine};
 use simulation_time::run::Run;
 use simulation_time::timestep::time_series_idx;
-use steps::series::read_series;
-use steps::series::reading_fine;
-use words::word_count;
-
-fn in_series(diffuse: &[u8], direct: &[u8], reflectivity: &[u8], i: usize) -> bool
-    ensures { λ r. ⌜ r ≡ inSeries (now (diffuse .entry)) (now (direct .entry)) (now (reflectivity .entry)) i ⌝ }
-{
-    (i < word_count(diffuse)) & (i < word_count(direct)) & (i < word_count(reflectivity))
-}
+use weather::in_series;
+use weather::read_series;
+use weather::reading_fine;
 
 // Of all steps: whether every index is on all three series, and whether every value is in its range.
 pub struct SeriesFine {

@@ -8,7 +8,7 @@ use lib.Ieee.{Float}
 use lib.Ieee.Bits.{is-true}
 use lib.Ieee.Fits.{and-l, and-r}
 use Rattle.words.specs.Words.{wordCount}
-use Rattle.jobs.specs.Checks.{readingFine}
+use Rattle.weather.specs.Weather.{readingFine}
 use Rattle.sun.specs.declared.site.Site.{Site}
 use Rattle.sun.specs.Site.{siteFine}
 use Rattle.objects.specs.declared.surface.Surface.{Surface}
@@ -16,7 +16,7 @@ use Rattle.objects.specs.declared.answers.Refusal.{Refusal}
 use Rattle.objects.specs.declared.answers.Refusal.the-variants as refusal
 use Rattle.objects.specs.Surface.{surfaceFine}
 use Rattle.object_checks.specs.Checks.{sectorsFine, windowFine}
-use Rattle.jobs.specs.declared.answers.Reading.{Reading}
+use Rattle.weather.specs.declared.Reading.{Reading}
 use Rattle.single_steps.specs.declared.Single.{Single}
 use Rattle.single_steps.specs.declared.Single.the-variants.{Stored, Refused}
 use Rattle.single_steps.specs.Single.{timeFine, first, stepChecked, called, storedStep, unlessRefused, stepCall}

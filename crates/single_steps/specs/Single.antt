@@ -18,12 +18,12 @@ use Rattle.objects.specs.declared.answers.Refusal.the-variants as refusal
 use Rattle.objects.specs.Surface.{surfaceFine}
 use Rattle.object_checks.specs.Checks.{sectorsFine, windowFine}
 use Rattle.objects.specs.Refusals.{numberOf}
-use Rattle.jobs.specs.declared.answers.Reading.{Reading}
+use Rattle.weather.specs.declared.Reading.{Reading}
 use Rattle.jobs.specs.declared.answers.StepAnswer.{StepAnswer}
 use Rattle.jobs.specs.declared.answers.StepAnswer.the-variants as step
 use Rattle.single_steps.specs.declared.Single.{Single}
 use Rattle.single_steps.specs.declared.Single.the-variants.{Stored, Refused}
-use Rattle.jobs.specs.Checks.{readingFine}
+use Rattle.weather.specs.Weather.{readingFine}
 use Rattle.jobs.specs.Step.{sunAt, irradianceAt, stepWith}
 use Rattle.jobs.specs.Run.{putRow}
 

@@ -7,11 +7,11 @@ use angles::SinCos;
 use days::Day;
 use irradiance::parts::Irradiance;
 use irradiance::surface::Incidence;
-use jobs::answers::Reading;
 use objects::surface::Surface;
 use sun::hour::Hour;
 use sun::hour::sin_cos_of_degrees;
 use sun::site::Site;
+use weather::Reading;
 
 pub struct Fixed {
     pub latitude: SinCos,

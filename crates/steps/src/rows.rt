@@ -2,20 +2,20 @@
 ghost use mathlib.Core.Path.{_≡_};
 ghost use Prim.Native.Nat.{_<_, _≤_};
 ghost use Rattle.simulation_time.specs.Timestep.{seriesIndex};
-ghost use Rattle.jobs.specs.Series.{readSeries};
+ghost use Rattle.weather.specs.Weather.{readSeries};
 ghost use Rattle.jobs.specs.Step.{rowWith};
 ghost use Rattle.steps.specs.Kept.{irradianceKept, stepKept};
 ghost use Rattle.jobs.specs.Run.{putRow};
 use crate::kept::Fixed;
 use crate::kept::KeptHour;
 use crate::kept::irradiance_kept;
-use crate::series::read_series;
-use jobs::answers::Reading;
 use jobs::answers::Row;
 use jobs::answers::StepAnswer;
 use objects::answers::FactorAnswer;
 use simulation_time::timestep::time_series_idx;
 use sun::site::Site;
+use weather::Reading;
+use weather::read_series;
 use words::store_double;
 
 // The step's row where its hour has a factor.

@@ -8,9 +8,9 @@ use Rattle.simulation_time.specs.Steps.{times, timesFrom, atAll}
 use Rattle.simulation_time.specs.Timestep.{seriesIndex}
 use Rattle.simulation_time.proofs.Times.{count-few}
 use Rattle.jobs.specs.declared.answers.Checked.the-variants.{Steps}
-use Rattle.jobs.specs.Series.{inSeries, readSeries}
+use Rattle.weather.specs.Weather.{inSeries, readSeries, readingFine}
 use Rattle.jobs.specs.Job.{Job, jobOf, indexAt, readingAt}
-use Rattle.jobs.specs.Checks.{indexFine, readingFine}
+use Rattle.jobs.specs.Checks.{indexFine}
 use Rattle.runs.proofs.CheckSteps.{IndicesAre, ReadingsAre, series-refused, reading-refused, results-refused, series-passed}
 use borrow.Author.Needs.{needs}
 use Rattle.runs.proofs.run.check_series.Statement.{statement}

@@ -10,8 +10,7 @@ use denote.Ref.{now}
 use lib.Ieee.{Float}
 use Rattle.simulation_time.specs.Steps.{timesFrom, atAll}
 use Rattle.simulation_time.specs.Timestep.{seriesIndex}
-use Rattle.jobs.specs.Series.{inSeries, readSeries}
-use Rattle.jobs.specs.Checks.{readingFine}
+use Rattle.weather.specs.Weather.{inSeries, readSeries, readingFine}
 use Rattle.runs.proofs.AllSteps.{left, at-first, one-more, at-last}
 use Rattle.runs.proofs.series.series_fine.Statement.{statement}
 use Rattle.runs.proofs.series.series_fine.Tie as tie
