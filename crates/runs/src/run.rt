@@ -41,26 +41,23 @@ use words::word_count;
 
 // Refusals 5 to 7: every step's index on all three series before any value, and room for every step's row.
 fn check_series(
-    site: Site,
+    start_day: u32,
+    series_step: f64,
     run: Run,
     count: u64,
-    surface: Surface,
     diffuse: &[u8],
     direct: &[u8],
     reflectivity: &[u8],
-    sectors: &[u8],
-    window: &[u8],
     results: &[u8],
 ) -> Checked
-    requires { ⌜ site .«start_day» ≤ 365 ⌝ }
     requires { ⌜ count ≡ stepCount run ⌝ }
-    ensures { λ r. ⌜ r ≡ seriesChecked (jobOf site run surface (now (diffuse .entry)) (now (direct .entry)) (now (reflectivity .entry)) (now (sectors .entry)) (now (window .entry))) (now (results .entry)) ⌝ }
+    ensures { λ r. ⌜ r ≡ seriesChecked «start_day» «series_step» run (now (diffuse .entry)) (now (direct .entry)) (now (reflectivity .entry)) (now (results .entry)) ⌝ }
 {
     let fine = series_fine(
         run,
         count,
-        site.start_day as u32,
-        site.time_series_step,
+        start_day,
+        series_step,
         diffuse,
         direct,
         reflectivity,
@@ -104,17 +101,14 @@ fn check_job(
     if !(sectors_fine(sectors) & window_fine(window)) {
         return Checked::Refused(Refusal::Object);
     }
-    let count = steps.count;
     check_series(
-        site,
+        site.start_day as u32,
+        site.time_series_step,
         run,
-        count,
-        surface,
+        steps.count,
         diffuse,
         direct,
         reflectivity,
-        sectors,
-        window,
         results,
     )
 }

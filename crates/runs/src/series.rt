@@ -1,8 +1,7 @@
 // The three weather series at all steps (refusals 5 and 6).
 ghost use mathlib.Core.Path.{_≡_};
-ghost use Rattle.simulation_time.specs.Steps.{timesFrom, atAll};
-ghost use Rattle.simulation_time.specs.Timestep.{seriesIndex};
-ghost use Rattle.weather.specs.Weather.{inSeries, readSeries, readingFine};
+ghost use Rattle.simulation_time.specs.Steps.{timesFrom};
+ghost use Rattle.jobs.specs.Checks.{indicesFine, readingsFine};
 use simulation_time::run::Run;
 use simulation_time::timestep::time_series_idx;
 use weather::in_series;
@@ -15,6 +14,7 @@ pub struct SeriesFine {
     pub readings: bool,
 }
 
+// Looks at the first `count` steps of a run; the series' step is in hours.
 pub fn series_fine(
     run: Run,
     count: u64,
@@ -24,8 +24,10 @@ pub fn series_fine(
     direct: &[u8],
     reflectivity: &[u8],
 ) -> SeriesFine
-    ensures { λ r. ⌜ (r .indices ≡ atAll (λ time. inSeries (now (diffuse .entry)) (now (direct .entry)) (now (reflectivity .entry)) (seriesIndex time «start_day» «series_step»)) (timesFrom count (run .step) (run .start)))
-        × (r .readings ≡ atAll (λ time. readingFine (readSeries (now (diffuse .entry)) (now (direct .entry)) (now (reflectivity .entry)) (seriesIndex time «start_day» «series_step»))) (timesFrom count (run .step) (run .start))) ⌝ }
+    ensures { λ r. ⌜ (r .indices ≡ indicesFine «start_day» «series_step» (now (diffuse .entry)) (now (direct .entry)) (now (reflectivity .entry))
+        (timesFrom count (run .step) (run .start)))
+        × (r .readings ≡ readingsFine «start_day» «series_step» (now (diffuse .entry)) (now (direct .entry)) (now (reflectivity .entry))
+        (timesFrom count (run .step) (run .start))) ⌝ }
 {
     let mut indices = true;
     let mut readings = true;
