@@ -51,7 +51,8 @@ fn check_series(
     results: &[u8],
 ) -> Checked
     requires { ⌜ count ≡ stepCount run ⌝ }
-    ensures { λ r. ⌜ r ≡ seriesChecked «start_day» «series_step» run (now (diffuse .entry)) (now (direct .entry)) (now (reflectivity .entry)) (now (results .entry)) ⌝ }
+    ensures { λ r. ⌜ r ≡ seriesChecked «start_day» «series_step» run
+        (now (diffuse .entry)) (now (direct .entry)) (now (reflectivity .entry)) (now (results .entry)) ⌝ }
 {
     let fine = series_fine(
         run,
@@ -86,7 +87,9 @@ fn check_job(
     window: &[u8],
     results: &[u8],
 ) -> Checked
-    ensures { λ r. ⌜ r ≡ checked (jobOf site run surface (now (diffuse .entry)) (now (direct .entry)) (now (reflectivity .entry)) (now (sectors .entry)) (now (window .entry))) (now (results .entry)) ⌝ }
+    ensures { λ r. ⌜ r ≡ checked
+        (jobOf site run surface (now (diffuse .entry)) (now (direct .entry)) (now (reflectivity .entry)) (now (sectors .entry)) (now (window .entry)))
+        (now (results .entry)) ⌝ }
 {
     if !site_fine(site) {
         return Checked::Refused(Refusal::Site);
@@ -140,7 +143,9 @@ fn run_steps(
     requires { ⌜ count ≤ 35137 ⌝ }
     requires { ⌜ sectorsFine (now sectors) ≡ true ⌝ }
     requires { ⌜ windowFine (now window) ≡ true ⌝ }
-    ensures { λ r. ⌜ ran r (now (results .exit)) ≡ runFrom count (jobOf site run surface (now (diffuse .entry)) (now (direct .entry)) (now (reflectivity .entry)) (now (sectors .entry)) (now (window .entry))) 0 (run .start) (whole 0) (now (results .entry)) ⌝ }
+    ensures { λ r. ⌜ ran r (now (results .exit)) ≡ runFrom count
+        (jobOf site run surface (now (diffuse .entry)) (now (direct .entry)) (now (reflectivity .entry)) (now (sectors .entry)) (now (window .entry)))
+        0 (run .start) (whole 0) (now (results .entry)) ⌝ }
 {
     let objects = window_of(window);
     let n = sector_count(sectors);
@@ -215,7 +220,9 @@ pub fn run_job(
     window: &[u8],
     results: &mut [u8],
 ) -> RunAnswer
-    ensures { λ r. ⌜ ran r (now (results .exit)) ≡ runOf (jobOf site run surface (now (diffuse .entry)) (now (direct .entry)) (now (reflectivity .entry)) (now (sectors .entry)) (now (window .entry))) (now (results .entry)) ⌝ }
+    ensures { λ r. ⌜ ran r (now (results .exit)) ≡ runOf
+        (jobOf site run surface (now (diffuse .entry)) (now (direct .entry)) (now (reflectivity .entry)) (now (sectors .entry)) (now (window .entry)))
+        (now (results .entry)) ⌝ }
 {
     let answer = check_job(
         site,

@@ -39,6 +39,7 @@ pub enum Single {
     Refused(Refusal),
 }
 
+// 0 where the call is accepted, else the refusal's number.
 pub fn single_number(answer: Single) -> u64
     ensures { λ r. ⌜ r ≡ singleNumber answer ⌝ }
 {
@@ -48,12 +49,14 @@ pub fn single_number(answer: Single) -> u64
     }
 }
 
+// Refusal 2 of one step: its time, in hours, is in the year.
 fn time_fine(site: Site, time: f64) -> bool
     ensures { λ r. ⌜ r ≡ timeFine site time ⌝ }
 {
     (0.0 <= time) & (time <= 8784.0) & (current_hour(time) < hours_in_year(site))
 }
 
+// The refusal where a test fails, else what comes next.
 fn first(fine: bool, refusal: Refusal, next: Single) -> Single
     ensures { λ r. ⌜ r ≡ tried Refused fine refusal next ⌝ }
 {
@@ -149,7 +152,8 @@ pub fn step_call(
     window: &[u8],
     results: &mut [u8],
 ) -> Single
-    ensures { λ r. ⌜ called r (now (results .exit)) ≡ stepCall site time surface reading (now (sectors .entry)) (now (window .entry)) (now (results .entry)) ⌝ }
+    ensures { λ r. ⌜ called r (now (results .exit))
+        ≡ stepCall site time surface reading (now (sectors .entry)) (now (window .entry)) (now (results .entry)) ⌝ }
 {
     let tested = check_step(site, time, surface, reading, sectors, window, results);
     match tested {

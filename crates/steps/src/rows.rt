@@ -44,7 +44,7 @@ pub fn step_row(
     }
 }
 
-// The step at a time, whose hour is kept.
+// The step at a time in hours, whose hour is kept.
 pub fn step_at(
     site: Site,
     fixed: Fixed,
@@ -57,7 +57,8 @@ pub fn step_at(
 ) -> StepAnswer
     requires { ⌜ site .«start_day» ≤ 365 ⌝ }
     ensures { λ r. ⌜ r ≡ stepKept site fixed kept factor
-        (readSeries (now (diffuse .entry)) (now (direct .entry)) (now (reflectivity .entry)) (seriesIndex time (site .«start_day») (site .«time_series_step»))) ⌝ }
+        (readSeries (now (diffuse .entry)) (now (direct .entry)) (now (reflectivity .entry))
+        (seriesIndex time (site .«start_day») (site .«time_series_step»))) ⌝ }
 {
     let index = time_series_idx(time, site.start_day as u32, site.time_series_step);
     let reading = read_series(diffuse, direct, reflectivity, index);
