@@ -10,7 +10,7 @@ fn within_90(x: f64) -> bool
     (-90.0 <= x) & (x <= 90.0)
 }
 
-// Whether the surface is outside the solar beam. NaN counts as outside.
+// Whether the surface is outside the solar beam, by four angles in degrees. NaN counts as outside.
 pub fn outside_solar_beam(tilt: f64, orientation: f64, altitude: f64, azimuth: f64) -> bool
     ensures { λ r. ⌜ r ≡ outsideSolarBeam tilt orientation altitude azimuth ⌝ }
 {

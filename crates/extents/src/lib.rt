@@ -1,5 +1,5 @@
 // The height or width that one object shades of a surface (ISO 52016-1 Annex F), after the Rust's functions of these names.
-// The tangents and the cosine are the hour's, and handed in.
+// Lengths are in metres. The tangents and the cosine are the hour's, and handed in.
 ghost use mathlib.Core.Path.{_≡_};
 ghost use Rattle.extents.specs.Extents.{obstacleHeight, overhangHeight, windowOverhangHeight, rightFinWidth, leftFinWidth};
 

@@ -35,7 +35,7 @@ pub struct Irradiance {
     pub ground: f64,
 }
 
-// By the tilt, the sun's incidence, the sky, the sine of the sun's altitude and the ground's reflectivity, 0 to 1.
+// In W/m², by the tilt, the sun's incidence, the sky, the sine of the sun's altitude and the ground's reflectivity, 0 to 1.
 pub fn calculated_direct_diffuse_total_irradiance(
     tilt: SinCos,
     incidence: Incidence,

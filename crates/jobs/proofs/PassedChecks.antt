@@ -26,10 +26,11 @@ use Rattle.objects.specs.Records.{windowObjectsOf}
 use Rattle.shading_laws.specs.Premises.{AcceptedSurface, AcceptedNear}
 use Rattle.object_checks.proofs.Accepted.{within-range, height-range, width-range}
 use Rattle.object_checks.proofs.AcceptedWindow.{window-in-range}
+use Rattle.weather.specs.Weather.{readingFine}
 use Rattle.jobs.specs.declared.answers.Checked.{Checked}
 use Rattle.jobs.specs.declared.answers.Checked.the-variants.{Steps, Refused}
-use Rattle.jobs.specs.Job.{Job, readingAt}
-use Rattle.jobs.specs.Checks.{indexFine, readingFine, resultsFine, tried, checked}
+use Rattle.jobs.specs.Job.{Job, indexAt, readingAt}
+use Rattle.jobs.specs.Checks.{indicesFine, readingsFine, resultsFine, tried, checked}
 use Rattle.jobs.specs.Comparison.{Doubles}
 
 -- ---- the tests, one by one
@@ -47,7 +48,7 @@ unfoldable stepsIn : Checked → ℕ
 stepsIn (Steps n) = n
 stepsIn (Refused r) = 0
 
-passed-test : (b : Bool) (r : Refusal) (next : Checked) (n : ℕ) → tried b r next ≡ Steps n → T b × (next ≡ Steps n)
+passed-test : (b : Bool) (r : Refusal) (next : Checked) (n : ℕ) → tried Refused b r next ≡ Steps n → T b × (next ≡ Steps n)
 unfolding tried
 passed-test true r next n e = (tt, e)
 passed-test false r next n e = not-passed e
@@ -58,27 +59,27 @@ pub record Passed (job : Job) (results : List ℕ) : Type 0 where
   pub surface-fine : T (surfaceFine (job .surface))
   pub sectors-fine : T (sectorsFine (job .sectors))
   pub window-fine : T (windowFine (job .window))
-  pub indices-fine : T (atAll (indexFine job) (times (job .run)))
   pub readings-fine : T (atAll (λ (time : Float). readingFine (readingAt job time)) (times (job .run)))
-  pub results-fine : T (resultsFine job results)
+  pub results-fine : T (resultsFine (job .run) results)
 
 pub passed : (job : Job) (results : List ℕ) (n : ℕ) → checked job results ≡ Steps n → Passed job results × (n ≡ stepCount (job .run))
-unfolding checked stepsIn
+unfolding checked stepsIn indicesFine readingsFine readingAt indexAt
 passed job results n e =
     let p1 = passed-test (siteFine (job .site)) refusal.Site _ n e in
     let p2 = passed-test (runAccepted (hoursInYear (job .site)) (job .run)) refusal.Run _ n (p1 .1) in
     let p3 = passed-test (surfaceFine (job .surface)) refusal.Surface _ n (p2 .1) in
     let p4 = passed-test (sectorsFine (job .sectors) && windowFine (job .window)) refusal.Object _ n (p3 .1) in
-    let p5 = passed-test (atAll (indexFine job) (times (job .run))) refusal.Series _ n (p4 .1) in
+    let site = job .site in
+    let indices = indicesFine (site .«start_day») (site .«time_series_step») (job .diffuse) (job .direct) (job .reflectivity) (times (job .run)) in
+    let p5 = passed-test indices refusal.Series _ n (p4 .1) in
     let p6 = passed-test (atAll (λ (time : Float). readingFine (readingAt job time)) (times (job .run))) refusal.Reading _ n (p5 .1) in
-    let p7 = passed-test (resultsFine job results) refusal.Results _ n (p6 .1) in (
+    let p7 = passed-test (resultsFine (job .run) results) refusal.Results _ n (p6 .1) in (
       record {
         site-fine = p1 .0;
         run-fine = p2 .0;
         surface-fine = p3 .0;
         sectors-fine = and-l (sectorsFine (job .sectors)) (windowFine (job .window)) (p4 .0);
         window-fine = and-r (sectorsFine (job .sectors)) (windowFine (job .window)) (p4 .0);
-        indices-fine = p5 .0;
         readings-fine = p6 .0;
         results-fine = p7 .0;
       },

@@ -21,7 +21,7 @@ use Rattle.shading.specs.Factor.{shadingFactor}
 use Rattle.objects.specs.Records.{sectorsOf, windowObjectsOf}
 use Rattle.shading_laws.specs.Premises.{NoNanAt}
 use Rattle.shading_laws.proofs.Answers.{answer-nonneg, answer-le-one, answer-no-objects, answers-more-objects, answers-same-objects}
-use Rattle.jobs.specs.Series.{readSeries}
+use Rattle.weather.specs.Weather.{readSeries}
 use Rattle.jobs.specs.Job.{Job, indexAt, readingAt}
 use Rattle.jobs.specs.Step.{sunAt, irradianceAt, shadingAt}
 use Rattle.jobs.specs.Run.{Ran, withRow, countFor, sumFor}

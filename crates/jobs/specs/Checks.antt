@@ -4,63 +4,57 @@ use mathlib.Core.List.{List}
 use Prim.Native.Nat.{ℕ, _*_}
 use lib.Dec.{leb}
 use lib.Ieee.{Float}
-use Rattle.doubles.specs.Arithmetic.{whole}
-use Rattle.doubles.specs.Ranges.{within}
 use Rattle.words.specs.Words.{wordCount}
+use Rattle.weather.specs.Weather.{inSeries, readSeries, readingFine}
 use Rattle.sun.specs.Site.{siteFine, hoursInYear}
+use Rattle.simulation_time.specs.declared.run.Run.{Run}
 use Rattle.simulation_time.specs.Steps.{stepCount, times, atAll}
+use Rattle.simulation_time.specs.Timestep.{seriesIndex}
 use Rattle.simulation_time.specs.RunChecks.{runAccepted}
 use Rattle.objects.specs.declared.answers.Refusal.{Refusal}
 use Rattle.objects.specs.declared.answers.Refusal.the-variants as refusal
 use Rattle.objects.specs.Surface.{surfaceFine}
 use Rattle.object_checks.specs.Checks.{sectorsFine, windowFine}
-use Rattle.jobs.specs.declared.answers.Reading.{Reading}
 use Rattle.jobs.specs.declared.answers.Checked.{Checked}
 use Rattle.jobs.specs.declared.answers.Checked.the-variants.{Steps, Refused}
-use Rattle.jobs.specs.Series.{inSeries}
-use Rattle.jobs.specs.Job.{Job, indexAt, readingAt}
+use Rattle.jobs.specs.Job.{Job}
 
--- ---- 5 and 6: the series, at every step
+-- the refusal where a test fails, else what comes next
+unfoldable pub tried : {Answer : Type 0} → (Refusal → Answer) → Bool → Refusal → Answer → Answer
+tried refused fine r next = cond fine next (refused r)
 
--- the index is not past the end of any of the three lists
-unfoldable pub indexFine : Job → Float → Bool
-indexFine job time = inSeries (job .diffuse) (job .direct) (job .reflectivity) (indexAt job time)
+-- ---- 5 to 7, which look at every step
 
--- diffuse and direct 0..10,000 W/m², reflectivity 0..1
-unfoldable pub readingFine : Reading → Bool
-unfolding within whole
-readingFine reading =
-    within (whole 0) (whole 10000) (reading .diffuse)
-    && within (whole 0) (whole 10000) (reading .direct)
-    && within (whole 0) (whole 1) (reading .reflectivity)
+-- at each time the index is not past the end of any of the three series, which start at hour 0 of a day and have a step in hours
+unfoldable pub indicesFine : ℕ → Float → List ℕ → List ℕ → List ℕ → List Float → Bool
+indicesFine day step diffuse direct reflectivity = atAll (λ (time : Float). inSeries diffuse direct reflectivity (seriesIndex time day step))
 
--- ---- 7: the results
+-- the values there are in their ranges
+unfoldable pub readingsFine : ℕ → Float → List ℕ → List ℕ → List ℕ → List Float → Bool
+readingsFine day step diffuse direct reflectivity =
+    atAll (λ (time : Float). readingFine (readSeries diffuse direct reflectivity (seriesIndex time day step)))
 
 -- six whole words for each step; a part word counts for nothing
-unfoldable pub resultsFine : Job → List ℕ → Bool
-resultsFine job results = leb (6 * stepCount (job .run)) (wordCount results)
+unfoldable pub resultsFine : Run → List ℕ → Bool
+resultsFine run results = leb (6 * stepCount run) (wordCount results)
+
+unfoldable pub seriesChecked : ℕ → Float → Run → List ℕ → List ℕ → List ℕ → List ℕ → Checked
+unfolding tried
+seriesChecked day step run diffuse direct reflectivity results =
+    tried Refused (indicesFine day step diffuse direct reflectivity (times run)) refusal.Series
+    (tried Refused (readingsFine day step diffuse direct reflectivity (times run)) refusal.Reading
+    (tried Refused (resultsFine run results) refusal.Results
+    (Steps (stepCount run))))
 
 -- ---- all seven
-
--- a refusal where a test fails, else what comes next
-unfoldable pub tried : Bool → Refusal → Checked → Checked
-tried fine r next = cond fine next (Refused r)
-
--- 5 to 7, which look at every step
-unfoldable pub seriesChecked : Job → List ℕ → Checked
-unfolding tried
-seriesChecked job results =
-    tried (atAll (indexFine job) (times (job .run))) refusal.Series
-    (tried (atAll (λ (time : Float). readingFine (readingAt job time)) (times (job .run))) refusal.Reading
-    (tried (resultsFine job results) refusal.Results
-    (Steps (stepCount (job .run)))))
 
 -- the number of steps, or the first refusal
 unfoldable pub checked : Job → List ℕ → Checked
 unfolding tried seriesChecked
 checked job results =
-    tried (siteFine (job .site)) refusal.Site
-    (tried (runAccepted (hoursInYear (job .site)) (job .run)) refusal.Run
-    (tried (surfaceFine (job .surface)) refusal.Surface
-    (tried (sectorsFine (job .sectors) && windowFine (job .window)) refusal.Object
-    (seriesChecked job results))))
+    let site = job .site in
+    tried Refused (siteFine site) refusal.Site
+    (tried Refused (runAccepted (hoursInYear site) (job .run)) refusal.Run
+    (tried Refused (surfaceFine (job .surface)) refusal.Surface
+    (tried Refused (sectorsFine (job .sectors) && windowFine (job .window)) refusal.Object
+    (seriesChecked (site .«start_day») (site .«time_series_step») (job .run) (job .diffuse) (job .direct) (job .reflectivity) results))))

@@ -6,8 +6,8 @@ use Rattle.sun.specs.declared.site.Site.{Site}
 use Rattle.simulation_time.specs.declared.run.Run.{Run}
 use Rattle.simulation_time.specs.Timestep.{seriesIndex}
 use Rattle.objects.specs.declared.surface.Surface.{Surface}
-use Rattle.jobs.specs.declared.answers.Reading.{Reading}
-use Rattle.jobs.specs.Series.{readSeries}
+use Rattle.weather.specs.declared.Reading.{Reading}
+use Rattle.weather.specs.Weather.{readSeries}
 
 pub record Job : Type 0 where
   pub site : Site

@@ -1,6 +1,5 @@
 -- A job and the checks before its first step (`Job`, `Checks`), one step (`Step`), the run over all steps (`Run`), and the claim on
 -- two jobs compared (`Comparison`).
-pub mod Series
 pub mod Job
 pub mod Checks
 pub mod Step

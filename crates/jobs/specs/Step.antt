@@ -18,7 +18,7 @@ use Rattle.objects.specs.declared.answers.FactorAnswer.{FactorAnswer}
 use Rattle.objects.specs.declared.answers.FactorAnswer.the-variants as factor
 use Rattle.shading.specs.Factor.{shadingFactor}
 use Rattle.objects.specs.Records.{sectorsOf, windowObjectsOf}
-use Rattle.jobs.specs.declared.answers.Reading.{Reading}
+use Rattle.weather.specs.declared.Reading.{Reading}
 use Rattle.jobs.specs.declared.answers.StepAnswer.{StepAnswer}
 use Rattle.jobs.specs.declared.answers.StepAnswer.the-variants as step
 use Rattle.jobs.specs.Job.{Job, readingAt}
@@ -34,7 +34,8 @@ irradianceAt site surface time reading =
     let sun = sunAt site time in
     let tilt = sinCosOf (surface .tilt) in
     let sky = skyOf (eqb (site .«direct_beam_conversion») 1) sun (day .«extra_terrestrial_radiation») (reading .diffuse) (reading .direct) in
-    let incidence = incidenceOf (sinCosOf (site .latitude)) (sinCosOf (day .declination)) tilt (sinCosOf (orientation180 (surface .orientation))) sun in
+    let facing = sinCosOf (orientation180 (surface .orientation)) in
+    let incidence = incidenceOf (sinCosOf (site .latitude)) (sinCosOf (day .declination)) tilt facing sun in
     irradianceOf tilt incidence sky (sun .«sin_altitude») (reading .reflectivity)
 
 -- the factor of lists of bytes

@@ -1,12 +1,5 @@
-// What goes into a step and what comes out of a step, of the checks and of a run.
+// What comes out of a step, of the checks and of a run.
 use objects::answers::Refusal;
-
-// The three series' values that a step uses: W/m², and the ground's reflectivity.
-pub struct Reading {
-    pub diffuse: f64,
-    pub direct: f64,
-    pub reflectivity: f64,
-}
 
 // A step's six results, in the order in which they are stored.
 pub struct Row {

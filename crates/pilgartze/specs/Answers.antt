@@ -11,7 +11,7 @@ use Rattle.objects.specs.declared.answers.FactorAnswer.{FactorAnswer}
 use Rattle.objects.specs.declared.answers.FactorAnswer.the-variants.{Factor, Refused}
 use Rattle.objects.specs.Refusals.{numberOf}
 use Rattle.jobs.specs.declared.answers.RunAnswer.{RunAnswer}
-use Rattle.jobs.specs.declared.answers.Reading.{Reading}
+use Rattle.weather.specs.declared.Reading.{Reading}
 use Rattle.jobs.specs.Run.{Ran, numberFor, stepFor, countFor, sumFor}
 use Rattle.single_steps.specs.Single.{Called, singleNumber}
 use Rattle.pilgartze.specs.declared.Answer.{Answer}

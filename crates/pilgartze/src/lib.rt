@@ -8,13 +8,13 @@ ghost use Rattle.jobs.specs.Comparison.{Doubles};
 ghost use Rattle.single_steps.specs.Single.{stepCall, irradianceCall};
 ghost use Rattle.pilgartze.specs.Answers.{answerFor, factorFor, runLeaves, callLeaves, siteOf, timesOf, surfaceOf, readingOf};
 ghost use Rattle.pilgartze.specs.Version.{version};
-use jobs::answers::Reading;
 use jobs::answers::RunAnswer;
 use objects::answers::FactorAnswer;
 use objects::answers::number_of;
 use objects::surface::Surface;
 use simulation_time::run::Run;
 use sun::site::Site;
+use weather::Reading;
 
 // What a run answers: the refusal's number, or 0, and its step; the step count and the sum, both 0 on a refusal.
 #[repr(C)]

@@ -14,38 +14,44 @@ use lib.Ieee.Fits.{and-l, and-r}
 use Rattle.sun.specs.declared.site.Site.{Site}
 use Rattle.sun.specs.Site.{siteFine, hoursInYear}
 use Rattle.words.specs.Words.{wordCount}
-use Rattle.simulation_time.specs.Steps.{stepCount, times, atAll}
+use Rattle.simulation_time.specs.declared.run.Run.{Run}
+use Rattle.simulation_time.specs.Steps.{stepCount, times}
 use Rattle.simulation_time.specs.RunChecks.{runAccepted}
 use Rattle.objects.specs.declared.answers.Refusal.the-variants as refusal
 use Rattle.objects.specs.Surface.{surfaceFine}
 use Rattle.object_checks.specs.Checks.{sectorsFine, windowFine}
+use Rattle.jobs.specs.declared.answers.Checked.{Checked}
 use Rattle.jobs.specs.declared.answers.Checked.the-variants.{Steps, Refused}
-use Rattle.jobs.specs.Job.{Job, readingAt}
-use Rattle.jobs.specs.Checks.{indexFine, readingFine, resultsFine, tried, seriesChecked, checked}
+use Rattle.jobs.specs.Job.{Job}
+use Rattle.jobs.specs.Checks.{indicesFine, readingsFine, resultsFine, tried, seriesChecked, checked}
 
-abbrev pub IndicesAre : Job → Bool → Type 0
-IndicesAre job b = atAll (indexFine job) (times (job .run)) ≡ b
+module _ (day : ℕ) (step : Float) (run : Run) (diffuse direct reflectivity results : List ℕ) where
+  abbrev pub IndicesAre : Bool → Type 0
+  IndicesAre b = indicesFine day step diffuse direct reflectivity (times run) ≡ b
 
-abbrev pub ReadingsAre : Job → Bool → Type 0
-ReadingsAre job b = atAll (λ (time : Float). readingFine (readingAt job time)) (times (job .run)) ≡ b
+  abbrev pub ReadingsAre : Bool → Type 0
+  ReadingsAre b = readingsFine day step diffuse direct reflectivity (times run) ≡ b
 
-module _ (job : Job) (results : List ℕ) where
-  pub series-refused : IndicesAre job false → Refused refusal.Series ≡ seriesChecked job results
+  abbrev pub Comes : Checked → Type 0
+  Comes answer = answer ≡ seriesChecked day step run diffuse direct reflectivity results
+
+  pub series-refused : IndicesAre false → Comes (Refused refusal.Series)
   unfolding seriesChecked tried
   series-refused e = rw e refl
 
-  pub reading-refused : IndicesAre job true → ReadingsAre job false → Refused refusal.Reading ≡ seriesChecked job results
+  pub reading-refused : IndicesAre true → ReadingsAre false → Comes (Refused refusal.Reading)
   unfolding seriesChecked tried
   reading-refused e f = rw (e, f) refl
 
-  pub results-refused : IndicesAre job true → ReadingsAre job true → wordCount results < 6 * stepCount (job .run) → Refused refusal.Results ≡ seriesChecked job results
+  pub results-refused : IndicesAre true → ReadingsAre true → wordCount results < 6 * stepCount run → Comes (Refused refusal.Results)
   unfolding seriesChecked tried resultsFine
   results-refused e f h = rw (e, f, lt-leb _ _ h) refl
 
-  pub series-passed : IndicesAre job true → ReadingsAre job true → 6 * stepCount (job .run) ≤ wordCount results → Steps (stepCount (job .run)) ≡ seriesChecked job results
+  pub series-passed : IndicesAre true → ReadingsAre true → 6 * stepCount run ≤ wordCount results → Comes (Steps (stepCount run))
   unfolding seriesChecked tried resultsFine
   series-passed e f h = rw (e, f, le-leb _ _ h) refl
 
+module _ (job : Job) (results : List ℕ) where
   pub site-refused : siteFine (job .site) ≡ false → Refused refusal.Site ≡ checked job results
   unfolding checked tried
   site-refused e = rw e refl
@@ -65,7 +71,8 @@ module _ (job : Job) (results : List ℕ) where
         unfolding checked tried
         object-refused e = rw (site, steps, surface, e) refl
 
-        pub first-passed : sectorsFine (job .sectors) && windowFine (job .window) ≡ true → seriesChecked job results ≡ checked job results
+        pub first-passed : sectorsFine (job .sectors) && windowFine (job .window) ≡ true
+            → seriesChecked (job .site .«start_day») (job .site .«time_series_step») (job .run) (job .diffuse) (job .direct) (job .reflectivity) results ≡ checked job results
         unfolding checked tried
         first-passed e = rw (site, steps, surface, e) refl
 

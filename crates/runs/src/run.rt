@@ -41,26 +41,24 @@ use words::word_count;
 
 // Refusals 5 to 7: every step's index on all three series before any value, and room for every step's row.
 fn check_series(
-    site: Site,
+    start_day: u32,
+    series_step: f64,
     run: Run,
     count: u64,
-    surface: Surface,
     diffuse: &[u8],
     direct: &[u8],
     reflectivity: &[u8],
-    sectors: &[u8],
-    window: &[u8],
     results: &[u8],
 ) -> Checked
-    requires { ⌜ site .«start_day» ≤ 365 ⌝ }
     requires { ⌜ count ≡ stepCount run ⌝ }
-    ensures { λ r. ⌜ r ≡ seriesChecked (jobOf site run surface (now (diffuse .entry)) (now (direct .entry)) (now (reflectivity .entry)) (now (sectors .entry)) (now (window .entry))) (now (results .entry)) ⌝ }
+    ensures { λ r. ⌜ r ≡ seriesChecked «start_day» «series_step» run
+        (now (diffuse .entry)) (now (direct .entry)) (now (reflectivity .entry)) (now (results .entry)) ⌝ }
 {
     let fine = series_fine(
         run,
         count,
-        site.start_day as u32,
-        site.time_series_step,
+        start_day,
+        series_step,
         diffuse,
         direct,
         reflectivity,
@@ -89,7 +87,9 @@ fn check_job(
     window: &[u8],
     results: &[u8],
 ) -> Checked
-    ensures { λ r. ⌜ r ≡ checked (jobOf site run surface (now (diffuse .entry)) (now (direct .entry)) (now (reflectivity .entry)) (now (sectors .entry)) (now (window .entry))) (now (results .entry)) ⌝ }
+    ensures { λ r. ⌜ r ≡ checked
+        (jobOf site run surface (now (diffuse .entry)) (now (direct .entry)) (now (reflectivity .entry)) (now (sectors .entry)) (now (window .entry)))
+        (now (results .entry)) ⌝ }
 {
     if !site_fine(site) {
         return Checked::Refused(Refusal::Site);
@@ -104,17 +104,14 @@ fn check_job(
     if !(sectors_fine(sectors) & window_fine(window)) {
         return Checked::Refused(Refusal::Object);
     }
-    let count = steps.count;
     check_series(
-        site,
+        site.start_day as u32,
+        site.time_series_step,
         run,
-        count,
-        surface,
+        steps.count,
         diffuse,
         direct,
         reflectivity,
-        sectors,
-        window,
         results,
     )
 }
@@ -146,7 +143,9 @@ fn run_steps(
     requires { ⌜ count ≤ 35137 ⌝ }
     requires { ⌜ sectorsFine (now sectors) ≡ true ⌝ }
     requires { ⌜ windowFine (now window) ≡ true ⌝ }
-    ensures { λ r. ⌜ ran r (now (results .exit)) ≡ runFrom count (jobOf site run surface (now (diffuse .entry)) (now (direct .entry)) (now (reflectivity .entry)) (now (sectors .entry)) (now (window .entry))) 0 (run .start) (whole 0) (now (results .entry)) ⌝ }
+    ensures { λ r. ⌜ ran r (now (results .exit)) ≡ runFrom count
+        (jobOf site run surface (now (diffuse .entry)) (now (direct .entry)) (now (reflectivity .entry)) (now (sectors .entry)) (now (window .entry)))
+        0 (run .start) (whole 0) (now (results .entry)) ⌝ }
 {
     let objects = window_of(window);
     let n = sector_count(sectors);
@@ -221,7 +220,9 @@ pub fn run_job(
     window: &[u8],
     results: &mut [u8],
 ) -> RunAnswer
-    ensures { λ r. ⌜ ran r (now (results .exit)) ≡ runOf (jobOf site run surface (now (diffuse .entry)) (now (direct .entry)) (now (reflectivity .entry)) (now (sectors .entry)) (now (window .entry))) (now (results .entry)) ⌝ }
+    ensures { λ r. ⌜ ran r (now (results .exit)) ≡ runOf
+        (jobOf site run surface (now (diffuse .entry)) (now (direct .entry)) (now (reflectivity .entry)) (now (sectors .entry)) (now (window .entry)))
+        (now (results .entry)) ⌝ }
 {
     let answer = check_job(
         site,

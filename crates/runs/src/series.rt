@@ -1,20 +1,12 @@
 // The three weather series at all steps (refusals 5 and 6).
 ghost use mathlib.Core.Path.{_≡_};
-ghost use Rattle.simulation_time.specs.Steps.{timesFrom, atAll};
-ghost use Rattle.simulation_time.specs.Timestep.{seriesIndex};
-ghost use Rattle.jobs.specs.Series.{inSeries, readSeries};
-ghost use Rattle.jobs.specs.Checks.{readingFine};
+ghost use Rattle.simulation_time.specs.Steps.{timesFrom};
+ghost use Rattle.jobs.specs.Checks.{indicesFine, readingsFine};
 use simulation_time::run::Run;
 use simulation_time::timestep::time_series_idx;
-use steps::series::read_series;
-use steps::series::reading_fine;
-use words::word_count;
-
-fn in_series(diffuse: &[u8], direct: &[u8], reflectivity: &[u8], i: usize) -> bool
-    ensures { λ r. ⌜ r ≡ inSeries (now (diffuse .entry)) (now (direct .entry)) (now (reflectivity .entry)) i ⌝ }
-{
-    (i < word_count(diffuse)) & (i < word_count(direct)) & (i < word_count(reflectivity))
-}
+use weather::in_series;
+use weather::read_series;
+use weather::reading_fine;
 
 // Of all steps: whether every index is on all three series, and whether every value is in its range.
 pub struct SeriesFine {
@@ -22,6 +14,7 @@ pub struct SeriesFine {
     pub readings: bool,
 }
 
+// Looks at the first `count` steps of a run; the series' step is in hours.
 pub fn series_fine(
     run: Run,
     count: u64,
@@ -31,8 +24,10 @@ pub fn series_fine(
     direct: &[u8],
     reflectivity: &[u8],
 ) -> SeriesFine
-    ensures { λ r. ⌜ (r .indices ≡ atAll (λ time. inSeries (now (diffuse .entry)) (now (direct .entry)) (now (reflectivity .entry)) (seriesIndex time «start_day» «series_step»)) (timesFrom count (run .step) (run .start)))
-        × (r .readings ≡ atAll (λ time. readingFine (readSeries (now (diffuse .entry)) (now (direct .entry)) (now (reflectivity .entry)) (seriesIndex time «start_day» «series_step»))) (timesFrom count (run .step) (run .start))) ⌝ }
+    ensures { λ r. ⌜ (r .indices ≡ indicesFine «start_day» «series_step» (now (diffuse .entry)) (now (direct .entry)) (now (reflectivity .entry))
+        (timesFrom count (run .step) (run .start)))
+        × (r .readings ≡ readingsFine «start_day» «series_step» (now (diffuse .entry)) (now (direct .entry)) (now (reflectivity .entry))
+        (timesFrom count (run .step) (run .start))) ⌝ }
 {
     let mut indices = true;
     let mut readings = true;

@@ -22,5 +22,7 @@ sunFine altitude azimuth = within (whole 0) (whole 90) altitude && within (neg (
 unfoldable pub factorCall : Float → Float → Surface → List ℕ → List ℕ → FactorAnswer
 factorCall altitude azimuth surface sectors window =
     cond (sunFine altitude azimuth && surfaceFine surface)
-    (cond (sectorsFine sectors && windowFine window) (shadingFactor surface altitude azimuth (sectorsOf sectors) (windowObjectsOf window)) (Refused refusal.Object))
+    (cond (sectorsFine sectors && windowFine window)
+    (shadingFactor surface altitude azimuth (sectorsOf sectors) (windowObjectsOf window))
+    (Refused refusal.Object))
     (Refused refusal.Surface)

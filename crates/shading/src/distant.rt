@@ -55,7 +55,7 @@ fn with_object(
     }
 }
 
-// The largest shades of a sector's counted objects.
+// The largest shades of a sector's counted objects, in metres.
 pub fn distant_shades(surface: Surface, sun: SunOnSurface, segment: ShadingSegment) -> DistantShades
     ensures { λ r. ⌜ (r .obstacle ≡ largestOf (whole 0) (obstacleExtents surface sun (counted segment)))
         × (r .overhang ≡ largestOf (whole 0) (overhangExtents surface sun (counted segment))) ⌝ }

@@ -12,6 +12,7 @@ pub struct SunOnSurface {
     pub tan_difference: f64,
 }
 
+// By the sun's altitude and its azimuth from south, in degrees.
 pub fn sun_on(surface: Surface, altitude: f64, azimuth: f64) -> SunOnSurface
     ensures { λ r. ⌜ r ≡ sunOn surface altitude azimuth ⌝ }
 {

@@ -80,7 +80,7 @@ fn with_object(shades: WindowShades, sun: SunOnSurface, object: WindowShadingObj
     }
 }
 
-// The largest extents of the objects at the window; the overhangs' from that of the distant ones on.
+// The largest extents in metres of the objects at the window; the overhangs' from that of the distant ones on.
 pub fn window_shades(sun: SunOnSurface, overhang: f64, window: WindowShading) -> WindowShades
     ensures { λ r. ⌜ (r .overhang ≡ largestOf overhang (windowOverhangExtents sun (placed window)))
         × (r .right ≡ largestOf (whole 0) (rightFinExtents sun (placed window)))

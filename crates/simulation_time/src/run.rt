@@ -9,7 +9,7 @@ pub struct Run {
     pub step: f64,
 }
 
-// Start 0..8784, end above 0 and up to 8784, step 0.25..24.
+// Start 0..8784, end above 0 and up to 8784, step 0.25..24, in hours.
 pub fn run_fine(run: Run) -> bool
     ensures { λ r. ⌜ r ≡ runFine run ⌝ }
 {

@@ -24,7 +24,7 @@ fn as_usize(x: f64) -> usize
     if 0.0 < x { 18446744073709551615 } else { 0 }
 }
 
-// The hour of the year that a time is in, both from 0.
+// The hour of the year that a time in hours is in, both from 0.
 pub fn current_hour(time: f64) -> u32
     ensures { λ r. ⌜ r ≡ currentHour time ⌝ }
 {

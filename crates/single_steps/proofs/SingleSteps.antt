@@ -8,7 +8,7 @@ use lib.Ieee.{Float}
 use lib.Ieee.Bits.{is-true}
 use lib.Ieee.Fits.{and-l, and-r}
 use Rattle.words.specs.Words.{wordCount}
-use Rattle.jobs.specs.Checks.{readingFine}
+use Rattle.weather.specs.Weather.{readingFine}
 use Rattle.sun.specs.declared.site.Site.{Site}
 use Rattle.sun.specs.Site.{siteFine}
 use Rattle.objects.specs.declared.surface.Surface.{Surface}
@@ -16,10 +16,11 @@ use Rattle.objects.specs.declared.answers.Refusal.{Refusal}
 use Rattle.objects.specs.declared.answers.Refusal.the-variants as refusal
 use Rattle.objects.specs.Surface.{surfaceFine}
 use Rattle.object_checks.specs.Checks.{sectorsFine, windowFine}
-use Rattle.jobs.specs.declared.answers.Reading.{Reading}
+use Rattle.weather.specs.declared.Reading.{Reading}
 use Rattle.single_steps.specs.declared.Single.{Single}
-use Rattle.single_steps.specs.declared.Single.the-variants.{Stored, Refused}
-use Rattle.single_steps.specs.Single.{timeFine, first, stepChecked, called, storedStep, unlessRefused, stepCall}
+use Rattle.single_steps.specs.declared.Single.the-variants.{Accepted, Refused}
+use Rattle.single_steps.specs.Single.{timeFine, stepChecked, called, storedStep, unlessRefused, stepCall}
+use Rattle.jobs.specs.Checks.{tried}
 use Rattle.jobs.specs.Job.{Job, readingAt}
 use Rattle.jobs.specs.Step.{stepAt}
 use Rattle.jobs.specs.Run.{putRow, runOf}
@@ -27,29 +28,29 @@ use Rattle.simulation_time.specs.Steps.{timeAt}
 use Rattle.jobs.proofs.RowStores.{Holding}
 use Rattle.jobs.proofs.RunLaws.{rowAt, filled, run-rows}
 
-isStored : Single → Bool
-isStored Stored = true
-isStored (Refused r) = false
+isAccepted : Single → Bool
+isAccepted Accepted = true
+isAccepted (Refused r) = false
 
-after : (fine : Bool) (r : Refusal) (next : Single) → first fine r next ≡ Stored → next ≡ Stored
-unfolding first isStored
+after : (fine : Bool) (r : Refusal) (next : Single) → tried Refused fine r next ≡ Accepted → next ≡ Accepted
+unfolding tried isAccepted
 after true r next e = e
-after false r next e = absurd (subst T (sym (ap isStored e)) tt)
+after false r next e = absurd (subst T (sym (ap isAccepted e)) tt)
 
-passes : (fine : Bool) (r : Refusal) (next : Single) → first fine r next ≡ Stored → fine ≡ true
-unfolding first isStored
+passes : (fine : Bool) (r : Refusal) (next : Single) → tried Refused fine r next ≡ Accepted → fine ≡ true
+unfolding tried isAccepted
 passes true r next e = refl
-passes false r next e = absurd (subst T (sym (ap isStored e)) tt)
+passes false r next e = absurd (subst T (sym (ap isAccepted e)) tt)
 
 -- the lists are fine
 pub lists-passed : (site : Site) (time : Float) (surface : Surface) (reading : Reading) (sectors window results : List ℕ)
-    → stepChecked site time surface reading sectors window results ≡ Stored → (sectorsFine sectors ≡ true) × (windowFine window ≡ true)
+    → stepChecked site time surface reading sectors window results ≡ Accepted → (sectorsFine sectors ≡ true) × (windowFine window ≡ true)
 unfolding stepChecked
 lists-passed site time surface reading sectors window results e =
-    let read : Single = first (readingFine reading) refusal.Reading (first (leb 6 (wordCount results)) refusal.Results Stored) in
-    let shaded : Single = first (sectorsFine sectors && windowFine window) refusal.Object read in
-    let faced : Single = first (surfaceFine surface) refusal.Surface shaded in
-    let timed : Single = first (timeFine site time) refusal.Run faced in
+    let read : Single = tried Refused (readingFine reading) refusal.Reading (tried Refused (leb 6 (wordCount results)) refusal.Results Accepted) in
+    let shaded : Single = tried Refused (sectorsFine sectors && windowFine window) refusal.Object read in
+    let faced : Single = tried Refused (surfaceFine surface) refusal.Surface shaded in
+    let timed : Single = tried Refused (timeFine site time) refusal.Run faced in
     let both =
     passes (sectorsFine sectors && windowFine window) refusal.Object read
     (after (surfaceFine surface) refusal.Surface shaded (after (timeFine site time) refusal.Run faced (after (siteFine site) refusal.Site timed e)))
@@ -61,10 +62,10 @@ lists-passed site time surface reading sectors window results e =
 pub record RunsRow (job : Job) (r s : List ℕ) (i : ℕ) : Type 0 where
   pub held : Holding (runOf job r .results) i (rowAt job i)
   pub stored : stepCall (job .site) (timeAt (job .run) i) (job .surface) (readingAt job (timeAt (job .run) i)) (job .sectors) (job .window) s
-      ≡ called Stored (putRow s 0 (rowAt job i))
+      ≡ called Accepted (putRow s 0 (rowAt job i))
 
 pub runs-row : (job : Job) (r s : List ℕ) (i : ℕ) → i < filled (runOf job r .answer)
-    → stepChecked (job .site) (timeAt (job .run) i) (job .surface) (readingAt job (timeAt (job .run) i)) (job .sectors) (job .window) s ≡ Stored
+    → stepChecked (job .site) (timeAt (job .run) i) (job .surface) (readingAt job (timeAt (job .run) i)) (job .sectors) (job .window) s ≡ Accepted
     → RunsRow job r s i
 unfolding stepCall unlessRefused storedStep stepAt
 runs-row job r s i h e = let p = run-rows job r i h in record { held = p .held; stored = rw (e, p .has-row) refl }

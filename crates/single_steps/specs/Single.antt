@@ -1,5 +1,5 @@
 -- The calls for one step: its row, or its irradiance with the breakdown. On a refusal nothing is stored.
-use mathlib.Core.Bool.{Bool, cond, _&&_}
+use mathlib.Core.Bool.{Bool, _&&_}
 use mathlib.Core.List.{List}
 use Prim.Native.Nat.{ℕ}
 use lib.Dec.{leb, ltb}
@@ -13,23 +13,23 @@ use Rattle.sun.specs.Site.{siteFine, hoursInYear}
 use Rattle.irradiance.specs.declared.parts.Irradiance.{Irradiance}
 use Rattle.simulation_time.specs.Timestep.{currentHour}
 use Rattle.objects.specs.declared.surface.Surface.{Surface}
-use Rattle.objects.specs.declared.answers.Refusal.{Refusal}
 use Rattle.objects.specs.declared.answers.Refusal.the-variants as refusal
 use Rattle.objects.specs.Surface.{surfaceFine}
 use Rattle.object_checks.specs.Checks.{sectorsFine, windowFine}
 use Rattle.objects.specs.Refusals.{numberOf}
-use Rattle.jobs.specs.declared.answers.Reading.{Reading}
+use Rattle.weather.specs.declared.Reading.{Reading}
 use Rattle.jobs.specs.declared.answers.StepAnswer.{StepAnswer}
 use Rattle.jobs.specs.declared.answers.StepAnswer.the-variants as step
 use Rattle.single_steps.specs.declared.Single.{Single}
-use Rattle.single_steps.specs.declared.Single.the-variants.{Stored, Refused}
-use Rattle.jobs.specs.Checks.{readingFine}
+use Rattle.single_steps.specs.declared.Single.the-variants.{Accepted, Refused}
+use Rattle.weather.specs.Weather.{readingFine}
+use Rattle.jobs.specs.Checks.{tried}
 use Rattle.jobs.specs.Step.{sunAt, irradianceAt, stepWith}
 use Rattle.jobs.specs.Run.{putRow}
 
--- 0 where the results are stored
+-- 0 where the call is accepted: its results are then stored
 unfoldable pub singleNumber : Single → ℕ
-singleNumber Stored = 0
+singleNumber Accepted = 0
 singleNumber (Refused r) = numberOf r
 
 -- ---- the checks
@@ -39,32 +39,28 @@ unfoldable pub timeFine : Site → Float → Bool
 unfolding within whole
 timeFine site time = within (whole 0) (whole 8784) time && ltb (currentHour time) (hoursInYear site)
 
--- a refusal where a test fails, else what comes next
-unfoldable pub first : Bool → Refusal → Single → Single
-first fine r next = cond fine next (Refused r)
-
 -- 1, 2, 3, 4, 6, 7: six words for a row
 unfoldable pub stepChecked : Site → Float → Surface → Reading → List ℕ → List ℕ → List ℕ → Single
-unfolding first
+unfolding tried
 stepChecked site time surface reading sectors window results =
-    first (siteFine site) refusal.Site
-    (first (timeFine site time) refusal.Run
-    (first (surfaceFine surface) refusal.Surface
-    (first (sectorsFine sectors && windowFine window) refusal.Object
-    (first (readingFine reading) refusal.Reading
-    (first (leb 6 (wordCount results)) refusal.Results
-    Stored)))))
+    tried Refused (siteFine site) refusal.Site
+    (tried Refused (timeFine site time) refusal.Run
+    (tried Refused (surfaceFine surface) refusal.Surface
+    (tried Refused (sectorsFine sectors && windowFine window) refusal.Object
+    (tried Refused (readingFine reading) refusal.Reading
+    (tried Refused (leb 6 (wordCount results)) refusal.Results
+    Accepted)))))
 
 -- 1, 2, 3, 6, 7: nine words for the breakdown
 unfoldable pub irradianceChecked : Site → Float → Surface → Reading → List ℕ → Single
-unfolding first
+unfolding tried
 irradianceChecked site time surface reading results =
-    first (siteFine site) refusal.Site
-    (first (timeFine site time) refusal.Run
-    (first (surfaceFine surface) refusal.Surface
-    (first (readingFine reading) refusal.Reading
-    (first (leb 9 (wordCount results)) refusal.Results
-    Stored))))
+    tried Refused (siteFine site) refusal.Site
+    (tried Refused (timeFine site time) refusal.Run
+    (tried Refused (surfaceFine surface) refusal.Surface
+    (tried Refused (readingFine reading) refusal.Reading
+    (tried Refused (leb 9 (wordCount results)) refusal.Results
+    Accepted))))
 
 -- ---- the calls
 
@@ -78,11 +74,12 @@ called answer results = record { answer = answer; results = results }
 
 -- a step's row, or its refusal (8 to 11)
 unfoldable pub storedStep : StepAnswer → List ℕ → Called
-storedStep (step.Row row) results = called Stored (putRow results 0 row)
+storedStep (step.Row row) results = called Accepted (putRow results 0 row)
 storedStep (step.Refused r) results = called (Refused r) results
 
+-- what the checks refuse stores nothing
 unfoldable pub unlessRefused : Single → List ℕ → Called → Called
-unlessRefused Stored results next = next
+unlessRefused Accepted results next = next
 unlessRefused (Refused r) results next = called (Refused r) results
 
 -- the step is the run's at that time
@@ -107,4 +104,4 @@ putBreakdown results sun parts =
 unfoldable pub irradianceCall : Site → Float → Surface → Reading → List ℕ → Called
 irradianceCall site time surface reading results =
     unlessRefused (irradianceChecked site time surface reading results) results
-    (called Stored (putBreakdown results (sunAt site time) (irradianceAt site surface time reading)))
+    (called Accepted (putBreakdown results (sunAt site time) (irradianceAt site surface time reading)))

@@ -2,10 +2,12 @@
 ghost use mathlib.Core.Path.{_≡_};
 ghost use mathlib.Core.Bool.{true};
 ghost use Rattle.object_checks.specs.Checks.{sectorsFine, windowFine};
+ghost use Rattle.jobs.specs.Checks.{tried};
 ghost use Rattle.jobs.specs.Step.{sunAt, irradianceAt, stepWith};
-ghost use Rattle.single_steps.specs.Single.{singleNumber, timeFine, first, stepChecked, irradianceChecked, called, storedStep, stepCall, putBreakdown, irradianceCall};
+ghost use Rattle.single_steps.specs.declared.Single.the-variants.{Refused};
+ghost use Rattle.single_steps.specs.Single.{singleNumber, timeFine, stepChecked, irradianceChecked, called, storedStep};
+ghost use Rattle.single_steps.specs.Single.{stepCall, putBreakdown, irradianceCall};
 use irradiance::parts::Irradiance;
-use jobs::answers::Reading;
 use jobs::answers::StepAnswer;
 use object_checks::sectors_fine;
 use object_checks::window_fine;
@@ -22,37 +24,41 @@ use steps::kept::kept_day;
 use steps::kept::kept_hour;
 use steps::rows::step_row;
 use steps::rows::store_row;
-use steps::series::reading_fine;
 use sun::hour::Hour;
 use sun::site::Site;
 use sun::site::hours_in_year;
 use sun::site::site_fine;
+use weather::Reading;
+use weather::reading_fine;
 use words::store_double;
 use words::word_count;
 
-// Whether the results are stored, or why not.
+// Accepted, or why not: the answer of the checks, and of a call, which has then stored its results.
 pub enum Single {
-    Stored,
+    Accepted,
     Refused(Refusal),
 }
 
+// 0 where the call is accepted, else the refusal's number.
 pub fn single_number(answer: Single) -> u64
     ensures { λ r. ⌜ r ≡ singleNumber answer ⌝ }
 {
     match answer {
-        Single::Stored => 0,
+        Single::Accepted => 0,
         Single::Refused(refusal) => number_of(refusal),
     }
 }
 
+// Refusal 2 of one step: its time, in hours, is in the year.
 fn time_fine(site: Site, time: f64) -> bool
     ensures { λ r. ⌜ r ≡ timeFine site time ⌝ }
 {
     (0.0 <= time) & (time <= 8784.0) & (current_hour(time) < hours_in_year(site))
 }
 
+// The refusal where a test fails, else what comes next.
 fn first(fine: bool, refusal: Refusal, next: Single) -> Single
-    ensures { λ r. ⌜ r ≡ first fine refusal next ⌝ }
+    ensures { λ r. ⌜ r ≡ tried Refused fine refusal next ⌝ }
 {
     if fine {
         return next;
@@ -71,7 +77,7 @@ fn check_step(
 ) -> Single
     ensures { λ r. ⌜ r ≡ stepChecked site time surface reading (now (sectors .entry)) (now (window .entry)) (now (results .entry)) ⌝ }
 {
-    let room = first(6 <= word_count(results), Refusal::Results, Single::Stored);
+    let room = first(6 <= word_count(results), Refusal::Results, Single::Accepted);
     let read = first(reading_fine(reading), Refusal::Reading, room);
     let objects_fine = sectors_fine(sectors) & window_fine(window);
     let shaded = first(objects_fine, Refusal::Object, read);
@@ -89,7 +95,7 @@ fn check_irradiance(
 ) -> Single
     ensures { λ r. ⌜ r ≡ irradianceChecked site time surface reading (now (results .entry)) ⌝ }
 {
-    let room = first(9 <= word_count(results), Refusal::Results, Single::Stored);
+    let room = first(9 <= word_count(results), Refusal::Results, Single::Accepted);
     let read = first(reading_fine(reading), Refusal::Reading, room);
     let faced = first(surface_fine(surface), Refusal::Surface, read);
     let timed = first(time_fine(site, time), Refusal::Run, faced);
@@ -131,7 +137,7 @@ fn store_step(answer: StepAnswer, results: &mut [u8]) -> Single
         StepAnswer::Refused(refusal) => Single::Refused(refusal),
         StepAnswer::Row(row) => {
             store_row(results, 0, row);
-            Single::Stored
+            Single::Accepted
         }
     }
 }
@@ -146,12 +152,13 @@ pub fn step_call(
     window: &[u8],
     results: &mut [u8],
 ) -> Single
-    ensures { λ r. ⌜ called r (now (results .exit)) ≡ stepCall site time surface reading (now (sectors .entry)) (now (window .entry)) (now (results .entry)) ⌝ }
+    ensures { λ r. ⌜ called r (now (results .exit))
+        ≡ stepCall site time surface reading (now (sectors .entry)) (now (window .entry)) (now (results .entry)) ⌝ }
 {
     let tested = check_step(site, time, surface, reading, sectors, window, results);
     match tested {
         Single::Refused(refusal) => Single::Refused(refusal),
-        Single::Stored => store_step(
+        Single::Accepted => store_step(
             step_with(site, time, surface, reading, sectors, window),
             results,
         ),
@@ -206,12 +213,12 @@ pub fn irradiance_call(
     let tested = check_irradiance(site, time, surface, reading, results);
     match tested {
         Single::Refused(refusal) => Single::Refused(refusal),
-        Single::Stored => {
+        Single::Accepted => {
             let both = irradiance_with(site, time, surface, reading);
             let sun = both.sun;
             let parts = both.parts;
             store_breakdown(results, sun, parts);
-            Single::Stored
+            Single::Accepted
         }
     }
 }

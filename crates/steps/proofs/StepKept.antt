@@ -12,7 +12,7 @@ use Rattle.objects.specs.declared.sectors.ShadingSegment.{ShadingSegment}
 use Rattle.objects.specs.declared.window.WindowShadingObject.{WindowShadingObject}
 use Rattle.objects.specs.Records.{sectorsOf, windowObjectsOf}
 use Rattle.shading.specs.Factor.{shadingFactor}
-use Rattle.jobs.specs.declared.answers.Reading.{Reading}
+use Rattle.weather.specs.declared.Reading.{Reading}
 use Rattle.jobs.specs.declared.answers.StepAnswer.{StepAnswer}
 use Rattle.jobs.specs.Step.{sunAt, irradianceAt, shadingAt, stepWith}
 use Rattle.steps.specs.declared.kept.Fixed.{Fixed}

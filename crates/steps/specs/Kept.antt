@@ -11,7 +11,7 @@ use Rattle.irradiance.specs.Surface.{incidenceOf}
 use Rattle.irradiance.specs.Parts.{irradianceOf}
 use Rattle.objects.specs.declared.surface.Surface.{Surface}
 use Rattle.objects.specs.declared.answers.FactorAnswer.{FactorAnswer}
-use Rattle.jobs.specs.declared.answers.Reading.{Reading}
+use Rattle.weather.specs.declared.Reading.{Reading}
 use Rattle.jobs.specs.declared.answers.StepAnswer.{StepAnswer}
 use Rattle.jobs.specs.Step.{rowWith}
 use Rattle.steps.specs.declared.kept.Fixed.{Fixed}

@@ -7,12 +7,13 @@ use angles::SinCos;
 use days::Day;
 use irradiance::parts::Irradiance;
 use irradiance::surface::Incidence;
-use jobs::answers::Reading;
 use objects::surface::Surface;
 use sun::hour::Hour;
 use sun::hour::sin_cos_of_degrees;
 use sun::site::Site;
+use weather::Reading;
 
+// Of site and surface: the sines and cosines of three angles, and the time shift in hours.
 pub struct Fixed {
     pub latitude: SinCos,
     pub tilt: SinCos,
@@ -20,6 +21,7 @@ pub struct Fixed {
     pub time_shift: f64,
 }
 
+// What stays the same for a whole run.
 pub fn fixed_of(site: Site, surface: Surface) -> Fixed
     ensures { λ r. ⌜ r ≡ fixedOf site surface ⌝ }
 {
@@ -42,6 +44,7 @@ pub struct KeptDay {
     pub declination: SinCos,
 }
 
+// What stays the same for a day, by its index.
 pub fn kept_day(index: u32) -> KeptDay
     ensures { λ r. ⌜ r ≡ keptDay index ⌝ }
 {
@@ -100,7 +103,7 @@ pub fn kept_hour(site: Site, surface: Surface, fixed: Fixed, day: KeptDay, hour:
     }
 }
 
-// The irradiance at a step, by what is kept and the series' values.
+// The irradiance at a step in W/m², by what is kept and the series' values.
 pub fn irradiance_kept(
     fixed: Fixed,
     conversion: u64,

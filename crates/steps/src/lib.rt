@@ -1,4 +1,3 @@
 // What one step needs, for a run and for the calls for one step.
 pub mod kept;
 pub mod rows;
-pub mod series;

@@ -2,20 +2,20 @@
 ghost use mathlib.Core.Path.{_≡_};
 ghost use Prim.Native.Nat.{_<_, _≤_};
 ghost use Rattle.simulation_time.specs.Timestep.{seriesIndex};
-ghost use Rattle.jobs.specs.Series.{readSeries};
+ghost use Rattle.weather.specs.Weather.{readSeries};
 ghost use Rattle.jobs.specs.Step.{rowWith};
 ghost use Rattle.steps.specs.Kept.{irradianceKept, stepKept};
 ghost use Rattle.jobs.specs.Run.{putRow};
 use crate::kept::Fixed;
 use crate::kept::KeptHour;
 use crate::kept::irradiance_kept;
-use crate::series::read_series;
-use jobs::answers::Reading;
 use jobs::answers::Row;
 use jobs::answers::StepAnswer;
 use objects::answers::FactorAnswer;
 use simulation_time::timestep::time_series_idx;
 use sun::site::Site;
+use weather::Reading;
+use weather::read_series;
 use words::store_double;
 
 // The step's row where its hour has a factor.
@@ -44,7 +44,7 @@ pub fn step_row(
     }
 }
 
-// The step at a time, whose hour is kept.
+// The step at a time in hours, whose hour is kept.
 pub fn step_at(
     site: Site,
     fixed: Fixed,
@@ -57,7 +57,8 @@ pub fn step_at(
 ) -> StepAnswer
     requires { ⌜ site .«start_day» ≤ 365 ⌝ }
     ensures { λ r. ⌜ r ≡ stepKept site fixed kept factor
-        (readSeries (now (diffuse .entry)) (now (direct .entry)) (now (reflectivity .entry)) (seriesIndex time (site .«start_day») (site .«time_series_step»))) ⌝ }
+        (readSeries (now (diffuse .entry)) (now (direct .entry)) (now (reflectivity .entry))
+        (seriesIndex time (site .«start_day») (site .«time_series_step»))) ⌝ }
 {
     let index = time_series_idx(time, site.start_day as u32, site.time_series_step);
     let reading = read_series(diffuse, direct, reflectivity, index);

@@ -51,7 +51,7 @@ fn is_night(altitude: f64) -> bool
     altitude < 0.0001
 }
 
-// The sun above the horizon, 0 at night.
+// The sun above the horizon in degrees, 0 at night.
 pub fn init_solar_altitude(latitude: f64, solar_declination: f64, solar_hour_angle: f64) -> f64
     ensures { λ r. ⌜ r ≡ solarAltitude latitude «solar_declination» «solar_hour_angle» ⌝ }
 {
@@ -64,7 +64,7 @@ pub fn init_solar_altitude(latitude: f64, solar_declination: f64, solar_hour_ang
     if is_night(altitude) { 0.0 } else { altitude }
 }
 
-// The angle between the sun and the point overhead.
+// The angle between the sun and the point overhead, in degrees.
 pub fn init_solar_zenith_angle(solar_altitude: f64) -> f64
     ensures { λ r. ⌜ r ≡ solarZenith «solar_altitude» ⌝ }
 {
@@ -99,7 +99,7 @@ fn azimuth_from(l: SinCos, d: SinCos, w: SinCos, arc_sine: f64, denominator: f64
     )
 }
 
-// From south, eastwards positive.
+// From south, eastwards positive, in degrees.
 pub fn init_solar_azimuth_angle(
     latitude: f64,
     solar_declination: f64,

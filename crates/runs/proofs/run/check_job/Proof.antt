@@ -64,23 +64,30 @@ returns-4 c =
     let surface = sym (c .before .before .before .before .surface-fine .ensures) ∙ not-false _ (c .before .before .before .if3 .left) in
     object-refused (job s) (now (s .args .results)) site steps surface (sym (ap₂ _&&_ (c .before .before .sectors-fine .ensures) (c .before .window-fine .ensures)) ∙ not-true _ (c .if4 .taken))
 
+cast-check-series : tie.Need-cast-check-series
+cast-check-series c =
+    let s = c .before .before .before .before .before .before .before .before .before .before .before .before .before .before .before .before .before .before in
+    let site = sym (c .before .before .before .before .before .before .before .before .before .before .before .site-fine .ensures) ∙ not-false _ (c .before .before .before .before .before .before .before .before .before .before .if1 .left) in
+    let day = start-day (s .args .site) (subst T (sym site) tt) in
+    search needs
+
 check-series-requires : tie.Need-check-series-requires
 unfolding checkedRun
 check-series-requires c κs =
-    let s = c .before .before .before .before .before .before .before .before .before .before .before .before .before .before .before .before .before in
-    let site = sym (c .before .before .before .before .before .before .before .before .before .before .site-fine .ensures) ∙ not-false _ (c .before .before .before .before .before .before .before .before .before .if1 .left) in
-    let h = c .before .before .before .before .before .before .before .check-run .ensures ∙ ap (λ n. checkedRun n (s .args .run)) (c .before .before .before .before .before .before .before .before .hours-in-year .ensures) in let steps : runAccepted (hoursInYear (s .args .site)) (s .args .run) ≡ true = sym (ap (λ x. x .fine) h) ∙ not-false _ (c .before .before .before .before .before .if2 .left) in
-    (start-day (s .args .site) (subst T (sym site) tt), ap (λ x. x .count) h ∙ checked-count (hoursInYear (s .args .site)) (s .args .run) steps)
+    let s = c .before .before .before .before .before .before .before .before .before .before .before .before .before .before .before .before .before .before in
+    let site = sym (c .before .before .before .before .before .before .before .before .before .before .before .site-fine .ensures) ∙ not-false _ (c .before .before .before .before .before .before .before .before .before .before .if1 .left) in
+    let h = c .before .before .before .before .before .before .before .before .check-run .ensures ∙ ap (λ n. checkedRun n (s .args .run)) (c .before .before .before .before .before .before .before .before .before .hours-in-year .ensures) in let steps : runAccepted (hoursInYear (s .args .site)) (s .args .run) ≡ true = sym (ap (λ x. x .fine) h) ∙ not-false _ (c .before .before .before .before .before .before .if2 .left) in
+    ap (λ x. x .count) h ∙ checked-count (hoursInYear (s .args .site)) (s .args .run) steps
 
 returns-5 : tie.Need-returns-5
 unfolding checkedRun
 returns-5 c =
-    let s = c .before .before .before .before .before .before .before .before .before .before .before .before .before .before .before .before .before .before in
-    let site = sym (c .before .before .before .before .before .before .before .before .before .before .before .site-fine .ensures) ∙ not-false _ (c .before .before .before .before .before .before .before .before .before .before .if1 .left) in
-    let h = c .before .before .before .before .before .before .before .before .check-run .ensures ∙ ap (λ n. checkedRun n (s .args .run)) (c .before .before .before .before .before .before .before .before .before .hours-in-year .ensures) in let steps : runAccepted (hoursInYear (s .args .site)) (s .args .run) ≡ true = sym (ap (λ x. x .fine) h) ∙ not-false _ (c .before .before .before .before .before .before .if2 .left) in
-    let surface = sym (c .before .before .before .before .before .surface-fine .ensures) ∙ not-false _ (c .before .before .before .before .if3 .left) in
+    let s = c .before .before .before .before .before .before .before .before .before .before .before .before .before .before .before .before .before .before .before in
+    let site = sym (c .before .before .before .before .before .before .before .before .before .before .before .before .site-fine .ensures) ∙ not-false _ (c .before .before .before .before .before .before .before .before .before .before .before .if1 .left) in
+    let h = c .before .before .before .before .before .before .before .before .before .check-run .ensures ∙ ap (λ n. checkedRun n (s .args .run)) (c .before .before .before .before .before .before .before .before .before .before .hours-in-year .ensures) in let steps : runAccepted (hoursInYear (s .args .site)) (s .args .run) ≡ true = sym (ap (λ x. x .fine) h) ∙ not-false _ (c .before .before .before .before .before .before .before .if2 .left) in
+    let surface = sym (c .before .before .before .before .before .before .surface-fine .ensures) ∙ not-false _ (c .before .before .before .before .before .if3 .left) in
     c .check-series .ensures
-    ∙ first-passed (job s) (now (s .args .results)) site steps surface (sym (ap₂ _&&_ (c .before .before .before .sectors-fine .ensures) (c .before .before .window-fine .ensures)) ∙ not-false _ (c .before .if4 .left))
+    ∙ first-passed (job s) (now (s .args .results)) site steps surface (sym (ap₂ _&&_ (c .before .before .before .before .sectors-fine .ensures) (c .before .before .before .window-fine .ensures)) ∙ not-false _ (c .before .before .if4 .left))
 
 pub check-job-spec : {M : Type 1} → statement M
 check-job-spec =
@@ -96,5 +103,6 @@ check-job-spec =
     sectors-fine-requires
     window-fine-requires
     returns-4
+    cast-check-series
     check-series-requires
     returns-5)

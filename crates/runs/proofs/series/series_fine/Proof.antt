@@ -10,8 +10,8 @@ use denote.Ref.{now}
 use lib.Ieee.{Float}
 use Rattle.simulation_time.specs.Steps.{timesFrom, atAll}
 use Rattle.simulation_time.specs.Timestep.{seriesIndex}
-use Rattle.jobs.specs.Series.{inSeries, readSeries}
-use Rattle.jobs.specs.Checks.{readingFine}
+use Rattle.weather.specs.Weather.{inSeries, readSeries, readingFine}
+use Rattle.jobs.specs.Checks.{indicesFine, readingsFine}
 use Rattle.runs.proofs.AllSteps.{left, at-first, one-more, at-last}
 use Rattle.runs.proofs.series.series_fine.Statement.{statement}
 use Rattle.runs.proofs.series.series_fine.Tie as tie
@@ -76,6 +76,7 @@ loop-again c =
     )
 
 returns : tie.Need-returns Inv-loop μ-loop
+unfolding indicesFine readingsFine
 returns c =
     let a = c .before .before .before .before .before .args in
     let q = c .before .loop in (

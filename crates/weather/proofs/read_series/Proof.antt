@@ -1,9 +1,9 @@
 -- `read_series` meets its contract.
 use mathlib.Core.Path.{refl}
-use Rattle.jobs.specs.Series.{readSeries}
+use Rattle.weather.specs.Weather.{readSeries}
 use borrow.Author.Needs.{needs}
-use Rattle.steps.proofs.series.read_series.Statement.{statement}
-use Rattle.steps.proofs.series.read_series.Tie as tie
+use Rattle.weather.proofs.read_series.Statement.{statement}
+use Rattle.weather.proofs.read_series.Tie as tie
 
 double-at-requires : tie.Need-double-at-requires
 double-at-requires c κs = search needs

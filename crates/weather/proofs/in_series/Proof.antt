@@ -1,9 +1,9 @@
 -- `in_series` meets its contract.
 use mathlib.Core.Path.{refl}
-use Rattle.jobs.specs.Series.{inSeries}
+use Rattle.weather.specs.Weather.{inSeries}
 use borrow.Author.Needs.{needs}
-use Rattle.runs.proofs.series.in_series.Statement.{statement}
-use Rattle.runs.proofs.series.in_series.Tie as tie
+use Rattle.weather.proofs.in_series.Statement.{statement}
+use Rattle.weather.proofs.in_series.Tie as tie
 
 word-count-requires : tie.Need-word-count-requires
 word-count-requires c κs = search needs

@@ -1,9 +1,9 @@
 -- `reading_fine` meets its contract, by the definition.
 use mathlib.Core.Path.{refl}
 use lib.Ieee.{ofBits}
-use Rattle.jobs.specs.Checks.{readingFine}
-use Rattle.steps.proofs.series.reading_fine.Statement.{statement}
-use Rattle.steps.proofs.series.reading_fine.Tie as tie
+use Rattle.weather.specs.Weather.{readingFine}
+use Rattle.weather.proofs.reading_fine.Statement.{statement}
+use Rattle.weather.proofs.reading_fine.Tie as tie
 
 returns : tie.Need-returns
 unfolding readingFine ofBits
