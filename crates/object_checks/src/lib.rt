@@ -4,7 +4,8 @@ use words::double_at;
 use words::word_at;
 ghost use mathlib.Core.Path.{_≡_};
 ghost use Rattle.words.specs.Lists.{firstFine};
-ghost use Rattle.object_checks.specs.Checks.{windowValuesFine, windowRecordFine, windowFine, objectValuesFine, objectFine, objectUnused, tripleFine, boundsFine, sectorRecordFine, sectorsFine};
+ghost use Rattle.object_checks.specs.Checks.{windowValuesFine, windowRecordFine, windowFine};
+ghost use Rattle.object_checks.specs.Checks.{objectValuesFine, objectFine, objectUnused, tripleFine, boundsFine, sectorRecordFine, sectorsFine};
 ghost use Prim.Native.Nat.{_<_};
 
 fn window_values_fine(kind: u64, size: f64, distance: f64, transparency: f64, spare: u64) -> bool
