@@ -48,7 +48,7 @@ use Rattle.shading_laws.specs.Premises.{AllNumbers, NoNanExtent, Holds}
 use Rattle.jobs.specs.declared.answers.Checked.the-variants as check
 use Rattle.weather.specs.Weather.{inSeries, readSeries, readingFine}
 use Rattle.jobs.specs.Job.{Job, indexAt, readingAt}
-use Rattle.jobs.specs.Checks.{indicesFine, readingsFine, resultsFine, tried, checked}
+use Rattle.jobs.specs.JobChecks.{indicesFine, readingsFine, resultsFine, tried, checked}
 use Rattle.jobs.specs.Step.{sunAt, irradianceAt, shadingAt, rowWith, stepWith, stepAt}
 use Rattle.jobs.specs.Run.{numberFor, countFor, onRow, runFrom, runChecked, runOf}
 use Rattle.jobs.specs.Comparison.{countOf, sumOf, SameSeries, Alike, triple, sectorObjects, windowObject, windowObjects, HoldsAll, SameObjects, NoNan, Doubles, FiniteDirect, IsAccepted, Comparable}

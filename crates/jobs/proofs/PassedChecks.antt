@@ -30,7 +30,7 @@ use Rattle.weather.specs.Weather.{readingFine}
 use Rattle.jobs.specs.declared.answers.Checked.{Checked}
 use Rattle.jobs.specs.declared.answers.Checked.the-variants.{Steps, Refused}
 use Rattle.jobs.specs.Job.{Job, indexAt, readingAt}
-use Rattle.jobs.specs.Checks.{indicesFine, readingsFine, resultsFine, tried, checked}
+use Rattle.jobs.specs.JobChecks.{indicesFine, readingsFine, resultsFine, tried, checked}
 use Rattle.jobs.specs.Comparison.{Doubles}
 
 -- ---- the tests, one by one

@@ -23,7 +23,7 @@ use Rattle.jobs.specs.declared.answers.Checked.the-variants as check
 use Rattle.jobs.specs.declared.answers.RunAnswer.{RunAnswer}
 use Rattle.jobs.specs.declared.answers.RunAnswer.the-variants.{Accepted, Refused}
 use Rattle.jobs.specs.Job.{Job}
-use Rattle.jobs.specs.Checks.{checked}
+use Rattle.jobs.specs.JobChecks.{checked}
 use Rattle.jobs.specs.Step.{stepAt}
 use Rattle.jobs.specs.Run.{Ran, ran, putRow, withRow, onRow, runFrom, runChecked, runOf, numberFor}
 use Rattle.jobs.proofs.RowStores.{Holding, length-putRow, wordCount-putRow, byte-putRow, stored-row, kept-row}

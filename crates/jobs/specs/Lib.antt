@@ -1,7 +1,7 @@
--- A job and the checks before its first step (`Job`, `Checks`), one step (`Step`), the run over all steps (`Run`), and the claim on
+-- A job and the checks before its first step (`Job`, `JobChecks`), one step (`Step`), the run over all steps (`Run`), and the claim on
 -- two jobs compared (`Comparison`).
 pub mod Job
-pub mod Checks
+pub mod JobChecks
 pub mod Step
 pub mod Run
 pub mod Comparison

@@ -13,7 +13,7 @@ use Rattle.jobs.specs.declared.answers.Checked.the-variants as check
 use Rattle.jobs.specs.declared.answers.RunAnswer.{RunAnswer}
 use Rattle.jobs.specs.declared.answers.RunAnswer.the-variants.{Accepted, Refused}
 use Rattle.jobs.specs.Job.{Job}
-use Rattle.jobs.specs.Checks.{checked}
+use Rattle.jobs.specs.JobChecks.{checked}
 use Rattle.jobs.specs.Step.{stepAt}
 
 -- ---- the answer in the specification's numbers

@@ -19,7 +19,7 @@ use Rattle.jobs.specs.Run.{Ran, runOf, numberFor, stepFor, countFor, sumFor}
 use Rattle.jobs.specs.declared.answers.RunAnswer.{RunAnswer}
 use Rattle.text.specs.Text.{sameText, linesOf}
 use Rattle.listing.specs.Listing.{body}
-use Rattle.kept_answers.specs.Records.{listEnd, part, surfaceAt}
+use Rattle.kept_answers.specs.KeptRecords.{listEnd, part, surfaceAt}
 use Rattle.kept_answers.specs.Leaves.{leafOf}
 
 -- ---- functions of one to three doubles

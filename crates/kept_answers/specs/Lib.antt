@@ -1,3 +1,3 @@
-pub mod Records
+pub mod KeptRecords
 pub mod Leaves
 pub mod Differs

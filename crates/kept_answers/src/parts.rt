@@ -3,7 +3,7 @@ ghost use mathlib.Core.Path.{_≡_};
 ghost use Prim.Native.Nat.{_<_, _≤_};
 ghost use lib.ListN.{length};
 ghost use Rattle.words.specs.Words.{wordAt};
-ghost use Rattle.kept_answers.specs.Records.{listEnd, recordEnd, surfaceAt};
+ghost use Rattle.kept_answers.specs.KeptRecords.{listEnd, recordEnd, surfaceAt};
 use objects::surface::Surface;
 use words::double_at;
 use words::word_at;

@@ -6,7 +6,7 @@ ghost use Rattle.jobs.specs.Job.{jobOf};
 ghost use Rattle.jobs.specs.Run.{runOf};
 ghost use Rattle.jobs.specs.Comparison.{Doubles};
 ghost use Rattle.single_steps.specs.Single.{stepCall, irradianceCall};
-ghost use Rattle.pilgartze.specs.Answers.{answerFor, factorFor, runLeaves, callLeaves, siteOf, timesOf, surfaceOf, readingOf};
+ghost use Rattle.pilgartze.specs.CallAnswers.{answerFor, factorFor, runLeaves, callLeaves, siteOf, timesOf, surfaceOf, readingOf};
 ghost use Rattle.pilgartze.specs.Version.{version};
 use jobs::answers::RunAnswer;
 use objects::answers::FactorAnswer;

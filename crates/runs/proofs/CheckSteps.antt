@@ -23,7 +23,7 @@ use Rattle.object_checks.specs.Checks.{sectorsFine, windowFine}
 use Rattle.jobs.specs.declared.answers.Checked.{Checked}
 use Rattle.jobs.specs.declared.answers.Checked.the-variants.{Steps, Refused}
 use Rattle.jobs.specs.Job.{Job}
-use Rattle.jobs.specs.Checks.{indicesFine, readingsFine, resultsFine, tried, seriesChecked, checked}
+use Rattle.jobs.specs.JobChecks.{indicesFine, readingsFine, resultsFine, tried, seriesChecked, checked}
 
 module _ (day : ℕ) (step : Float) (run : Run) (diffuse direct reflectivity results : List ℕ) where
   abbrev pub IndicesAre : Bool → Type 0

@@ -7,7 +7,7 @@ ghost use Rattle.object_checks.specs.Checks.{sectorsFine, windowFine};
 ghost use Rattle.simulation_time.specs.Steps.{stepCount};
 ghost use Rattle.jobs.specs.declared.answers.RunAnswer.the-variants.{Refused};
 ghost use Rattle.jobs.specs.Job.{jobOf};
-ghost use Rattle.jobs.specs.Checks.{seriesChecked, checked};
+ghost use Rattle.jobs.specs.JobChecks.{seriesChecked, checked};
 ghost use Rattle.jobs.specs.Run.{ran, runFrom, runOf};
 use crate::series::series_fine;
 use jobs::answers::Checked;

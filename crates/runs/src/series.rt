@@ -1,7 +1,7 @@
 // The three weather series at all steps (refusals 5 and 6).
 ghost use mathlib.Core.Path.{_≡_};
 ghost use Rattle.simulation_time.specs.Steps.{timesFrom};
-ghost use Rattle.jobs.specs.Checks.{indicesFine, readingsFine};
+ghost use Rattle.jobs.specs.JobChecks.{indicesFine, readingsFine};
 use simulation_time::run::Run;
 use simulation_time::timestep::time_series_idx;
 use weather::in_series;

@@ -20,7 +20,7 @@ use Rattle.weather.specs.declared.Reading.{Reading}
 use Rattle.single_steps.specs.declared.Single.{Single}
 use Rattle.single_steps.specs.declared.Single.the-variants.{Accepted, Refused}
 use Rattle.single_steps.specs.Single.{timeFine, stepChecked, called, storedStep, unlessRefused, stepCall}
-use Rattle.jobs.specs.Checks.{tried}
+use Rattle.jobs.specs.JobChecks.{tried}
 use Rattle.jobs.specs.Job.{Job, readingAt}
 use Rattle.jobs.specs.Step.{stepAt}
 use Rattle.jobs.specs.Run.{putRow, runOf}

@@ -23,7 +23,7 @@ use Rattle.jobs.specs.declared.answers.StepAnswer.the-variants as step
 use Rattle.single_steps.specs.declared.Single.{Single}
 use Rattle.single_steps.specs.declared.Single.the-variants.{Accepted, Refused}
 use Rattle.weather.specs.Weather.{readingFine}
-use Rattle.jobs.specs.Checks.{tried}
+use Rattle.jobs.specs.JobChecks.{tried}
 use Rattle.jobs.specs.Step.{sunAt, irradianceAt, stepWith}
 use Rattle.jobs.specs.Run.{putRow}
 

@@ -2,7 +2,7 @@
 ghost use mathlib.Core.Path.{_≡_};
 ghost use mathlib.Core.Bool.{true};
 ghost use Rattle.object_checks.specs.Checks.{sectorsFine, windowFine};
-ghost use Rattle.jobs.specs.Checks.{tried};
+ghost use Rattle.jobs.specs.JobChecks.{tried};
 ghost use Rattle.jobs.specs.Step.{sunAt, irradianceAt, stepWith};
 ghost use Rattle.single_steps.specs.declared.Single.the-variants.{Refused};
 ghost use Rattle.single_steps.specs.Single.{singleNumber, timeFine, stepChecked, irradianceChecked, called, storedStep};

@@ -3,7 +3,7 @@ use mathlib.Core.Path.{sym, ap}
 use lib.Ieee.{ofBits}
 use Rattle.doubles.specs.Arithmetic.{whole}
 use Rattle.jobs.specs.Run.{numberFor, stepFor, countFor, sumFor}
-use Rattle.pilgartze.specs.Answers.{answerFor}
+use Rattle.pilgartze.specs.CallAnswers.{answerFor}
 use borrow.Author.Needs.{needs}
 use Rattle.pilgartze.proofs.answer_for.Statement.{statement}
 use Rattle.pilgartze.proofs.answer_for.Tie as tie

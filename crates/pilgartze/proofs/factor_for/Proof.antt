@@ -1,7 +1,7 @@
 -- `factor_for` meets its contract.
 use mathlib.Core.Path.{sym, ap}
 use lib.Ieee.{ofBits}
-use Rattle.pilgartze.specs.Answers.{factorFor}
+use Rattle.pilgartze.specs.CallAnswers.{factorFor}
 use borrow.Author.Needs.{needs}
 use Rattle.pilgartze.proofs.factor_for.Statement.{statement}
 use Rattle.pilgartze.proofs.factor_for.Tie as tie

@@ -2,7 +2,7 @@
 use mathlib.Core.Path.{_∙_, ap}
 use denote.Floats.{passes}
 use mir.Facts.{toZ-ofZ}
-use Rattle.pilgartze.specs.Answers.{answerFor, runLeaves}
+use Rattle.pilgartze.specs.CallAnswers.{answerFor, runLeaves}
 use borrow.Author.Needs.{needs}
 use Rattle.pilgartze.proofs.pilgartze_run.Statement.{statement}
 use Rattle.pilgartze.proofs.pilgartze_run.Tie as tie

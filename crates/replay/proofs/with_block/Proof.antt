@@ -3,7 +3,7 @@ use Prim.Native.Nat.{_-_}
 use native.Mathlib.Omega.{arith}
 use lib.ListN.{length}
 use denote.Ref.{now}
-use Rattle.kept_answers.proofs.Ends.{end-bounds}
+use Rattle.kept_answers.proofs.RecordEnds.{end-bounds}
 use Rattle.replay.proofs.with_block.Statement.{statement}
 use Rattle.replay.proofs.with_block.Tie as tie
 

@@ -1,6 +1,6 @@
 -- `first` meets its contract.
 use mathlib.Core.Path.{refl}
-use Rattle.jobs.specs.Checks.{tried}
+use Rattle.jobs.specs.JobChecks.{tried}
 use Rattle.single_steps.proofs.first.Statement.{statement}
 use Rattle.single_steps.proofs.first.Tie as tie
 

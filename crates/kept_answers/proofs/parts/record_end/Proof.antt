@@ -5,7 +5,7 @@ use denote.Ref.{now}
 use lib.ListN.{length}
 use borrow.Author.Tests.{eq-eqb, ne-eqb}
 use Rattle.words.specs.Words.{wordAt}
-use Rattle.kept_answers.specs.Records.{listEnd, part, recordEnd}
+use Rattle.kept_answers.specs.KeptRecords.{listEnd, part, recordEnd}
 use Rattle.kept_answers.proofs.parts.record_end.Statement.{statement}
 use Rattle.kept_answers.proofs.parts.record_end.Tie as tie
 

@@ -1,6 +1,6 @@
 -- `surface_at` meets its contract.
 use native.Mathlib.Omega.{arith}
-use Rattle.kept_answers.specs.Records.{surfaceAt}
+use Rattle.kept_answers.specs.KeptRecords.{surfaceAt}
 use Rattle.kept_answers.proofs.parts.surface_at.Statement.{statement}
 use Rattle.kept_answers.proofs.parts.surface_at.Tie as tie
 

@@ -7,7 +7,7 @@ use denote.Ref.{now}
 use Rattle.simulation_time.specs.Steps.{times, timesFrom}
 use Rattle.simulation_time.proofs.Times.{count-few}
 use Rattle.jobs.specs.declared.answers.Checked.the-variants.{Steps}
-use Rattle.jobs.specs.Checks.{indicesFine, readingsFine}
+use Rattle.jobs.specs.JobChecks.{indicesFine, readingsFine}
 use Rattle.runs.proofs.CheckSteps.{series-refused, reading-refused, results-refused, series-passed}
 use borrow.Author.Needs.{needs}
 use Rattle.runs.proofs.run.check_series.Statement.{statement}

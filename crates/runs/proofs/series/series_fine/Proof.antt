@@ -11,7 +11,7 @@ use lib.Ieee.{Float}
 use Rattle.simulation_time.specs.Steps.{timesFrom, atAll}
 use Rattle.simulation_time.specs.Timestep.{seriesIndex}
 use Rattle.weather.specs.Weather.{inSeries, readSeries, readingFine}
-use Rattle.jobs.specs.Checks.{indicesFine, readingsFine}
+use Rattle.jobs.specs.JobChecks.{indicesFine, readingsFine}
 use Rattle.runs.proofs.AllSteps.{left, at-first, one-more, at-last}
 use Rattle.runs.proofs.series.series_fine.Statement.{statement}
 use Rattle.runs.proofs.series.series_fine.Tie as tie

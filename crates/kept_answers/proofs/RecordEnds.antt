@@ -8,7 +8,7 @@ use borrow.Author.Tests.{eqb-false}
 use lib.Dec.{eqb}
 use lib.ListN.{length}
 use Rattle.words.specs.Words.{wordAt}
-use Rattle.kept_answers.specs.Records.{listEnd, part, recordEnd}
+use Rattle.kept_answers.specs.KeptRecords.{listEnd, part, recordEnd}
 
 pub end-bounds : (block : List ℕ) (at e : ℕ) → e ≡ recordEnd block at → at < length block → (at < e) × (e ≤ length block)
 unfolding recordEnd
