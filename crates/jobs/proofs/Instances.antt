@@ -36,7 +36,7 @@ use Rattle.objects.specs.declared.answers.FactorAnswer.the-variants as factor
 use Rattle.words.specs.Lists.{firstFine}
 use Rattle.objects.specs.Surface.{surfaceFine}
 use Rattle.object_checks.specs.Checks.{recordsFine, windowValuesFine, windowRecordFine, windowFine, objectValuesFine, objectFine, objectUnused, tripleFine, boundsFine, sectorRecordFine, sectorsFine}
-use Rattle.objects.specs.Records.{recordsFrom, filled, distantKind, objectAt, noObject, objectsFrom, segmentAt, sectorCount, sectorsOf, windowKind, windowObjectAt, windowCount, windowObjectsOf}
+use Rattle.objects.specs.Records.{recordsFrom, distantKind, objectAt, objectsFrom, segmentAt, sectorCount, sectorsOf, windowKind, windowObjectAt, windowCount, windowObjectsOf}
 use Rattle.beam.specs.Beam.{within90, outsideSolarBeam}
 use Rattle.extents.specs.Extents.{obstacleHeight, overhangHeight, windowOverhangHeight}
 use Rattle.segments.specs.Segments.{found, betweenEnds, holdsAzimuth, visit, placeFrom, placeOf, sectorAt, segmentIn, segmentOf}
@@ -135,7 +135,7 @@ room = zeros 12
 
 lists : ℕ
 unfolding word double zeros quarter metre two hundred round minus-zero wall eaves awning jobWith bare built mixed room number wordCount wordAt doubleAt ofBits sectorCount triple
-    sectorObjects windowObject windowObjects recordsFrom filled distantKind objectAt noObject objectsFrom segmentAt sectorsOf windowKind windowObjectAt windowCount windowObjectsOf
+    sectorObjects windowObject windowObjects recordsFrom distantKind objectAt objectsFrom segmentAt sectorsOf windowKind windowObjectAt windowCount windowObjectsOf
 lists = 0
 
 doubles : ℕ

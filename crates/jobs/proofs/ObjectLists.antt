@@ -19,7 +19,7 @@ use Rattle.objects.specs.declared.window.WindowShadingObject.{WindowShadingObje
 use Rattle.words.specs.Lists.{firstFine}
 use Rattle.object_checks.specs.Checks.{tripleFine, boundsFine, sectorRecordFine, sectorsFine}
 use Rattle.objects.specs.Objects.{counted}
-use Rattle.objects.specs.Records.{recordsFrom, filled, distantKind, objectAt, noObject, objectsFrom, segmentAt, sectorCount, sectorsOf, windowKind, windowObjectAt, windowCount, windowObjectsOf}
+use Rattle.objects.specs.Records.{recordsFrom, distantKind, objectAt, objectsFrom, segmentAt, sectorCount, sectorsOf, windowKind, windowObjectAt, windowCount, windowObjectsOf}
 use Rattle.segments.specs.SameSectors.{SameBounds, PlaceByPlace, none, and-then}
 use Rattle.shading_laws.specs.Premises.{Holds, MoreInSector, SameInSector}
 use Rattle.object_checks.proofs.Accepted.{length-records, member-records}
@@ -160,7 +160,7 @@ no-window l e = ap (recordsFrom (windowObjectAt l) 0) (no-records (windowObject 
 -- no counted triples, no counted objects
 no-counted : (l : List ℕ) (i : ℕ) → sectorObjects l i ≡ [] → counted (segmentAt l i) ≡ []
 unfolding sectorObjects counted segmentAt
-no-counted l i e = ap (λ (n : ℕ). take n (filled (λ (j : ℕ). objectAt l (27 * i + 3 + 3 * j)) noObject 8 n)) (no-records (λ (n : ℕ). triple l (27 * i + 3 + 3 * n)) (wordAt l (27 * i + 2)) e)
+no-counted l i e = ap (λ (n : ℕ). take n (objectsFrom l (27 * i + 3) 8)) (no-records (λ (n : ℕ). triple l (27 * i + 3 + 3 * n)) (wordAt l (27 * i + 2)) e)
 
 -- so of every sector of the list
 pub none-counted : (l : List ℕ) → ((i : ℕ) → i < sectorCount l → sectorObjects l i ≡ []) → (s : ShadingSegment) → List·Memᴰ s (sectorsOf l) → counted s ≡ []

@@ -16,8 +16,8 @@ use Rattle.objects.specs.declared.sectors.ShadingSegment.{ShadingSegment}
 use Rattle.objects.specs.Objects.{counted}
 use Rattle.words.specs.Lists.{firstFine}
 use Rattle.object_checks.specs.Checks.{objectValuesFine, objectFine, tripleFine, boundsFine, sectorRecordFine, sectorsFine}
-use Rattle.objects.specs.Records.{objectAt, objectsFrom, noObject, segmentAt, sectorCount, sectorsOf}
-use Rattle.objects.proofs.Places.{take-filled}
+use Rattle.objects.specs.Records.{objectAt, objectsFrom, segmentAt, sectorCount, sectorsOf}
+use Rattle.objects.proofs.Places.{take-records}
 use Rattle.object_checks.proofs.RecordLists.{counted-triple}
 use Rattle.object_checks.proofs.Accepted.{both-of, within-range, above-range, first-fine, few-records, record-fine, length-records, member-records}
 
@@ -27,19 +27,19 @@ pub record ObjectInRange (o : ShadingObject) : Type 0 where
   pub height-range : (whole 0 ≺ o .height) × (o .height ≼ whole 1000)
   pub distance-range : (whole 0 ≺ o .distance) × (o .distance ≼ whole 10000)
 
-object-tests : (kind : ℕ) (height distance : Float) → T (objectValuesFine kind height distance)
-    → T (aboveZero (whole 1000) height) × T (aboveZero (whole 10000) distance)
+pub object-tests : (kind : ℕ) (height distance : Float) → T (objectValuesFine kind height distance)
+    → T (leb kind 1) × T (aboveZero (whole 1000) height) × T (aboveZero (whole 10000) distance)
 unfolding objectValuesFine
 object-tests kind height distance t =
     let p = both-of (leb kind 1 && aboveZero (whole 1000) height) (aboveZero (whole 10000) distance) t in
     let q = both-of (leb kind 1) (aboveZero (whole 1000) height) (p .0) in
-    (q .1, p .1)
+    (q .0, q .1, p .1)
 
 object-in-range : (l : List ℕ) (k : ℕ) → T (objectFine l k) → ObjectInRange (objectAt l k)
 unfolding objectFine objectAt
 object-in-range l k t =
     let p = object-tests (wordAt l k) (doubleAt l (k + 1)) (doubleAt l (k + 2)) t in
-    record { height-range = above-range (whole 1000) (doubleAt l (k + 1)) (p .0); distance-range = above-range (whole 10000) (doubleAt l (k + 2)) (p .1) }
+    record { height-range = above-range (whole 1000) (doubleAt l (k + 1)) (p .1); distance-range = above-range (whole 10000) (doubleAt l (k + 2)) (p .2) }
 
 -- ---- one sector
 
@@ -49,7 +49,7 @@ pub record SectorInRange (s : ShadingSegment) : Type 0 where
   pub few-counted : s .count ≤ 8
   pub objects-in-range : (o : ShadingObject) → List·Memᴰ o (counted s) → ObjectInRange o
 
-bounds-tests : (start360 end360 : Float) (count : ℕ) → T (boundsFine start360 end360 count)
+pub bounds-tests : (start360 end360 : Float) (count : ℕ) → T (boundsFine start360 end360 count)
     → T (within (whole 0) (whole 360) start360) × T (within (whole 0) (whole 360) end360) × T (leb count 8)
 unfolding boundsFine
 bounds-tests start360 end360 count t =
@@ -60,7 +60,7 @@ bounds-tests start360 end360 count t =
 -- the counted objects are the first triples
 pub counted-objects : (l : List ℕ) (i : ℕ) → wordAt l (27 * i + 2) ≤ 8 → counted (segmentAt l i) ≡ objectsFrom l (27 * i + 3) (wordAt l (27 * i + 2))
 unfolding counted segmentAt objectsFrom
-counted-objects l i h = take-filled (λ (j : ℕ). objectAt l (27 * i + 3 + 3 * j)) noObject 8 (wordAt l (27 * i + 2)) h
+counted-objects l i h = take-records (λ (j : ℕ). objectAt l (27 * i + 3 + 3 * j)) 0 8 (wordAt l (27 * i + 2)) h
 
 counted-in-range : (l : List ℕ) (k count : ℕ) → count ≤ 8 → T (firstFine (tripleFine l count k) 8)
     → (o : ShadingObject) → List·Memᴰ o (objectsFrom l k count) → ObjectInRange o
@@ -72,7 +72,7 @@ counted-in-range l k count h t =
     let e : objectFine l (k + 3 * j) ≡ tripleFine l count k j = counted-triple l count k j (omega arith) in
     object-in-range l (k + 3 * j) (subst T (sym e) f))
 
-sector-tests : (l : List ℕ) (i : ℕ) → T (sectorRecordFine l i)
+pub sector-tests : (l : List ℕ) (i : ℕ) → T (sectorRecordFine l i)
     → T (boundsFine (doubleAt l (27 * i)) (doubleAt l (27 * i + 1)) (wordAt l (27 * i + 2))) × T (firstFine (tripleFine l (wordAt l (27 * i + 2)) (27 * i + 3)) 8)
 unfolding sectorRecordFine
 sector-tests l i t =

@@ -4,6 +4,7 @@ use mathlib.Core.Bool.{Bool, true, false, cond}
 use mathlib.Core.List.{List, _∷_}
 use Prim.Native.Nat.{ℕ, zero, suc, _+_, _≤_, _<_}
 use native.Mathlib.Nat.{not-suc-le-zero, le-of-suc-le-suc}
+use native.Mathlib.Decide.{decLt}
 use native.Mathlib.Omega.{arith}
 use borrow.Author.Tests.{lt-ltb, le-ltb, ltb-true, ltb-false}
 use lib.Dec.{ltb}
@@ -68,6 +69,10 @@ module _ {Record : Type 0} (place : ℕ → Record) (blank : Record) where
   unfolding filled
   take-filled size n few = first-of (λ (j : ℕ). cond (ltb j n) (place j) blank) place 0 size n few (λ j h. rw (lt-ltb j n (omega (arith, h))))
 
+-- the first n of m records
+pub take-records : {Record : Type 0} (place : ℕ → Record) (s m n : ℕ) → n ≤ m → take n (recordsFrom place s m) ≡ recordsFrom place s n
+take-records place s m n few = first-of place place s m n few (λ j h. refl)
+
 -- the i-th of n records
 pub record-from : {Record : Type 0} (place : ℕ → Record) (d : Record) (s n i : ℕ) → i < n → getD (recordsFrom place s n) i d ≡ place (s + i)
 unfolding recordsFrom
@@ -75,7 +80,33 @@ record-from place d s zero i h = absurd (not-suc-le-zero h)
 record-from place d s (suc n) zero h = let e : s ≡ s + 0 = omega arith in ap place e
 record-from place d s (suc n) (suc i) h = let e : suc s + i ≡ s + suc i = omega arith in record-from place d (suc s) n i (le-of-suc-le-suc h) ∙ ap place e
 
+past-records : {Record : Type 0} (place : ℕ → Record) (d : Record) (s n i : ℕ) → n ≤ i → getD (recordsFrom place s n) i d ≡ d
+unfolding recordsFrom
+past-records place d s zero i h = refl
+past-records place d s (suc n) zero h = absurd (not-suc-le-zero h)
+past-records place d s (suc n) (suc i) h = past-records place d (suc s) n i (le-of-suc-le-suc h)
+
+-- what stands in a place: the record, or a blank past the last one
+filled-at : {Record : Type 0} (place : ℕ → Record) (blank d : Record) (size n i : ℕ) → i < size
+    → getD (filled place blank size n) i d ≡ getD (recordsFrom place 0 n) i blank
+unfolding filled
+filled-at place blank d size n i h =
+    record-from (λ (j : ℕ). cond (ltb j n) (place j) blank) d 0 size i h
+    ∙ elim (decLt i n) [
+      | yes g ↦ rw (lt-ltb (0 + i) n (omega (arith, g))) (sym (record-from place blank 0 n i g))
+      | no g ↦ rw (le-ltb (0 + i) n (omega (arith, g))) (sym (past-records place blank 0 n i (omega (arith, g))))
+    ]
+
 -- the sectors of a list are the first of their table
 pub sectors-taken : (l : List ℕ) (n : ℕ) (places : List ShadingSegment) → n ≡ sectorCount l → n ≤ 36 → places ≡ sectorPlaces l n → take n places ≡ sectorsOf l
 unfolding sectorPlaces sectorsOf
 sectors-taken l n places e few p = ap (take n) p ∙ take-filled (segmentAt l) noSegment 36 n few ∙ ap (recordsFrom (segmentAt l) 0) e
+
+-- and what stands in a place of the table stands in that of the list
+pub table-record : (l : List ℕ) (n i : ℕ) (places : List ShadingSegment) (d : ShadingSegment) → n ≡ sectorCount l → i < 36 → places ≡ sectorPlaces l n
+    → getD places i d ≡ getD (sectorsOf l) i noSegment
+unfolding sectorPlaces sectorsOf
+table-record l n i places d e few p =
+    ap (λ (ps : List ShadingSegment). getD ps i d) p
+    ∙ filled-at (segmentAt l) noSegment d 36 n i few
+    ∙ ap (λ (m : ℕ). getD (recordsFrom (segmentAt l) 0 m) i noSegment) e

@@ -1,10 +1,11 @@
 -- The records of the sector list and of the window list, in words of 8 bytes. What is past the end of a list reads as 0.
 use mathlib.Core.Bool.{cond}
 use mathlib.Core.List.{List, [], _∷_}
-use Prim.Native.Nat.{ℕ, zero, suc, _+_, _*_, _/_}
+use Prim.Native.Nat.{ℕ, zero, suc, _+_, _*_, _/_, _≤_}
 use lib.Dec.{eqb, ltb}
 use lib.ListN.{replicate}
 use Rattle.doubles.specs.Arithmetic.{whole}
+use Rattle.doubles.specs.Order.{Number}
 use Rattle.words.specs.Words.{wordCount, wordAt, doubleAt}
 use Rattle.objects.specs.declared.sectors.ShadingObject.{ShadingObject}
 use Rattle.objects.specs.declared.sectors.ShadingObjectType.{ShadingObjectType}
@@ -42,15 +43,16 @@ objectsFrom l k n = recordsFrom (λ (j : ℕ). objectAt l (k + 3 * j)) 0 n
 unfoldable pub noObject : ShadingObject
 noObject = record { «object_type» = distant.Obstacle; height = whole 0; distance = whole 0 }
 
--- the i-th sector, of 27 words: start, end, count, then eight triples, of which the first `count` are objects
+-- the i-th sector, of 27 words: start, end, count, then eight triples
 unfoldable pub segmentAt : List ℕ → ℕ → ShadingSegment
+unfolding objectsFrom
 segmentAt l i =
     let k = 27 * i in
     record {
       start360 = doubleAt l k;
       end360 = doubleAt l (k + 1);
       count = wordAt l (k + 2);
-      «shading_objects» = filled (λ (j : ℕ). objectAt l (k + 3 + 3 * j)) noObject 8 (wordAt l (k + 2));
+      «shading_objects» = objectsFrom l (k + 3) 8;
     }
 
 -- how many whole records a list has
@@ -60,6 +62,11 @@ sectorCount l = wordCount l / 27
 -- all of them, in order
 unfoldable pub sectorsOf : List ℕ → List ShadingSegment
 sectorsOf l = recordsFrom (segmentAt l) 0 (sectorCount l)
+
+-- What the reading of a list asks, and every list that passes its check has: room for its sectors, and no word that reads as NaN.
+pub record Readable (l : List ℕ) : Type 0 where
+  pub few : sectorCount l ≤ 36
+  pub numbers : (k : ℕ) → Number (doubleAt l k)
 
 -- what stands in a place that no sector has
 unfoldable pub noSegment : ShadingSegment

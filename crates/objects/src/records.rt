@@ -6,13 +6,15 @@ use crate::window::WindowShading;
 use crate::window::WindowShadingObject;
 use crate::window::WindowShadingType;
 use words::double_at;
+use words::number_within;
 use words::word_at;
 use words::word_count;
+use words::word_within;
 ghost use mathlib.Core.Path.{_≡_};
-ghost use mathlib.Core.Bool.{cond};
-ghost use Prim.Native.Nat.{_≤_, _<_};
+ghost use Prim.Native.Nat.{_+_, _≤_, _<_};
 ghost use lib.ListN.{replicate};
-ghost use Rattle.objects.specs.Records.{distantKind, objectAt, noObject, segmentAt, sectorCount, noSegment, sectorPlaces};
+ghost use Rattle.words.specs.Words.{wordCount};
+ghost use Rattle.objects.specs.Records.{distantKind, objectAt, segmentAt, sectorCount, Readable, noSegment, sectorPlaces};
 ghost use Rattle.objects.specs.Records.{windowKind, windowObjectAt, windowCount, noWindowObject, windowOf};
 
 // What stands in a place that no object or sector has.
@@ -45,43 +47,42 @@ fn distant_kind(kind: u64) -> ShadingObjectType
     ShadingObjectType::Overhang
 }
 
-// The triple from word k on, and a blank where it is not counted.
-fn object_at(bytes: &[u8], k: usize, counted: bool) -> ShadingObject
-    requires { ⌜ k < 972 ⌝ }
-    ensures { λ r. ⌜ r ≡ cond counted (objectAt (now (bytes .entry)) k) noObject ⌝ }
+// The triple from word k on.
+fn object_at(bytes: &[u8], k: usize) -> ShadingObject
+    requires { ⌜ Readable (now bytes) ⌝ }
+    requires { ⌜ k + 2 < wordCount (now bytes) ⌝ }
+    ensures { λ r. ⌜ r ≡ objectAt (now (bytes .entry)) k ⌝ }
 {
-    if counted {
-        let object_type = distant_kind(word_at(bytes, k));
-        let height = double_at(bytes, k + 1);
-        let distance = double_at(bytes, k + 2);
-        return ShadingObject {
-            object_type: object_type,
-            height: height,
-            distance: distance,
-        };
+    let object_type = distant_kind(word_within(bytes, k));
+    let height = number_within(bytes, k + 1);
+    let distance = number_within(bytes, k + 2);
+    ShadingObject {
+        object_type: object_type,
+        height: height,
+        distance: distance,
     }
-    NO_OBJECT
 }
 
-// The i-th sector of a checked list.
+// The i-th sector of a checked list. One way through without a test, which the compiler can put where the record goes.
 pub fn segment_at(bytes: &[u8], i: usize) -> ShadingSegment
-    requires { ⌜ i < 36 ⌝ }
+    requires { ⌜ Readable (now bytes) ⌝ }
+    requires { ⌜ i < sectorCount (now bytes) ⌝ }
     ensures { λ r. ⌜ r ≡ segmentAt (now (bytes .entry)) i ⌝ }
 {
     let k = 27 * i;
-    let start360 = double_at(bytes, k);
-    let end360 = double_at(bytes, k + 1);
-    let count = word_at(bytes, k + 2);
+    let start360 = number_within(bytes, k);
+    let end360 = number_within(bytes, k + 1);
+    let count = word_within(bytes, k + 2);
     let first = k + 3;
     let shading_objects = [
-        object_at(bytes, first + 0, 0 < count),
-        object_at(bytes, first + 3, 1 < count),
-        object_at(bytes, first + 6, 2 < count),
-        object_at(bytes, first + 9, 3 < count),
-        object_at(bytes, first + 12, 4 < count),
-        object_at(bytes, first + 15, 5 < count),
-        object_at(bytes, first + 18, 6 < count),
-        object_at(bytes, first + 21, 7 < count),
+        object_at(bytes, first + 0),
+        object_at(bytes, first + 3),
+        object_at(bytes, first + 6),
+        object_at(bytes, first + 9),
+        object_at(bytes, first + 12),
+        object_at(bytes, first + 15),
+        object_at(bytes, first + 18),
+        object_at(bytes, first + 21),
     ];
     ShadingSegment {
         start360: start360,
@@ -99,7 +100,7 @@ pub fn sector_count(bytes: &[u8]) -> usize
 }
 
 // A table without a sector. By a function, so that the compiler clears it in one go.
-fn no_sectors() -> [ShadingSegment; 36]
+pub fn no_sectors() -> [ShadingSegment; 36]
     ensures { λ r. ⌜ r ≡ replicate 36 noSegment ⌝ }
 {
     [NO_SEGMENT; 36]
@@ -107,7 +108,8 @@ fn no_sectors() -> [ShadingSegment; 36]
 
 // The first n sectors of a checked list, read into a table.
 pub fn sectors_of(bytes: &[u8], n: usize) -> [ShadingSegment; 36]
-    requires { ⌜ n ≤ 36 ⌝ }
+    requires { ⌜ Readable (now bytes) ⌝ }
+    requires { ⌜ n ≤ sectorCount (now bytes) ⌝ }
     ensures { λ r. ⌜ r ≡ sectorPlaces (now (bytes .entry)) n ⌝ }
 {
     let mut places = no_sectors();

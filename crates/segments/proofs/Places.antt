@@ -8,8 +8,12 @@ use native.Mathlib.Omega.{arith}
 use lib.ListN.{length, getD, take}
 use lib.Ieee.{Float, lt, ne}
 use Rattle.objects.specs.declared.sectors.ShadingSegment.{ShadingSegment}
+use Rattle.objects.specs.Records.{noSegment, sectorCount, sectorsOf, sectorPlaces}
+use Rattle.objects.proofs.Places.{sectors-taken, table-record}
 use Rattle.segments.specs.declared.Place.{Place}
 use Rattle.segments.specs.declared.Place.the-variants as place
+use Rattle.segments.specs.declared.FoundSegment.{FoundSegment}
+use Rattle.segments.specs.FoundSegment.{placeIndex, segmentFound}
 use Rattle.segments.specs.Segments.{found, holdsAzimuth, visit, placeFrom, placeOf, sectorAt, segmentIn, segmentOf}
 
 -- a place is one of n from the i-th on
@@ -77,9 +81,38 @@ taken-record (suc n) i [] d h = absurd (not-suc-le-zero h)
 taken-record (suc n) zero (s ∷ rest) d h = refl
 taken-record (suc n) (suc i) (s ∷ rest) d h = taken-record n i rest d (le-of-suc-le-suc h)
 
+-- the place where the walk ends is one of the table's
+pub index-taken : (azimuth : Float) (n m : ℕ) (l : List ShadingSegment) → n ≤ m → 0 < m → placeIndex (placeOf azimuth (take n l)) < m
+unfolding placeIndex
+index-taken azimuth n m l few some = go (placeOf azimuth (take n l)) refl
+  where
+    go : (p : Place) → placeOf azimuth (take n l) ≡ p → placeIndex p < m
+    go (place.At i) e = omega (arith, few, taken-within n i l (place-within azimuth (take n l) i e))
+    go place.Gap e = some
+    go place.Turned e = some
+    go place.NoSector e = some
+
 module _ (azimuth : Float) (n i : ℕ) (l : List ShadingSegment) (e : placeOf azimuth (take n l) ≡ place.At i) where
   pub place-taken : i < n
   place-taken = taken-within n i l (place-within azimuth (take n l) i e)
 
   pub record-taken : (d : ShadingSegment) → segmentOf azimuth (take n l) ≡ found (getD l i d)
   record-taken d = place-record azimuth (take n l) i d e ∙ ap found (taken-record n i l d (place-within azimuth (take n l) i e))
+
+-- the walk along a table of a list's sectors, and the sector where it ends
+pub found-in-table : (azimuth : Float) (l : List ℕ) (n at : ℕ) (places : List ShadingSegment) (p : Place) (d : ShadingSegment)
+    → n ≡ sectorCount l → n ≤ 36 → places ≡ sectorPlaces l n → p ≡ placeOf azimuth (take n places) → at ≡ placeIndex p
+    → _≡_ {A = FoundSegment} (record { place = p; segment = getD places at d }) (segmentFound azimuth (sectorsOf l))
+unfolding segmentFound
+found-in-table azimuth l n at places p d count few read ends index = λ i. record { place = place-is i; segment = segment-is i }
+  where
+    place-is : p ≡ placeOf azimuth (sectorsOf l)
+    place-is = ends ∙ ap (placeOf azimuth) (sectors-taken l n places count few read)
+
+    fits : at < 36
+    fits = subst (λ (i : ℕ). i < 36) (sym (index ∙ ap placeIndex ends)) (index-taken azimuth n 36 places few (omega arith))
+
+    segment-is : getD places at d ≡ getD (sectorsOf l) (placeIndex (placeOf azimuth (sectorsOf l))) noSegment
+    segment-is =
+        table-record l n at places d count fits read
+        ∙ ap (λ (i : ℕ). getD (sectorsOf l) i noSegment) (index ∙ ap placeIndex place-is)

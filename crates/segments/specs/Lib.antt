@@ -1,3 +1,4 @@
 pub mod Segments
 pub mod Walk
 pub mod SameSectors
+pub mod FoundSegment

@@ -1,10 +1,13 @@
 // The walk along the sectors, after the Rust's `get_segment`.
+use objects::records;
 use objects::sectors::ShadingSegment;
 ghost use mathlib.Core.Path.{_≡_};
 ghost use Prim.Native.Nat.{_≤_, _<_};
 ghost use lib.ListN.{take};
+ghost use Rattle.objects.specs.Records.{Readable, sectorsOf};
 ghost use Rattle.segments.specs.Segments.{betweenEnds, placeOf};
 ghost use Rattle.segments.specs.Walk.{setOut, stopAt, lookAt};
+ghost use Rattle.segments.specs.FoundSegment.{placeIndex, segmentFound};
 
 // Where the walk ends: at the place of the sector with the sun, or for one of three reasons at none.
 pub enum Place {
@@ -91,4 +94,44 @@ pub fn segment_in(azimuth: f64, table: [ShadingSegment; 36], n: usize) -> Place
     ensures { λ r. ⌜ r ≡ placeOf azimuth (take n table) ⌝ }
 {
     get_segment(azimuth, &table[..n])
+}
+
+// The place of the sector that has the sun, 0 where none has it.
+pub fn place_index(place: Place) -> usize
+    ensures { λ r. ⌜ r ≡ placeIndex place ⌝ }
+{
+    match place {
+        Place::At(i) => i,
+        Place::Gap => 0,
+        Place::Turned => 0,
+        Place::NoSector => 0,
+    }
+}
+
+// Where the walk ends, and the sector there: where none has the sun, the first, or a blank.
+pub struct FoundSegment {
+    pub place: Place,
+    pub segment: ShadingSegment,
+}
+
+// The walk along the sectors of a checked list, for a single sun. The table is filled here, since one that comes from a function is
+// copied.
+pub fn find_segment(azimuth: f64, sectors: &[u8]) -> FoundSegment
+    requires { ⌜ Readable (now sectors) ⌝ }
+    ensures { λ r. ⌜ r ≡ segmentFound azimuth (sectorsOf (now (sectors .entry))) ⌝ }
+{
+    let n = records::sector_count(sectors);
+    let mut places = records::no_sectors();
+    let mut i: usize = 0;
+    while i < n {
+        places[i] = records::segment_at(sectors, i);
+        i += 1;
+    }
+    let place = segment_in(azimuth, places, n);
+    let at = place_index(place);
+    let segment = places[at];
+    FoundSegment {
+        place: place,
+        segment: segment,
+    }
 }

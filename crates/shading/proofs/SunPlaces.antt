@@ -1,8 +1,8 @@
 -- The factor by the place where the sun stands and by the sector there is the factor. Assumes nothing.
 use mathlib.Core.Path.{_≡_, refl, sym, ap, _∙_, subst}
 use mathlib.Core.Bool.{Bool, true, false, cond}
-use mathlib.Core.List.{List}
-use Prim.Native.Nat.{ℕ, _+_, _≤_, _<_}
+use mathlib.Core.List.{List, []}
+use Prim.Native.Nat.{ℕ, _≤_, _<_}
 use native.Mathlib.Omega.{arith}
 use lib.Ieee.{Float}
 use lib.ListN.{take, getD}
@@ -10,22 +10,19 @@ use Rattle.doubles.specs.Arithmetic.{whole}
 use Rattle.objects.specs.declared.surface.Surface.{Surface}
 use Rattle.objects.specs.declared.sectors.ShadingSegment.{ShadingSegment}
 use Rattle.objects.specs.declared.window.WindowShadingObject.{WindowShadingObject}
-use Rattle.objects.specs.declared.answers.FactorAnswer.the-variants.{Factor}
+use Rattle.objects.specs.declared.answers.FactorAnswer.the-variants.{Factor, Refused}
+use Rattle.objects.specs.declared.answers.Refusal.the-variants.{NoSector}
 use Rattle.beam.specs.Beam.{outsideSolarBeam}
 use Rattle.segments.specs.declared.Place.{Place}
 use Rattle.segments.specs.declared.Place.the-variants as place
+use Rattle.segments.specs.declared.FoundSegment.{FoundSegment}
 use Rattle.segments.specs.Segments.{found, placeOf, segmentIn, segmentOf}
-use Rattle.objects.specs.Records.{segmentAt, noSegment, sectorCount, sectorsOf}
-use Rattle.objects.proofs.Places.{record-from}
-use Rattle.object_checks.proofs.AcceptedSectors.{sectors-length}
-use Rattle.segments.proofs.Places.{place-within, place-record, place-taken, record-taken}
+use Rattle.segments.specs.FoundSegment.{placeIndex, segmentFound}
+use Rattle.objects.specs.Records.{noSegment}
+use Rattle.segments.proofs.Places.{place-record, record-taken, index-taken}
 use Rattle.shading.specs.declared.step.SunPlace.{SunPlace}
 use Rattle.shading.specs.Factor.{sunOn, factorIn, shadingFactor}
-use Rattle.shading.specs.SunPlaces.{sunPlace, placeIndex, segmentThere, factorAt}
-
-at-place : (l : List ℕ) (i : ℕ) → i < sectorCount l → getD (sectorsOf l) i noSegment ≡ segmentAt l i
-unfolding sectorsOf
-at-place l i h = let e : 0 + i ≡ i = omega arith in record-from (segmentAt l) noSegment 0 (sectorCount l) i h ∙ ap (segmentAt l) e
+use Rattle.shading.specs.SunPlaces.{sunPlace, segmentThere, factorAt}
 
 module _ (surface : Surface) (altitude azimuth : Float) where
   -- `at` gives the sector at a place
@@ -52,28 +49,27 @@ module _ (surface : Surface) (altitude azimuth : Float) where
   module _ (places : List ShadingSegment) (n : ℕ) (few : n ≤ 36) where
     pub index-fits : (sun : SunPlace) → sun ≡ sunPlace surface altitude azimuth (take n places) → placeIndex (sun .place) < 36
     unfolding sunPlace placeIndex
-    index-fits sun e = rw e (go (outsideSolarBeam (surface .tilt) (surface .orientation) altitude azimuth) (placeOf azimuth (take n places)) refl)
+    index-fits sun e = rw e (go (outsideSolarBeam (surface .tilt) (surface .orientation) altitude azimuth))
       where
-        go : (b : Bool) (p : Place) → placeOf azimuth (take n places) ≡ p → placeIndex (cond b place.NoSector p) < 36
-        go true p e = omega arith
-        go false (place.At i) e = omega (arith, few, place-taken azimuth n i places e)
-        go false place.Gap e = omega arith
-        go false place.Turned e = omega arith
-        go false place.NoSector e = omega arith
+        go : (b : Bool) → placeIndex (cond b place.NoSector (placeOf azimuth (take n places))) < 36
+        go true = omega arith
+        go false = index-taken azimuth n 36 places few (omega arith)
 
     pub factor-by-table : (d : ShadingSegment) (window : List WindowShadingObject) (sun : SunPlace) (segment : ShadingSegment)
         → sun ≡ sunPlace surface altitude azimuth (take n places) → segment ≡ getD places (placeIndex (sun .place)) d
         → factorAt surface altitude azimuth sun segment window ≡ shadingFactor surface altitude azimuth (take n places) window
     factor-by-table d window = factor-by-place (take n places) (λ (i : ℕ). getD places i d) (λ i e. record-taken azimuth n i places e d) window
 
-  -- ---- in a lent list
+  -- ---- inside the beam, by the sector that was found
 
-  pub factor-by-list : (l : List ℕ) (window : List WindowShadingObject) (sun : SunPlace) (segment : ShadingSegment)
-      → sun ≡ sunPlace surface altitude azimuth (sectorsOf l) → segment ≡ segmentAt l (placeIndex (sun .place))
-      → factorAt surface altitude azimuth sun segment window ≡ shadingFactor surface altitude azimuth (sectorsOf l) window
-  factor-by-list l = factor-by-place (sectorsOf l) (segmentAt l) read
-    where
-      read : (i : ℕ) → placeOf azimuth (sectorsOf l) ≡ place.At i → segmentOf azimuth (sectorsOf l) ≡ found (segmentAt l i)
-      read i e =
-          place-record azimuth (sectorsOf l) i noSegment e
-          ∙ ap found (at-place l i (subst (λ (n : ℕ). i < n) (sectors-length l) (place-within azimuth (sectorsOf l) i e)))
+  module _ (sectors : List ShadingSegment) (window : List WindowShadingObject) (inside : outsideSolarBeam (surface .tilt) (surface .orientation) altitude azimuth ≡ false) where
+    pub factor-by-found : (r : FoundSegment) → r ≡ segmentFound azimuth sectors
+        → factorAt surface altitude azimuth (record { outside = false; place = r .place }) (r .segment) window ≡ shadingFactor surface altitude azimuth sectors window
+    unfolding segmentFound sunPlace
+    factor-by-found r e =
+        factor-by-place sectors (λ (i : ℕ). getD sectors i noSegment) (λ i h. place-record azimuth sectors i noSegment h) window _ (r .segment)
+        (rw (inside, e) refl) (rw e refl)
+
+    pub no-sector-at-all : sectors ≡ [] → Refused NoSector ≡ shadingFactor surface altitude azimuth sectors window
+    unfolding shadingFactor factorIn segmentOf segmentIn placeOf
+    no-sector-at-all e = rw (e, inside) refl

@@ -2,7 +2,6 @@
 -- proofs/SunPlaces puts it together again.
 use mathlib.Core.Bool.{cond}
 use mathlib.Core.List.{List}
-use Prim.Native.Nat.{ℕ}
 use lib.Ieee.{Float}
 use Rattle.doubles.specs.Arithmetic.{whole}
 use Rattle.objects.specs.declared.surface.Surface.{Surface}
@@ -22,13 +21,6 @@ unfoldable pub sunPlace : Surface → Float → Float → List ShadingSegment �
 sunPlace surface altitude azimuth sectors =
     let outside = outsideSolarBeam (surface .tilt) (surface .orientation) altitude azimuth in
     record { outside = outside; place = cond outside place.NoSector (placeOf azimuth sectors) }
-
--- the place of the sector that has the sun, 0 where none has it
-unfoldable pub placeIndex : Place → ℕ
-placeIndex (place.At i) = i
-placeIndex place.Gap = 0
-placeIndex place.Turned = 0
-placeIndex place.NoSector = 0
 
 -- what the walk came to, the sector at its place being given
 unfoldable pub segmentThere : Place → ShadingSegment → Segment

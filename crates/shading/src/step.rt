@@ -3,20 +3,23 @@ ghost use mathlib.Core.Path.{_≡_};
 ghost use Prim.Native.Nat.{_≤_};
 ghost use lib.ListN.{take};
 ghost use Rattle.objects.specs.Objects.{placed};
-ghost use Rattle.objects.specs.Records.{sectorCount, sectorsOf};
+ghost use Rattle.objects.specs.Records.{Readable, sectorsOf};
 ghost use Rattle.shading.specs.Factor.{shadingFactor};
-ghost use Rattle.shading.specs.SunPlaces.{sunPlace, placeIndex, factorAt};
+ghost use Rattle.shading.specs.SunPlaces.{sunPlace, factorAt};
 ghost use Rattle.shading.specs.Call.{sunFine, factorCall};
 use crate::factor;
 use crate::sun_on_surface;
 use beam::outside_solar_beam;
 use objects::answers::FactorAnswer;
 use objects::answers::Refusal;
-use objects::records;
+use objects::records::sector_count;
+use objects::records::window_of;
 use objects::sectors::ShadingSegment;
 use objects::surface::Surface;
 use objects::window::WindowShading;
 use segments::Place;
+use segments::find_segment;
+use segments::segment_in;
 
 // Where the sun stands: outside the beam, or where the walk along the sectors ends.
 pub struct SunPlace {
@@ -43,19 +46,7 @@ pub fn sun_place(
     }
     SunPlace {
         outside: false,
-        place: segments::segment_in(azimuth, places, n),
-    }
-}
-
-// The place of the sector that has the sun, 0 where none has it.
-pub fn place_index(place: Place) -> usize
-    ensures { λ r. ⌜ r ≡ placeIndex place ⌝ }
-{
-    match place {
-        Place::At(i) => i,
-        Place::Gap => 0,
-        Place::Turned => 0,
-        Place::NoSector => 0,
+        place: segment_in(azimuth, places, n),
     }
 }
 
@@ -85,8 +76,8 @@ pub fn factor_at(
     }
 }
 
-// The direct shading reduction factor of one sun, or why there is none. The sectors are a checked list. The sector with the sun is read
-// once more, and not taken out of the table, so that the compiler fills the table where it is walked along.
+// The direct shading reduction factor of one sun, or why there is none. The sectors are a checked list. One without a sector is turned
+// down before the walk: the compiler then sees that the table is always filled, and makes no copy of it.
 pub fn direct_shading_reduction_factor(
     surface: Surface,
     altitude: f64,
@@ -94,17 +85,22 @@ pub fn direct_shading_reduction_factor(
     sectors: &[u8],
     window: WindowShading,
 ) -> FactorAnswer
-    requires { ⌜ sectorCount (now sectors) ≤ 36 ⌝ }
+    requires { ⌜ Readable (now sectors) ⌝ }
     ensures { λ r. ⌜ r ≡ shadingFactor surface altitude azimuth (sectorsOf (now (sectors .entry))) (placed window) ⌝ }
 {
     if outside_solar_beam(surface.tilt, surface.orientation, altitude, azimuth) {
         return FactorAnswer::Factor(1.0);
     }
-    let n = records::sector_count(sectors);
-    let places = records::sectors_of(sectors, n);
-    let sun = sun_place(surface, altitude, azimuth, places, n);
-    let place = sun.place;
-    let segment = records::segment_at(sectors, place_index(place));
+    if sector_count(sectors) == 0 {
+        return FactorAnswer::Refused(Refusal::NoSector);
+    }
+    let found = find_segment(azimuth, sectors);
+    let place = found.place;
+    let segment = found.segment;
+    let sun = SunPlace {
+        outside: false,
+        place: place,
+    };
     factor_at(surface, altitude, azimuth, sun, segment, window)
 }
 
@@ -126,7 +122,7 @@ pub fn factor_call(
 {
     if sun_fine(altitude, azimuth) & objects::surface::surface_fine(surface) {
         if object_checks::sectors_fine(sectors) & object_checks::window_fine(window) {
-            let objects = records::window_of(window);
+            let objects = window_of(window);
             return direct_shading_reduction_factor(surface, altitude, azimuth, sectors, objects);
         }
         return FactorAnswer::Refused(Refusal::Object);

@@ -2,6 +2,7 @@
 use mathlib.Core.Path.{_≡_, refl, sym, _∙_, ap, subst}
 use mathlib.Core.Bool.{Bool, true, false, not}
 use Prim.Native.Nat.{ℕ, _%_, _^_, _≤_, _<_}
+use native.Mathlib.Omega.{arith}
 use borrow.Author.Tests.{lt-ltb, le-ltb}
 use lib.Dec.{T}
 use lib.Ieee.{Float, nan, inf, fin, binary64, isNan, eq, ne, nanBits, ofBits, toBits}
@@ -24,6 +25,10 @@ not-above w h = nanBits-above binary64 w ∙ le-ltb _ _ h
 -- any other is no NaN's
 pub up-to-infinity : (w : ℕ) → w % 2 ^ 63 ≤ 0x7FF0_0000_0000_0000 → T (not (nanBits binary64 w))
 up-to-infinity w h = rw (not-above w h) tt
+
+-- so no NaN is read from a pattern up to the infinity's without a sign
+pub low-pattern : (w : ℕ) → w ≤ 0x7FF0_0000_0000_0000 → T (not (isNan (ofBits binary64 w)))
+low-pattern w h = subst (λ (b : Bool). T (not b)) (nanBits-is binary64 w) (up-to-infinity w (omega (arith, h)))
 
 -- a double that does not differ from itself is no NaN
 pub not-nan : (x : Float) → ne x x ≡ false → T (not (isNan x))

@@ -1,9 +1,12 @@
-// Words of eight bytes and doubles in lent lists of bytes. Every function is total: what lies outside the list reads as 0, and is
-// not written.
+// Words of eight bytes and doubles in lent lists of bytes. Every function is total, but for the two that end in `within`: what lies
+// outside the list reads as 0, and is not written.
 
 ghost use mathlib.Core.Path.{_≡_};
+ghost use mathlib.Core.Bool.{not};
 ghost use mathlib.Core.List.{[], _∷_};
-ghost use lib.Ieee.{binary64, ofBits, toBits};
+ghost use Prim.Native.Nat.{_<_};
+ghost use lib.Dec.{T};
+ghost use lib.Ieee.{binary64, isNan, ofBits, toBits};
 ghost use Rattle.words.specs.Words.{number, wordCount, wordAt, putWord, doubleAt, putDouble};
 
 // How many whole words there are.
@@ -27,22 +30,30 @@ fn joined(b0: u8, b1: u8, b2: u8, b3: u8, b4: u8, b5: u8, b6: u8, b7: u8) -> u64
         + (b7 as u64) * 0x100_0000_0000_0000
 }
 
+// The k-th word of a list that has it.
+pub fn word_within(bytes: &[u8], k: usize) -> u64
+    requires { ⌜ k < wordCount (now bytes) ⌝ }
+    ensures { λ r. ⌜ r ≡ wordAt (now (bytes .entry)) k ⌝ }
+{
+    let a = 8 * k;
+    joined(
+        bytes[a],
+        bytes[a + 1],
+        bytes[a + 2],
+        bytes[a + 3],
+        bytes[a + 4],
+        bytes[a + 5],
+        bytes[a + 6],
+        bytes[a + 7],
+    )
+}
+
 // The k-th word, and 0 where there is no such whole word.
 pub fn word_at(bytes: &[u8], k: usize) -> u64
     ensures { λ r. ⌜ r ≡ wordAt (now (bytes .entry)) k ⌝ }
 {
     if k < bytes.len() / 8 {
-        let a = 8 * k;
-        return joined(
-            bytes[a],
-            bytes[a + 1],
-            bytes[a + 2],
-            bytes[a + 3],
-            bytes[a + 4],
-            bytes[a + 5],
-            bytes[a + 6],
-            bytes[a + 7],
-        );
+        return word_within(bytes, k);
     }
     0
 }
@@ -96,6 +107,14 @@ pub fn double_at(bytes: &[u8], k: usize) -> f64
     ensures { λ r. ⌜ r ≡ doubleAt (now (bytes .entry)) k ⌝ }
 {
     double_of_bits(word_at(bytes, k))
+}
+
+// The k-th word's double, where the list has that word and it is no NaN's: nothing is left to test.
+pub fn number_within(bytes: &[u8], k: usize) -> f64
+    requires { ⌜ (k < wordCount (now bytes)) × T (not (isNan (doubleAt (now bytes) k))) ⌝ }
+    ensures { λ r. ⌜ r ≡ doubleAt (now (bytes .entry)) k ⌝ }
+{
+    f64::from_bits(word_within(bytes, k))
 }
 
 // Writes the bits of x as the k-th word.

@@ -4,7 +4,7 @@ use lib.Dec.{T}
 use denote.Ref.{now}
 use Rattle.objects.specs.Objects.{placed}
 use Rattle.steps.specs.Kept.{keptHour, stepKept}
-use Rattle.object_checks.proofs.AcceptedSectors.{sector-count}
+use Rattle.object_checks.proofs.ReadableSectors.{readable}
 use Rattle.object_checks.proofs.AcceptedWindow.{window-count, window-places}
 use Rattle.steps.proofs.StepKept.{kept-factor, by-kept}
 use Rattle.single_steps.proofs.step_with.Statement.{statement}
@@ -28,7 +28,7 @@ kept-hour-requires c κs = (c .before .before .fixed-of .ensures, c .kept-day .e
 direct-shading-reduction-factor-requires : tie.Need-direct-shading-reduction-factor-requires
 direct-shading-reduction-factor-requires c κs =
     let s = c .before .before .before .before .before .before .before in
-    sector-count (now (s .args .sectors)) (subst T (sym (s .pre .0)) tt)
+    readable (now (s .args .sectors)) (subst T (sym (s .pre .0)) tt)
 
 step-row-requires : tie.Need-step-row-requires
 step-row-requires c κs = tt

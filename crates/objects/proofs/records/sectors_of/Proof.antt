@@ -20,10 +20,10 @@ loop-holds : tie.Need-loop-holds Inv-loop μ-loop
 unfolding sectorPlaces
 loop-holds c =
     let s = c .before .before in
-    (omega arith, s .pre, c .no-sectors .ensures ∙ none-filled (segmentAt (s .args .bytes .now)) noSegment 36)
+    (omega arith, omega (arith, s .pre .0 .few, s .pre .1), c .no-sectors .ensures ∙ none-filled (segmentAt (s .args .bytes .now)) noSegment 36)
 
 segment-at-requires : tie.Need-segment-at-requires Inv-loop μ-loop
-segment-at-requires c κs = omega arith
+segment-at-requires c κs = let s = c .before .before .before .before in (s .pre .0, omega (arith, s .pre .1))
 
 mul-places : tie.Need-mul-places Inv-loop μ-loop
 mul-places c = omega arith

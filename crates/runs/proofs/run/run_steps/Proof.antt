@@ -18,6 +18,7 @@ use Rattle.objects.specs.Objects.{placed}
 use Rattle.objects.specs.Records.{sectorCount, sectorsOf, windowObjectsOf}
 use Rattle.objects.proofs.Places.{sectors-taken}
 use Rattle.object_checks.proofs.AcceptedSectors.{sector-count}
+use Rattle.object_checks.proofs.ReadableSectors.{readable}
 use Rattle.object_checks.proofs.AcceptedWindow.{window-count, window-places}
 use Rattle.shading.proofs.SunPlaces.{index-fits, factor-by-table}
 use Rattle.jobs.specs.Job.{Job, jobOf, indexAt, readingAt}
@@ -63,7 +64,10 @@ sector-count-requires : tie.Need-sector-count-requires Inv-loop μ-loop
 sector-count-requires c κs = tt
 
 sectors-of-requires : tie.Need-sectors-of-requires Inv-loop μ-loop
-sectors-of-requires c κs = few-sectors (c .before .before .before .before .before .before .before .before) _ (c .sector-count .ensures)
+sectors-of-requires c κs =
+    let s = c .before .before .before .before .before .before .before .before in
+    let count = c .sector-count .ensures in
+    (readable (now (s .args .sectors)) (subst T (sym (s .pre .1 .1 .0)) tt), omega (arith, count))
 
 fixed-of-requires : tie.Need-fixed-of-requires Inv-loop μ-loop
 fixed-of-requires c κs = tt

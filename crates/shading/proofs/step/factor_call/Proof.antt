@@ -5,7 +5,7 @@ use lib.Ieee.Fits.{and-l, and-r}
 use Rattle.shading.specs.Call.{factorCall}
 use Rattle.object_checks.specs.Checks.{sectorsFine, windowFine}
 use Rattle.objects.specs.Objects.{placed}
-use Rattle.object_checks.proofs.AcceptedSectors.{sector-count}
+use Rattle.object_checks.proofs.ReadableSectors.{readable}
 use Rattle.object_checks.proofs.AcceptedWindow.{window-count, window-places}
 use borrow.Author.Needs.{needs}
 use Rattle.shading.proofs.step.factor_call.Statement.{statement}
@@ -35,7 +35,7 @@ direct-shading-reduction-factor-requires c κs =
     let l = c .before .before .before .before .before .before .before .before .before .args .sectors .now in
     let w = c .before .before .before .before .before .before .before .before .before .args .window .now in
     let both : sectorsFine l && windowFine w ≡ true = rw (c .before .before .before .sectors-fine .ensures, c .before .before .window-fine .ensures) at (c .before .if2 .taken) in
-    sector-count l (and-l (sectorsFine l) (windowFine w) (subst T (sym both) tt))
+    readable l (and-l (sectorsFine l) (windowFine w) (subst T (sym both) tt))
 
 returns : tie.Need-returns
 unfolding factorCall placed

@@ -1,7 +1,7 @@
-use Rattle.shading.specs.SunPlaces.{placeIndex}
+use Rattle.segments.specs.FoundSegment.{placeIndex}
 use borrow.Author.Needs.{needs}
-use Rattle.shading.proofs.step.place_index.Statement.{statement}
-use Rattle.shading.proofs.step.place_index.Tie as tie
+use Rattle.segments.proofs.place_index.Statement.{statement}
+use Rattle.segments.proofs.place_index.Tie as tie
 
 enum-known-place : tie.Need-enum-known-place
 enum-known-place c = search needs
