@@ -55,6 +55,13 @@ objectUnused l k = eqb (wordAt l k) 0 && eqb (wordAt l (k + 1)) 0 && eqb (wordAt
 unfoldable pub tripleFine : List ℕ → ℕ → ℕ → ℕ → Bool
 tripleFine l count k j = cond (ltb j count) (objectFine l (k + 3 * j)) (objectUnused l (k + 3 * j))
 
+-- the first n triples from word k on are in their ranges, and n words from the k-th on are zero
+unfoldable pub countedFine : List ℕ → ℕ → ℕ → Bool
+countedFine l k n = firstFine (λ (j : ℕ). objectFine l (k + 3 * j)) n
+
+unfoldable pub wordsZero : List ℕ → ℕ → ℕ → Bool
+wordsZero l k n = firstFine (λ (j : ℕ). eqb (wordAt l (k + j)) 0) n
+
 -- start and end 0..360, a count of at most 8
 unfoldable pub boundsFine : Float → Float → ℕ → Bool
 unfolding within whole

@@ -1,12 +1,16 @@
 // Refusal 4: whether the lists of shading objects are in their ranges. Tests of values are joined without
 // branches. An accepted list is looked at to its end in any case, so the loops do not stop early.
 use words::double_at;
+use words::double_within;
 use words::word_at;
+use words::word_within;
 ghost use mathlib.Core.Path.{_≡_};
 ghost use Rattle.words.specs.Lists.{firstFine};
 ghost use Rattle.object_checks.specs.Checks.{windowValuesFine, windowRecordFine, windowFine};
-ghost use Rattle.object_checks.specs.Checks.{objectValuesFine, objectFine, objectUnused, tripleFine, boundsFine, sectorRecordFine, sectorsFine};
-ghost use Prim.Native.Nat.{_<_};
+ghost use Rattle.object_checks.specs.Checks.{objectValuesFine, objectFine, countedFine, wordsZero, tripleFine, boundsFine, sectorRecordFine, sectorsFine};
+ghost use Rattle.objects.specs.Records.{sectorCount};
+ghost use Rattle.words.specs.Words.{wordCount};
+ghost use Prim.Native.Nat.{_+_, _≤_, _<_};
 
 fn window_values_fine(kind: u64, size: f64, distance: f64, transparency: f64, spare: u64) -> bool
     ensures { λ r. ⌜ r ≡ windowValuesFine kind size distance transparency spare ⌝ }
@@ -59,44 +63,51 @@ fn object_values_fine(kind: u64, height: f64, distance: f64) -> bool
 }
 
 fn object_fine(bytes: &[u8], k: usize) -> bool
-    requires { ⌜ k < 972 ⌝ }
+    requires { ⌜ k + 2 < wordCount (now bytes) ⌝ }
     ensures { λ r. ⌜ r ≡ objectFine (now (bytes .entry)) k ⌝ }
 {
     object_values_fine(
-        word_at(bytes, k),
-        double_at(bytes, k + 1),
-        double_at(bytes, k + 2),
+        word_within(bytes, k),
+        double_within(bytes, k + 1),
+        double_within(bytes, k + 2),
     )
 }
 
-fn object_unused(bytes: &[u8], k: usize) -> bool
-    requires { ⌜ k < 972 ⌝ }
-    ensures { λ r. ⌜ r ≡ objectUnused (now (bytes .entry)) k ⌝ }
-{
-    (word_at(bytes, k) == 0) & (word_at(bytes, k + 1) == 0) & (word_at(bytes, k + 2) == 0)
-}
-
-fn triple_fine(bytes: &[u8], count: u64, k: usize, j: usize) -> bool
-    requires { ⌜ (k < 951) × (j < 8) ⌝ }
-    ensures { λ r. ⌜ r ≡ tripleFine (now (bytes .entry)) count k j ⌝ }
-{
-    if (j as u64) < count {
-        return object_fine(bytes, k + 3 * j);
-    }
-    object_unused(bytes, k + 3 * j)
-}
-
-fn triples_fine(bytes: &[u8], count: u64, k: usize) -> bool
-    requires { ⌜ k < 951 ⌝ }
-    ensures { λ r. ⌜ r ≡ firstFine (tripleFine (now (bytes .entry)) count k) 8 ⌝ }
+// The first n of the eight triples from word k on.
+fn counted_fine(bytes: &[u8], k: usize, n: usize) -> bool
+    requires { ⌜ (n ≤ 8) × (k + 23 < wordCount (now bytes)) ⌝ }
+    ensures { λ r. ⌜ r ≡ countedFine (now (bytes .entry)) k n ⌝ }
 {
     let mut fine = true;
-    let mut j = 0;
-    while j < 8 {
-        fine = triple_fine(bytes, count, k, j) & fine;
+    let mut j: usize = 0;
+    while j < n {
+        fine = object_fine(bytes, k + 3 * j) & fine;
         j += 1;
     }
     fine
+}
+
+// Whether n words from the k-th on are zero.
+fn words_zero(bytes: &[u8], k: usize, n: usize) -> bool
+    requires { ⌜ k + n ≤ wordCount (now bytes) ⌝ }
+    ensures { λ r. ⌜ r ≡ wordsZero (now (bytes .entry)) k n ⌝ }
+{
+    let mut zero = true;
+    let mut j: usize = 0;
+    while j < n {
+        zero = (word_within(bytes, k + j) == 0) & zero;
+        j += 1;
+    }
+    zero
+}
+
+// The eight triples from word k on: the counted ones, and the words behind them, which the compiler tests two at a time.
+fn triples_fine(bytes: &[u8], count: u64, k: usize) -> bool
+    requires { ⌜ k + 23 < wordCount (now bytes) ⌝ }
+    ensures { λ r. ⌜ r ≡ firstFine (tripleFine (now (bytes .entry)) count k) 8 ⌝ }
+{
+    let n = objects::counted_places(count, 8);
+    counted_fine(bytes, k, n) & words_zero(bytes, k + 3 * n, 24 - 3 * n)
 }
 
 fn bounds_fine(start360: f64, end360: f64, count: u64) -> bool
@@ -108,12 +119,12 @@ fn bounds_fine(start360: f64, end360: f64, count: u64) -> bool
 }
 
 fn sector_record_fine(bytes: &[u8], i: usize) -> bool
-    requires { ⌜ i < 36 ⌝ }
+    requires { ⌜ i < sectorCount (now bytes) ⌝ }
     ensures { λ r. ⌜ r ≡ sectorRecordFine (now (bytes .entry)) i ⌝ }
 {
     let k = 27 * i;
-    let count = word_at(bytes, k + 2);
-    bounds_fine(double_at(bytes, k), double_at(bytes, k + 1), count)
+    let count = word_within(bytes, k + 2);
+    bounds_fine(double_within(bytes, k), double_within(bytes, k + 1), count)
         & triples_fine(bytes, count, k + 3)
 }
 

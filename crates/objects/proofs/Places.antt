@@ -1,14 +1,16 @@
--- Records in places: one place after the other is filled, and the filled ones are the list's records. Assumes nothing.
+-- Records in places: one place after the other is filled, and the filled ones are the list's records; and where a record's words
+-- stand. Assumes nothing.
 use mathlib.Core.Path.{_≡_, refl, sym, ap, _∙_}
 use mathlib.Core.Bool.{Bool, true, false, cond}
 use mathlib.Core.List.{List, _∷_}
-use Prim.Native.Nat.{ℕ, zero, suc, _+_, _≤_, _<_}
+use Prim.Native.Nat.{ℕ, zero, suc, _+_, _*_, _≤_, _<_}
 use native.Mathlib.Nat.{not-suc-le-zero, le-of-suc-le-suc}
 use native.Mathlib.Decide.{decLt}
 use native.Mathlib.Omega.{arith}
 use borrow.Author.Tests.{lt-ltb, le-ltb, ltb-true, ltb-false}
 use lib.Dec.{ltb}
 use lib.ListN.{getD, set, take, replicate}
+use Rattle.words.specs.Words.{wordCount}
 use Rattle.objects.specs.declared.sectors.ShadingSegment.{ShadingSegment}
 use Rattle.objects.specs.Records.{recordsFrom, filled, segmentAt, noSegment, sectorCount, sectorsOf, sectorPlaces}
 
@@ -110,3 +112,8 @@ table-record l n i places d e few p =
     ap (λ (ps : List ShadingSegment). getD ps i d) p
     ∙ filled-at (segmentAt l) noSegment d 36 n i few
     ∙ ap (λ (m : ℕ). getD (recordsFrom (segmentAt l) 0 m) i noSegment) e
+
+-- the d-th word of a sector is one of the list's
+pub sector-word : (l : List ℕ) (i d : ℕ) → i < sectorCount l → d < 27 → 27 * i + d < wordCount l
+unfolding sectorCount
+sector-word l i d h g = omega (arith, h, g)

@@ -168,14 +168,15 @@ pub fn window_of(bytes: &[u8]) -> WindowShading
     ensures { λ r. ⌜ r ≡ windowOf (now (bytes .entry)) ⌝ }
 {
     let n = word_count(bytes) / 4;
-    let mut objects = no_window_objects();
+    let blanks = no_window_objects();
+    let mut window = WindowShading {
+        count: n as u64,
+        objects: blanks,
+    };
     let mut i: usize = 0;
     while i < n {
-        objects[i] = window_object_at(bytes, i);
+        window.objects[i] = window_object_at(bytes, i);
         i += 1;
     }
-    WindowShading {
-        count: n as u64,
-        objects: objects,
-    }
+    window
 }

@@ -1,9 +1,11 @@
 // The factor of one step, from the lent lists.
 ghost use mathlib.Core.Path.{_≡_};
+ghost use mathlib.Core.Bool.{true};
 ghost use Prim.Native.Nat.{_≤_};
 ghost use lib.ListN.{take};
 ghost use Rattle.objects.specs.Objects.{placed};
-ghost use Rattle.objects.specs.Records.{Readable, sectorsOf};
+ghost use Rattle.objects.specs.Records.{sectorsOf, windowObjectsOf};
+ghost use Rattle.object_checks.specs.Checks.{sectorsFine, windowFine};
 ghost use Rattle.shading.specs.Factor.{shadingFactor};
 ghost use Rattle.shading.specs.SunPlaces.{sunPlace, factorAt};
 ghost use Rattle.shading.specs.Call.{sunFine, factorCall};
@@ -76,17 +78,18 @@ pub fn factor_at(
     }
 }
 
-// The direct shading reduction factor of one sun, or why there is none. The sectors are a checked list. One without a sector is turned
-// down before the walk: the compiler then sees that the table is always filled, and makes no copy of it.
+// The direct shading reduction factor of one sun, or why there is none, by lists that have passed their checks. A list without a
+// sector is turned down before the walk: the compiler then sees that the table is always filled, and makes no copy of it.
 pub fn direct_shading_reduction_factor(
     surface: Surface,
     altitude: f64,
     azimuth: f64,
     sectors: &[u8],
-    window: WindowShading,
+    window: &[u8],
 ) -> FactorAnswer
-    requires { ⌜ Readable (now sectors) ⌝ }
-    ensures { λ r. ⌜ r ≡ shadingFactor surface altitude azimuth (sectorsOf (now (sectors .entry))) (placed window) ⌝ }
+    requires { ⌜ sectorsFine (now sectors) ≡ true ⌝ }
+    requires { ⌜ windowFine (now window) ≡ true ⌝ }
+    ensures { λ r. ⌜ r ≡ shadingFactor surface altitude azimuth (sectorsOf (now (sectors .entry))) (windowObjectsOf (now (window .entry))) ⌝ }
 {
     if outside_solar_beam(surface.tilt, surface.orientation, altitude, azimuth) {
         return FactorAnswer::Factor(1.0);
@@ -101,7 +104,8 @@ pub fn direct_shading_reduction_factor(
         outside: false,
         place: place,
     };
-    factor_at(surface, altitude, azimuth, sun, segment, window)
+    let objects = window_of(window);
+    factor_at(surface, altitude, azimuth, sun, segment, objects)
 }
 
 fn sun_fine(altitude: f64, azimuth: f64) -> bool
@@ -122,8 +126,7 @@ pub fn factor_call(
 {
     if sun_fine(altitude, azimuth) & objects::surface::surface_fine(surface) {
         if object_checks::sectors_fine(sectors) & object_checks::window_fine(window) {
-            let objects = window_of(window);
-            return direct_shading_reduction_factor(surface, altitude, azimuth, sectors, objects);
+            return direct_shading_reduction_factor(surface, altitude, azimuth, sectors, window);
         }
         return FactorAnswer::Refused(Refusal::Object);
     }

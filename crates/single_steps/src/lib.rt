@@ -13,7 +13,6 @@ use object_checks::sectors_fine;
 use object_checks::window_fine;
 use objects::answers::Refusal;
 use objects::answers::number_of;
-use objects::records::window_of;
 use objects::surface::Surface;
 use objects::surface::surface_fine;
 use shading::step::direct_shading_reduction_factor;
@@ -115,7 +114,6 @@ fn step_with(
     requires { ⌜ windowFine (now window) ≡ true ⌝ }
     ensures { λ r. ⌜ r ≡ stepWith site surface (now (sectors .entry)) (now (window .entry)) time reading ⌝ }
 {
-    let objects = window_of(window);
     let fixed = fixed_of(site, surface);
     let hour = current_hour(time);
     let day = kept_day(hour / 24);
@@ -125,7 +123,7 @@ fn step_with(
         kept.sun.altitude,
         kept.sun.azimuth,
         sectors,
-        objects,
+        window,
     );
     step_row(fixed, site.direct_beam_conversion, kept, factor, reading)
 }

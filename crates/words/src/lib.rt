@@ -1,4 +1,4 @@
-// Words of eight bytes and doubles in lent lists of bytes. Every function is total, but for the two that end in `within`: what lies
+// Words of eight bytes and doubles in lent lists of bytes. Every function is total, but for those that end in `within`: what lies
 // outside the list reads as 0, and is not written.
 
 ghost use mathlib.Core.Path.{_≡_};
@@ -109,7 +109,15 @@ pub fn double_at(bytes: &[u8], k: usize) -> f64
     double_of_bits(word_at(bytes, k))
 }
 
-// The k-th word's double, where the list has that word and it is no NaN's: nothing is left to test.
+// The double of the k-th word of a list that has it.
+pub fn double_within(bytes: &[u8], k: usize) -> f64
+    requires { ⌜ k < wordCount (now bytes) ⌝ }
+    ensures { λ r. ⌜ r ≡ doubleAt (now (bytes .entry)) k ⌝ }
+{
+    double_of_bits(word_within(bytes, k))
+}
+
+// The same, where that double is no NaN: nothing is left to test.
 pub fn number_within(bytes: &[u8], k: usize) -> f64
     requires { ⌜ (k < wordCount (now bytes)) × T (not (isNan (doubleAt (now bytes) k))) ⌝ }
     ensures { λ r. ⌜ r ≡ doubleAt (now (bytes .entry)) k ⌝ }

@@ -6,6 +6,8 @@ use Prim.Native.Nat.{_-_, _≤_}
 use borrow.Author.Needs.{needs}
 use denote.Ref.{now}
 use Rattle.words.specs.Lists.{firstFine}
+use Rattle.words.specs.Words.{wordCount}
+use Rattle.objects.specs.Records.{sectorCount}
 use Rattle.object_checks.specs.Checks.{sectorsFine, sectorRecordFine}
 use Rattle.words.proofs.Lists.{one-more}
 use Rattle.object_checks.proofs.RecordLists.{part-record, too-long, all-records}
@@ -31,6 +33,7 @@ unfolding firstFine
 loop-holds c = (omega arith, refl)
 
 sector-record-fine-requires : tie.Need-sector-record-fine-requires Inv-loop μ-loop
+unfolding wordCount sectorCount
 sector-record-fine-requires c κs = omega arith
 
 add-i : tie.Need-add-i Inv-loop μ-loop

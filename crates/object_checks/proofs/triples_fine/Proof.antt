@@ -1,42 +1,50 @@
--- `triples_fine` meets its contract. The loop's invariant: whether all triples so far are fine.
-use mathlib.Core.Path.{_≡_, refl, _∙_, ap, ap₂}
+-- `triples_fine` meets its contract: first the counted triples, then words that are zero.
+use mathlib.Core.Path.{_∙_, ap₂}
 use mathlib.Core.Bool.{_&&_}
-use Prim.Native.Nat.{_-_, _≤_}
 use native.Mathlib.Omega.{arith}
 use denote.Ref.{now}
-use borrow.Author.Needs.{needs}
-use Rattle.words.specs.Lists.{firstFine}
-use Rattle.object_checks.specs.Checks.{tripleFine}
-use Rattle.words.proofs.Lists.{one-more}
+use Rattle.words.specs.Words.{wordCount}
+use Rattle.object_checks.proofs.RecordLists.{triples-parted}
 use Rattle.object_checks.proofs.triples_fine.Statement.{statement}
 use Rattle.object_checks.proofs.triples_fine.Tie as tie
 
-abbrev Inv-loop : tie.InvT-loop
-Inv-loop bytes count k fine₀ j₀ fine j = (j ≤ 8) × (fine ≡ firstFine (tripleFine bytes count k) j)
+counted-places-requires : tie.Need-counted-places-requires
+counted-places-requires c κs = tt
 
-abbrev μ-loop : tie.MeasureT-loop
-μ-loop bytes count k fine₀ j₀ fine j = 8 - j
+counted-fine-requires : tie.Need-counted-fine-requires
+counted-fine-requires c κs = let n = c .counted-places .ensures in (omega (arith, n), c .before .before .pre)
 
-loop-holds : tie.Need-loop-holds Inv-loop μ-loop
-unfolding firstFine
-loop-holds c = (omega arith, refl)
+mul-words-zero : tie.Need-mul-words-zero
+mul-words-zero c = let n = c .before .counted-places .ensures in omega (arith, n)
 
-triple-fine-requires : tie.Need-triple-fine-requires Inv-loop μ-loop
-triple-fine-requires c κs = (omega arith, omega arith)
+add-words-zero : tie.Need-add-words-zero
+unfolding wordCount
+add-words-zero c = let n = c .before .counted-places .ensures in omega (arith, n, c .before .before .before .pre)
 
-add-j : tie.Need-add-j Inv-loop μ-loop
-add-j c = search needs
+mul-words-zero-2 : tie.Need-mul-words-zero-2
+mul-words-zero-2 c = let n = c .before .counted-places .ensures in omega (arith, n)
 
-loop-less : tie.Need-loop-less Inv-loop μ-loop
-loop-less c = search needs
+sub-words-zero : tie.Need-sub-words-zero
+sub-words-zero c = let n = c .before .counted-places .ensures in omega (arith, n)
 
-loop-again : tie.Need-loop-again Inv-loop μ-loop
-loop-again c = let a = c .before .before .before .before .args in let q = c .before .before .loop in (omega arith, ap₂ _&&_ (c .triple-fine .ensures) (q .inv .1) ∙ one-more (tripleFine (now (a .bytes)) (a .count) (a .k)) (q .j))
+words-zero-requires : tie.Need-words-zero-requires
+words-zero-requires c κs = let n = c .before .counted-places .ensures in omega (arith, n, c .before .before .before .pre)
 
-returns : tie.Need-returns Inv-loop μ-loop
-returns c = let a = c .before .before .before .args in let q = c .before .loop in q .inv .1 ∙ ap (firstFine (tripleFine (now (a .bytes)) (a .count) (a .k))) (omega arith)
+returns : tie.Need-returns
+returns c =
+    let a = c .before .before .before .before .args in
+    ap₂ _&&_ (c .before .counted-fine .ensures) (c .words-zero .ensures)
+    ∙ triples-parted (now (a .bytes)) (a .k) (a .count) _ _ (c .before .before .counted-places .ensures) (omega arith)
 
 pub triples-fine-spec : {M : Type 1} → statement M
 triples-fine-spec =
     tie.close
-    (tie.spec Inv-loop μ-loop loop-holds triple-fine-requires add-j loop-less loop-again returns)
+    (tie.spec
+    counted-places-requires
+    counted-fine-requires
+    mul-words-zero
+    add-words-zero
+    mul-words-zero-2
+    sub-words-zero
+    words-zero-requires
+    returns)

@@ -1,17 +1,10 @@
 -- `step_with` meets its contract.
-use mathlib.Core.Path.{refl, sym, _∙_, ap, subst}
-use lib.Dec.{T}
+use mathlib.Core.Path.{refl, _∙_, ap}
 use denote.Ref.{now}
-use Rattle.objects.specs.Objects.{placed}
 use Rattle.steps.specs.Kept.{keptHour, stepKept}
-use Rattle.object_checks.proofs.ReadableSectors.{readable}
-use Rattle.object_checks.proofs.AcceptedWindow.{window-count, window-places}
 use Rattle.steps.proofs.StepKept.{kept-factor, by-kept}
 use Rattle.single_steps.proofs.step_with.Statement.{statement}
 use Rattle.single_steps.proofs.step_with.Tie as tie
-
-window-of-requires : tie.Need-window-of-requires
-window-of-requires c κs = window-count (now (c .before .before .args .window)) (subst T (sym (c .before .before .pre .1)) tt)
 
 fixed-of-requires : tie.Need-fixed-of-requires
 fixed-of-requires c κs = tt
@@ -26,28 +19,24 @@ kept-hour-requires : tie.Need-kept-hour-requires
 kept-hour-requires c κs = (c .before .before .fixed-of .ensures, c .kept-day .ensures)
 
 direct-shading-reduction-factor-requires : tie.Need-direct-shading-reduction-factor-requires
-direct-shading-reduction-factor-requires c κs =
-    let s = c .before .before .before .before .before .before .before in
-    readable (now (s .args .sectors)) (subst T (sym (s .pre .0)) tt)
+direct-shading-reduction-factor-requires c κs = c .before .before .before .before .before .before .pre
 
 step-row-requires : tie.Need-step-row-requires
 step-row-requires c κs = tt
 
 returns : tie.Need-returns
-unfolding placed stepKept
+unfolding stepKept
 returns c =
-    let s = c .before .before .before .before .before .before .before .before .before in
+    let s = c .before .before .before .before .before .before .before .before in
     let a = s .args in
-    let objects = ap placed (c .before .before .before .before .before .before .window-of .ensures) ∙ window-places (now (a .window)) (subst T (sym (s .pre .1)) tt) in
     let kept = c .before .before .kept-hour .ensures ∙ ap (keptHour (a .site) (a .surface)) (c .before .before .before .before .current-hour .ensures) in
-    let factor = kept-factor (a .site) (a .surface) _ _ kept (now (a .sectors)) (now (a .window)) _ _ _ refl objects (c .before .direct-shading-reduction-factor .ensures) in
+    let factor = kept-factor (a .site) (a .surface) _ _ kept (now (a .sectors)) (now (a .window)) _ _ _ refl refl (c .before .direct-shading-reduction-factor .ensures) in
     by-kept (a .site) (a .surface) (now (a .sectors)) (now (a .window)) (a .time) (a .reading) _ _ _ _ (c .before .before .before .before .before .fixed-of .ensures) kept factor (c .step-row .ensures)
 
 pub step-with-spec : {M : Type 1} → statement M
 step-with-spec =
     tie.close
     (tie.spec
-    window-of-requires
     fixed-of-requires
     current-hour-requires
     kept-day-requires

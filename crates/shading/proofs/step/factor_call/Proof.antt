@@ -1,12 +1,11 @@
 use mathlib.Core.Path.{_≡_, sym, subst}
 use mathlib.Core.Bool.{true, _&&_}
 use lib.Dec.{T}
+use lib.Ieee.Bits.{is-true}
 use lib.Ieee.Fits.{and-l, and-r}
+use denote.Ref.{now}
 use Rattle.shading.specs.Call.{factorCall}
 use Rattle.object_checks.specs.Checks.{sectorsFine, windowFine}
-use Rattle.objects.specs.Objects.{placed}
-use Rattle.object_checks.proofs.ReadableSectors.{readable}
-use Rattle.object_checks.proofs.AcceptedWindow.{window-count, window-places}
 use borrow.Author.Needs.{needs}
 use Rattle.shading.proofs.step.factor_call.Statement.{statement}
 use Rattle.shading.proofs.step.factor_call.Tie as tie
@@ -23,35 +22,26 @@ sectors-fine-requires c κs = search needs
 window-fine-requires : tie.Need-window-fine-requires
 window-fine-requires c κs = search needs
 
-window-of-requires : tie.Need-window-of-requires
-window-of-requires c κs =
-    let l = c .before .before .before .before .before .before .before .before .args .sectors .now in
-    let w = c .before .before .before .before .before .before .before .before .args .window .now in
-    let both : sectorsFine l && windowFine w ≡ true = rw (c .before .before .sectors-fine .ensures, c .before .window-fine .ensures) at (c .if2 .taken) in
-    window-count w (and-r (sectorsFine l) (windowFine w) (subst T (sym both) tt))
-
 direct-shading-reduction-factor-requires : tie.Need-direct-shading-reduction-factor-requires
 direct-shading-reduction-factor-requires c κs =
-    let l = c .before .before .before .before .before .before .before .before .before .args .sectors .now in
-    let w = c .before .before .before .before .before .before .before .before .before .args .window .now in
-    let both : sectorsFine l && windowFine w ≡ true = rw (c .before .before .before .sectors-fine .ensures, c .before .before .window-fine .ensures) at (c .before .if2 .taken) in
-    readable l (and-l (sectorsFine l) (windowFine w) (subst T (sym both) tt))
+    let l = now (c .before .before .before .before .before .before .before .before .args .sectors) in
+    let w = now (c .before .before .before .before .before .before .before .before .args .window) in
+    let both : sectorsFine l && windowFine w ≡ true = rw (c .before .before .sectors-fine .ensures, c .before .window-fine .ensures) at (c .if2 .taken) in
+    let fine : T (sectorsFine l && windowFine w) = subst T (sym both) tt in
+    (is-true (sectorsFine l) (and-l (sectorsFine l) (windowFine w) fine), is-true (windowFine w) (and-r (sectorsFine l) (windowFine w) fine))
 
 returns : tie.Need-returns
-unfolding factorCall placed
+unfolding factorCall
 returns c =
-    let l = c .before .before .before .before .before .before .before .before .before .before .args .sectors .now in
-    let w = c .before .before .before .before .before .before .before .before .before .before .args .window .now in
-    let both : sectorsFine l && windowFine w ≡ true = rw (c .before .before .before .before .sectors-fine .ensures, c .before .before .before .window-fine .ensures) at (c .before .before .if2 .taken) in
     rw (
-      ← (c .before .before .before .before .before .before .before .sun-fine .ensures),
-      ← (c .before .before .before .before .before .before .surface-fine .ensures),
-      c .before .before .before .before .before .if1 .taken,
-      both,
-      c .direct-shading-reduction-factor .ensures,
-      c .before .window-of .ensures,
-      window-places w (and-r (sectorsFine l) (windowFine w) (subst T (sym both) tt)),
+      ← (c .before .before .before .before .before .before .sun-fine .ensures),
+      ← (c .before .before .before .before .before .surface-fine .ensures),
+      c .before .before .before .before .if1 .taken,
+      ← (c .before .before .before .sectors-fine .ensures),
+      ← (c .before .before .window-fine .ensures),
+      c .before .if2 .taken,
     )
+    (c .direct-shading-reduction-factor .ensures)
 
 returns-2 : tie.Need-returns-2
 unfolding factorCall
@@ -69,7 +59,6 @@ factor-call-spec =
     surface-fine-requires
     sectors-fine-requires
     window-fine-requires
-    window-of-requires
     direct-shading-reduction-factor-requires
     returns
     returns-2
