@@ -127,11 +127,11 @@ pub fn find_segment(azimuth: f64, sectors: &[u8]) -> FoundSegment
         places[i] = records::segment_at(sectors, i);
         i += 1;
     }
-    let place = segment_in(azimuth, places, n);
-    let at = place_index(place);
-    let segment = places[at];
+    let ends_at = segment_in(azimuth, places, n);
+    let index = place_index(ends_at);
+    let segment = places[index];
     FoundSegment {
-        place: place,
+        place: ends_at,
         segment: segment,
     }
 }

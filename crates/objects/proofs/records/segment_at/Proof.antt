@@ -14,19 +14,19 @@ mul-k : tie.Need-mul-k
 mul-k c = let i = low _ _ (c .before .pre .0) (c .before .pre .1) in omega (arith, i)
 
 number-within-requires : tie.Need-number-within-requires
-number-within-requires c κs = let p = c .before .pre in let h = sector-word _ _ 0 (p .1) (omega arith) in (omega (arith, h), p .0 .numbers _ .holds)
+number-within-requires c κs = let p = c .before .pre in let h = sector-word _ _ 26 (p .1) (omega arith) in (omega (arith, h), p .0 .numbers _ .holds)
 
 add-number-within : tie.Need-add-number-within
 add-number-within c = let i = low _ _ (c .before .before .pre .0) (c .before .before .pre .1) in omega (arith, i)
 
 number-within-requires-2 : tie.Need-number-within-requires-2
-number-within-requires-2 c κs = let p = c .before .before .pre in (sector-word _ _ 1 (p .1) (omega arith), p .0 .numbers _ .holds)
+number-within-requires-2 c κs = let p = c .before .before .pre in let h = sector-word _ _ 26 (p .1) (omega arith) in (omega (arith, h), p .0 .numbers _ .holds)
 
 add-word-within : tie.Need-add-word-within
 add-word-within c = let i = low _ _ (c .before .before .before .pre .0) (c .before .before .before .pre .1) in omega (arith, i)
 
 word-within-requires : tie.Need-word-within-requires
-word-within-requires c κs = sector-word _ _ 2 (c .before .before .before .pre .1) (omega arith)
+word-within-requires c κs = let h = sector-word _ _ 26 (c .before .before .before .pre .1) (omega arith) in omega (arith, h)
 
 add-first : tie.Need-add-first
 add-first c = let i = low _ _ (c .before .before .before .before .pre .0) (c .before .before .before .before .pre .1) in omega (arith, i)
@@ -35,43 +35,43 @@ add-object-at : tie.Need-add-object-at
 add-object-at c = let i = low _ _ (c .before .before .before .before .pre .0) (c .before .before .before .before .pre .1) in omega (arith, i)
 
 object-at-requires : tie.Need-object-at-requires
-object-at-requires c κs = let p = c .before .before .before .before .pre in let h = sector-word _ _ 5 (p .1) (omega arith) in (p .0, omega (arith, h))
+object-at-requires c κs = let p = c .before .before .before .before .pre in let h = sector-word _ _ 26 (p .1) (omega arith) in (p .0, omega (arith, h))
 
 add-object-at-2 : tie.Need-add-object-at-2
 add-object-at-2 c = let i = low _ _ (c .before .before .before .before .before .pre .0) (c .before .before .before .before .before .pre .1) in omega (arith, i)
 
 object-at-requires-2 : tie.Need-object-at-requires-2
-object-at-requires-2 c κs = let p = c .before .before .before .before .before .pre in let h = sector-word _ _ 8 (p .1) (omega arith) in (p .0, omega (arith, h))
+object-at-requires-2 c κs = let p = c .before .before .before .before .before .pre in let h = sector-word _ _ 26 (p .1) (omega arith) in (p .0, omega (arith, h))
 
 add-object-at-3 : tie.Need-add-object-at-3
 add-object-at-3 c = let i = low _ _ (c .before .before .before .before .before .before .pre .0) (c .before .before .before .before .before .before .pre .1) in omega (arith, i)
 
 object-at-requires-3 : tie.Need-object-at-requires-3
-object-at-requires-3 c κs = let p = c .before .before .before .before .before .before .pre in let h = sector-word _ _ 11 (p .1) (omega arith) in (p .0, omega (arith, h))
+object-at-requires-3 c κs = let p = c .before .before .before .before .before .before .pre in let h = sector-word _ _ 26 (p .1) (omega arith) in (p .0, omega (arith, h))
 
 add-object-at-4 : tie.Need-add-object-at-4
 add-object-at-4 c = let i = low _ _ (c .before .before .before .before .before .before .before .pre .0) (c .before .before .before .before .before .before .before .pre .1) in omega (arith, i)
 
 object-at-requires-4 : tie.Need-object-at-requires-4
-object-at-requires-4 c κs = let p = c .before .before .before .before .before .before .before .pre in let h = sector-word _ _ 14 (p .1) (omega arith) in (p .0, omega (arith, h))
+object-at-requires-4 c κs = let p = c .before .before .before .before .before .before .before .pre in let h = sector-word _ _ 26 (p .1) (omega arith) in (p .0, omega (arith, h))
 
 add-object-at-5 : tie.Need-add-object-at-5
 add-object-at-5 c = let i = low _ _ (c .before .before .before .before .before .before .before .before .pre .0) (c .before .before .before .before .before .before .before .before .pre .1) in omega (arith, i)
 
 object-at-requires-5 : tie.Need-object-at-requires-5
-object-at-requires-5 c κs = let p = c .before .before .before .before .before .before .before .before .pre in let h = sector-word _ _ 17 (p .1) (omega arith) in (p .0, omega (arith, h))
+object-at-requires-5 c κs = let p = c .before .before .before .before .before .before .before .before .pre in let h = sector-word _ _ 26 (p .1) (omega arith) in (p .0, omega (arith, h))
 
 add-object-at-6 : tie.Need-add-object-at-6
 add-object-at-6 c = let i = low _ _ (c .before .before .before .before .before .before .before .before .before .pre .0) (c .before .before .before .before .before .before .before .before .before .pre .1) in omega (arith, i)
 
 object-at-requires-6 : tie.Need-object-at-requires-6
-object-at-requires-6 c κs = let p = c .before .before .before .before .before .before .before .before .before .pre in let h = sector-word _ _ 20 (p .1) (omega arith) in (p .0, omega (arith, h))
+object-at-requires-6 c κs = let p = c .before .before .before .before .before .before .before .before .before .pre in let h = sector-word _ _ 26 (p .1) (omega arith) in (p .0, omega (arith, h))
 
 add-object-at-7 : tie.Need-add-object-at-7
 add-object-at-7 c = let i = low _ _ (c .before .before .before .before .before .before .before .before .before .before .pre .0) (c .before .before .before .before .before .before .before .before .before .before .pre .1) in omega (arith, i)
 
 object-at-requires-7 : tie.Need-object-at-requires-7
-object-at-requires-7 c κs = let p = c .before .before .before .before .before .before .before .before .before .before .pre in let h = sector-word _ _ 23 (p .1) (omega arith) in (p .0, omega (arith, h))
+object-at-requires-7 c κs = let p = c .before .before .before .before .before .before .before .before .before .before .pre in let h = sector-word _ _ 26 (p .1) (omega arith) in (p .0, omega (arith, h))
 
 add-object-at-8 : tie.Need-add-object-at-8
 add-object-at-8 c = let i = low _ _ (c .before .before .before .before .before .before .before .before .before .before .before .pre .0) (c .before .before .before .before .before .before .before .before .before .before .before .pre .1) in omega (arith, i)
