@@ -1,6 +1,6 @@
--- `TwoJobs` has the claim on two jobs compared, and `Instances` two jobs that it speaks of. `RunLaws` says what a run leaves, `RowStores`
--- how a row is read back, `StepRows` what a step's row has, `PassedChecks` what an accepted job has, `ObjectLists` what the words of two
--- jobs' lists say of their records, `Sums` that sums keep the order. `EdgeValues` has the specification's values at the edges.
+-- `TwoJobs` has the claim on two jobs compared. `RunLaws` says what a run leaves, `RowStores` how a row is read back, `StepRows` what a
+-- step's row has, `PassedChecks` what an accepted job has, `ObjectLists` what the words of two jobs' lists say of their records, `Sums`
+-- that sums keep the order.
 pub mod RowStores
 pub mod StepRows
 pub mod PassedChecks
@@ -8,5 +8,3 @@ pub mod RunLaws
 pub mod Sums
 pub mod ObjectLists
 pub mod TwoJobs
-pub mod Instances
-pub mod EdgeValues

@@ -2,28 +2,23 @@
 -- its words alone. Assumes nothing.
 use mathlib.Core.Path.{_≡_, refl, sym, ap, _∙_, subst}
 use mathlib.Core.Logic.{inl, inr}
-use mathlib.Core.Bool.{_&&_}
 use mathlib.Core.List.{List, [], List·Memᴰ, List·Memᴰ·head, List·Memᴰ·tail, List·Memᴰ·not-nil, List·Memᴰ·cases-cons}
-use Prim.Native.Nat.{ℕ, zero, suc, _+_, _*_, _/_, _≤_, _<_}
+use Prim.Native.Nat.{ℕ, zero, suc, _+_, _*_, _<_}
 use native.Mathlib.Omega.{arith}
-use lib.Dec.{T, leb, leb→le}
+use lib.Dec.{T}
 use lib.ListN.{length, getD, take}
 use lib.Ieee.{binary64, ofBits}
-use lib.Ieee.Fits.{and-l, and-r}
-use Rattle.doubles.specs.Arithmetic.{whole}
-use Rattle.doubles.specs.Ranges.{within}
 use Rattle.words.specs.Words.{wordAt, doubleAt}
 use Rattle.objects.specs.declared.sectors.ShadingObject.{ShadingObject}
 use Rattle.objects.specs.declared.sectors.ShadingSegment.{ShadingSegment}
 use Rattle.objects.specs.declared.window.WindowShadingObject.{WindowShadingObject}
-use Rattle.words.specs.Lists.{firstFine}
-use Rattle.object_checks.specs.Checks.{tripleFine, boundsFine, sectorRecordFine, sectorsFine}
+use Rattle.object_checks.specs.Checks.{sectorsFine}
 use Rattle.objects.specs.Objects.{counted}
 use Rattle.objects.specs.Records.{recordsFrom, distantKind, objectAt, objectsFrom, segmentAt, sectorCount, sectorsOf, windowKind, windowObjectAt, windowCount, windowObjectsOf}
 use Rattle.segments.specs.SameSectors.{SameBounds, PlaceByPlace, none, and-then}
 use Rattle.shading_laws.specs.Premises.{Holds, MoreInSector, SameInSector}
 use Rattle.object_checks.proofs.Accepted.{length-records, member-records}
-use Rattle.object_checks.proofs.AcceptedSectors.{counted-objects, sector-record}
+use Rattle.object_checks.proofs.AcceptedSectors.{counted-objects}
 use Rattle.jobs.specs.Comparison.{BoundedAlike, triple, sectorObjects, windowObject, windowObjects}
 
 -- ---- objects by their words
@@ -94,19 +89,6 @@ objects-hold l m i h =
 
 -- ---- sectors
 
-few-counted : (l : List ℕ) → T (sectorsFine l) → (i : ℕ) → i < sectorCount l → wordAt l (27 * i + 2) ≤ 8
-unfolding sectorRecordFine boundsFine
-few-counted l t i h =
-    let k = 27 * i in
-    let a = within (whole 0) (whole 360) (doubleAt l k) in
-    let b = within (whole 0) (whole 360) (doubleAt l (k + 1)) in
-    let d = leb (wordAt l (k + 2)) 8 in
-    leb→le (wordAt l (k + 2)) 8 (and-r (a && b) d (and-l (a && b && d) (firstFine (tripleFine l (wordAt l (k + 2)) (k + 3)) 8) (sector-record l t i h)))
-
--- the counted objects of a sector of an accepted list
-counted-is : (l : List ℕ) → T (sectorsFine l) → (i : ℕ) → i < sectorCount l → counted (segmentAt l i) ≡ objectsFrom l (27 * i + 3) (wordAt l (27 * i + 2))
-counted-is l t i h = counted-objects l i (few-counted l t i h)
-
 same-bounds : (l m : List ℕ) → BoundedAlike l m → (i : ℕ) → i < sectorCount l → SameBounds (segmentAt l i) (segmentAt m i)
 unfolding segmentAt
 same-bounds l m b i h = record { starts = b .starts i h; ends = b .ends i h }
@@ -114,8 +96,8 @@ same-bounds l m b i h = record { starts = b .starts i h; ends = b .ends i h }
 sector-holds : (l m : List ℕ) → T (sectorsFine l) → T (sectorsFine m) → (i : ℕ) → i < sectorCount l → i < sectorCount m
     → Holds (sectorObjects m i) (sectorObjects l i) → Holds (counted (segmentAt m i)) (counted (segmentAt l i))
 sector-holds l m t u i g h k =
-    subst (λ (xs : List ShadingObject). Holds xs (counted (segmentAt l i))) (sym (counted-is m u i h))
-    (subst (λ (xs : List ShadingObject). Holds (objectsFrom m (27 * i + 3) (wordAt m (27 * i + 2))) xs) (sym (counted-is l t i g)) (objects-hold l m i k))
+    subst (λ (xs : List ShadingObject). Holds xs (counted (segmentAt l i))) (sym (counted-objects m u i h))
+    (subst (λ (xs : List ShadingObject). Holds (objectsFrom m (27 * i + 3) (wordAt m (27 * i + 2))) xs) (sym (counted-objects l t i g)) (objects-hold l m i k))
 
 -- what relates the sectors at every place relates the lists
 place-by-place : (R : ShadingSegment → ShadingSegment → Type 0) (l m : List ℕ) (n i : ℕ) → ((j : ℕ) → j < i + n → R (segmentAt l j) (segmentAt m j))

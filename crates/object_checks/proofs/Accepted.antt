@@ -2,12 +2,12 @@
 use mathlib.Core.Path.{_≡_, refl, sym, ap, subst}
 use mathlib.Core.Logic.{_⊎_, inl, inr}
 use mathlib.Core.Bool.{Bool, true, false, _&&_, _||_}
-use mathlib.Core.List.{List, _∷_, List·Memᴰ, List·Memᴰ·not-nil, List·Memᴰ·cases-cons}
+use mathlib.Core.List.{List, List·Memᴰ, List·Memᴰ·not-nil, List·Memᴰ·cases-cons}
 use Prim.Native.Nat.{ℕ, zero, suc, _+_, _*_, _/_, _%_, _≤_, _<_}
 use native.Mathlib.Decide.{decLt}
 use native.Mathlib.Omega.{arith}
 use lib.Dec.{T, leb, eqb, leb→le, eqb→eq}
-use lib.ListN.{length, take}
+use lib.ListN.{length}
 use lib.Ieee.{Float, nan, isNan, neg, lt, le, eq}
 use Rattle.doubles.specs.Arithmetic.{whole, decimal}
 use Rattle.doubles.specs.Order.{_≼_, _≺_}
@@ -71,15 +71,6 @@ module _ (s : Surface) (t : T (surfaceFine s)) where
       let r = both-of (a && b) d (q .0) in
       let u = both-of a b (r .0) in
       (u .0, u .1, r .1, q .1, p .1)
-
-  pub tilt-range : (whole 0 ≼ s .tilt) × (s .tilt ≼ whole 180)
-  tilt-range = within-range (whole 0) (whole 180) (s .tilt) (tests .0)
-
-  pub orientation-range : (whole 0 ≼ s .orientation) × (s .orientation ≼ whole 360)
-  orientation-range = within-range (whole 0) (whole 360) (s .orientation) (tests .1)
-
-  pub base-range : (whole 0 ≼ s .«base_height») × (s .«base_height» ≼ whole 1000)
-  base-range = within-range (whole 0) (whole 1000) (s .«base_height») (tests .2)
 
   pub height-range : (decimal 1 3 ≼ s .height) × (s .height ≼ whole 1000)
   height-range = within-range (decimal 1 3) (whole 1000) (s .height) (tests .3)

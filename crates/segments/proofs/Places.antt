@@ -92,12 +92,9 @@ index-taken azimuth n m l few some = go (placeOf azimuth (take n l)) refl
     go place.Turned e = some
     go place.NoSector e = some
 
-module _ (azimuth : Float) (n i : ℕ) (l : List ShadingSegment) (e : placeOf azimuth (take n l) ≡ place.At i) where
-  pub place-taken : i < n
-  place-taken = taken-within n i l (place-within azimuth (take n l) i e)
-
-  pub record-taken : (d : ShadingSegment) → segmentOf azimuth (take n l) ≡ found (getD l i d)
-  record-taken d = place-record azimuth (take n l) i d e ∙ ap found (taken-record n i l d (place-within azimuth (take n l) i e))
+pub record-taken : (azimuth : Float) (n i : ℕ) (l : List ShadingSegment) → placeOf azimuth (take n l) ≡ place.At i
+    → (d : ShadingSegment) → segmentOf azimuth (take n l) ≡ found (getD l i d)
+record-taken azimuth n i l e d = place-record azimuth (take n l) i d e ∙ ap found (taken-record n i l d (place-within azimuth (take n l) i e))
 
 -- the walk along a table of a list's sectors, and the sector where it ends
 pub found-in-table : (azimuth : Float) (l : List ℕ) (n at : ℕ) (places : List ShadingSegment) (p : Place) (d : ShadingSegment)

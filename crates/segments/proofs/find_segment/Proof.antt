@@ -2,7 +2,7 @@
 use mathlib.Core.Path.{_≡_, sym, ap, subst, _∙_}
 use Prim.Native.Nat.{ℕ, _-_, _≤_, _<_}
 use native.Mathlib.Omega.{arith}
-use Rattle.objects.specs.Records.{segmentAt, sectorCount, Readable, noSegment, sectorPlaces}
+use Rattle.objects.specs.Records.{segmentAt, sectorCount, noSegment, sectorPlaces}
 use Rattle.objects.proofs.Places.{none-filled, one-filled}
 use Rattle.segments.specs.FoundSegment.{placeIndex}
 use Rattle.segments.proofs.Places.{index-taken, found-in-table}

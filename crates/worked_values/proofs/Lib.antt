@@ -1,0 +1,3 @@
+-- `EdgeValues` has the specification's values at the edges, `Instances` three jobs that the claim on two jobs compared speaks of.
+pub mod EdgeValues
+pub mod Instances
