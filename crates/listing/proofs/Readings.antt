@@ -1,7 +1,7 @@
 -- A listing read piece by piece prints what its definition says of the whole text.
 use mathlib.Core.Path.{_≡_, refl, sym, _∙_, ap, ap₂}
 use mathlib.Core.Logic.{_≢_}
-use mathlib.Core.Bool.{Bool, true, false, cond}
+use mathlib.Core.Bool.{Bool, true, false, cond, true≢false}
 use mathlib.Core.List.{List, [], _∷_, _++_, append-nil, append-assoc}
 use Prim.Native.Nat.{ℕ, _≤_}
 use native.Mathlib.Omega.{arith}
@@ -17,7 +17,7 @@ use Rattle.text.specs.Text.{ascii, sameText, lastLine, linesFrom, linesOf}
 use Rattle.lines.specs.Line.{outputLine}
 use Rattle.listing.specs.Listing.{names, header, answered, body, listingOf}
 use Rattle.listing.proofs.Cuts.{take-again, cut-answer, cut-names}
-use Rattle.listing.specs.Reading.{Reading, lineStart, withPart, printed, after, lineOver, lastPrinted, fromHere, readOn, printedOn}
+use Rattle.listing.specs.Reading.{Reading, lineStart, withPart, printed, after, wantsMore, lineOver, lastPrinted, fromHere, readOn, printedOn}
 
 -- ---- a last line that lacks its line feed
 
@@ -58,6 +58,16 @@ over : (held text : List ℕ) → fromHere (at Over held) text ≡ []
 unfolding fromHere lastPrinted printed lineOver lineStart after withPart
 over held [] = refl
 over held (b ∷ rest) = either (eqb b 10) (over [] rest) (over (take 170 (held ++ b ∷ [])) rest)
+
+-- a reader that wants no more prints nothing, whatever follows
+pub ended-for-good : (r : Reading) (text : List ℕ) → wantsMore (r .stage) ≡ false → fromHere r text ≡ []
+unfolding wantsMore
+ended-for-good r text = go (r .stage)
+  where
+    go : (s : Stage) → wantsMore s ≡ false → fromHere (at s (r .held)) text ≡ []
+    go Names h = absurd (true≢false h)
+    go Values h = absurd (true≢false h)
+    go Over h = over (r .held) text
 
 last-answered : (l : List ℕ) → lastPrinted Values (take 170 l) ≡ answered (lastLine l)
 unfolding lastPrinted printed answered lastLine

@@ -1,6 +1,6 @@
 -- A listing read piece by piece. Of a line that is not yet whole the first 170 bytes are kept: one more than a line with values has, so
 -- that a line that is too long shows.
-use mathlib.Core.Bool.{cond}
+use mathlib.Core.Bool.{Bool, true, false, cond}
 use mathlib.Core.List.{List, [], _∷_, _++_}
 use Prim.Native.Nat.{ℕ}
 use lib.Dec.{eqb}
@@ -37,6 +37,12 @@ unfoldable pub after : Stage → List ℕ → Stage
 after Names l = cond (sameText l names) Values Over
 after Values l = Values
 after Over l = Over
+
+-- whether what follows can still print something; after a wrong names line nothing does (`ended-for-good` of proofs/Readings)
+unfoldable pub wantsMore : Stage → Bool
+wantsMore Names = true
+wantsMore Values = true
+wantsMore Over = false
 
 -- the line has ended
 unfoldable pub lineOver : Reading → Reading

@@ -4,7 +4,7 @@ ghost use Rattle.listing.specs.declared.reader.Stage.the-variants.{Names
 ghost use Rattle.text.specs.Text.{sameText, linesOf, filled, usedAfter};
 ghost use Rattle.listing.specs.Listing.{names, body};
 ghost use Rattle.lines.specs.Line.{bytesOf};
-ghost use Rattle.listing.specs.Reading.{lineStart, withPart, after, lineOver, printed, lastPrinted, readOn, printedOn, readingOf};
+ghost use Rattle.listing.specs.Reading.{lineStart, withPart, after, lineOver, printed, wantsMore, lastPrinted, readOn, printedOn, readingOf};
 use lines::line::line_answer;
 use lines::output::OutputLine;
 use lines::output::nothing;
@@ -115,6 +115,18 @@ pub fn line_over(reader: Reader) -> Turn
     let line = reader.line;
     let n = least(reader.count, 170);
     turn_at(stage, &line[..n])
+}
+
+// Whether anything that follows can still be answered: nothing is after a wrong names line.
+pub fn wants_more(reader: Reader) -> bool
+    ensures { λ r. ⌜ r ≡ wantsMore (reader .stage) ⌝ }
+{
+    let stage = reader.stage;
+    match stage {
+        Stage::Names => true,
+        Stage::Values => true,
+        Stage::Over => false,
+    }
 }
 
 // What a piece brings: the reader after it, and how many bytes of the output list are used then.

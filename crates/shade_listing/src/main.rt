@@ -1,16 +1,17 @@
 // Answers a shade listing: lines with ten values on standard input, lines with a number and a factor on standard output.
 ghost use mathlib.Core.Path.{_≡_};
-ghost use mathlib.Core.Bool.{false};
+ghost use mathlib.Core.Bool.{false, true};
 ghost use mathlib.Core.List.{[]};
-ghost use Rattle.listing.specs.Reading.{lastPrinted, readingOf};
+ghost use Rattle.listing.specs.Reading.{wantsMore, lastPrinted, readingOf};
 use lines::output::put;
 use listing::reader::Reader;
 use listing::reader::Stage;
 use listing::reader::answer_piece;
 use listing::reader::input_over;
 use listing::reader::line_start;
+use listing::reader::wants_more;
 
-// The reader after a piece of the input, and whether to go on.
+// The reader after a piece of the input, and whether to go on: only where more is wanted.
 struct Progress {
     reader: Reader,
     going: bool,
@@ -36,7 +37,9 @@ fn given_up() -> Progress
 
 // Prints what the lines print that end in a piece. A piece of 2,048 bytes has at most as many lines, each answered by at most 19 bytes,
 // so that there is room for all answers.
-fn print_answers(reader: Reader, piece: &[u8]) -> Progress {
+fn print_answers(reader: Reader, piece: &[u8]) -> Progress
+    ensures { λ r. ⌜ (r .going ≡ true → wantsMore (r .reader .stage) ≡ true) ⌝ }
+{
     let mut out = io::large_buffer();
     let answered = answer_piece(reader, piece, &mut out, 0);
     let after = answered.reader;
@@ -46,12 +49,15 @@ fn print_answers(reader: Reader, piece: &[u8]) -> Progress {
     }
     Progress {
         reader: after,
-        going: true,
+        going: wants_more(after),
     }
 }
 
-// Reads a piece and answers its lines.
-fn read_piece(reader: Reader) -> Progress {
+// Reads a piece and answers its lines. After a wrong names line nothing is read: the input may stay open for ever.
+fn read_piece(reader: Reader) -> Progress
+    requires { ⌜ wantsMore (reader .stage) ≡ true ⌝ }
+    ensures { λ r. ⌜ (r .going ≡ true → wantsMore (r .reader .stage) ≡ true) ⌝ }
+{
     let mut piece = [0u8; 2048];
     let got = libc::read(libc::STDIN_FILENO, &mut piece);
     if got < 0 {
@@ -69,7 +75,9 @@ fn read_piece(reader: Reader) -> Progress {
 }
 
 // Nothing says that the input ends, so the loop counts its turns down from a number that no run uses up.
-fn read_all(first: Reader) -> Reader {
+fn read_all(first: Reader) -> Reader
+    requires { ⌜ wantsMore (first .stage) ≡ true ⌝ }
+{
     let mut reader = first;
     let mut going = true;
     let mut turns = u64::MAX;

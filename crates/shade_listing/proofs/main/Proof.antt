@@ -1,5 +1,6 @@
 -- `main` is safe and ends.
-use mathlib.Core.Path.{sym}
+use mathlib.Core.Path.{sym, ap}
+use Rattle.listing.specs.Reading.{Reading, wantsMore, readingOf, lineStart}
 use lib.Seq.{length-take-le}
 use borrow.Author.Needs.{needs}
 use Rattle.shade_listing.proofs.main.Statement.{statement}
@@ -24,7 +25,8 @@ line-start-requires : tie.Need-line-start-requires
 line-start-requires c κs = search needs
 
 read-all-requires : tie.Need-read-all-requires
-read-all-requires c κs = search needs
+unfolding wantsMore readingOf lineStart
+read-all-requires c κs = ap (λ (r : Reading). wantsMore (r .stage)) (c .line-start .ensures)
 
 input-over-requires : tie.Need-input-over-requires
 input-over-requires c κs = search needs

@@ -1,4 +1,6 @@
--- `print_answers` is safe and ends.
+-- `print_answers` goes on only where more is wanted.
+use mathlib.Core.Path.{sym, _∙_}
+use mathlib.Core.Bool.{true≢false}
 use native.Mathlib.Omega.{arith}
 use denote.Ref.{now}
 use Rattle.listing.specs.Reading.{readingOf, printedOn}
@@ -32,11 +34,14 @@ write-out-requires c κs = tt
 given-up-requires : tie.Need-given-up-requires
 given-up-requires c κs = tt
 
+wants-more-requires : tie.Need-wants-more-requires
+wants-more-requires c κs = tt
+
 returns : tie.Need-returns
-returns c = tt
+returns c = λ e. absurd (true≢false (sym e ∙ c .given-up .ensures .1))
 
 returns-2 : tie.Need-returns-2
-returns-2 c = tt
+returns-2 c = λ e. sym (c .wants-more .ensures) ∙ e
 
 pub print-answers-spec : {M : Type 1} → statement M
 print-answers-spec =
@@ -50,4 +55,5 @@ print-answers-spec =
     write-out-requires
     given-up-requires
     returns
+    wants-more-requires
     returns-2)
