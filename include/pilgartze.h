@@ -35,7 +35,9 @@
  * - A list's pointer and length name memory that is there, and no other thread writes to it during the call.
  * - The results overlap no other list. (The lists that are only read may overlap each other.)
  * - An empty list of a raw call has length 0 and any pointer but NULL. The inline functions see to that: there a list
- *   with count 0 may be NULL.
+ *   with count 0 may be NULL. Pointers to structs (site, run, surface, weather, reading, shading, row) may not be NULL.
+ * - The floating-point unit is in its usual mode: it rounds to nearest, flushes no subnormals to zero (a program built
+ *   with -ffast-math may do so) and stops the program at no exception (feenableexcept).
  *
  * Angles are in degrees, lengths in metres, times in hours, irradiance in W/m2. "a..b" includes both ends. A NaN is in
  * no range; -0.0 counts as 0, so it is in 0..b and is not "above 0".
@@ -48,7 +50,22 @@
  *
  * The sun is inside the beam where its azimuth is at most 90 degrees from the way the surface faces (a difference
  * beyond 180 is shifted by 360 once) and its altitude at most 90 from the tilt. That can be so at night too, when the
- * altitude is 0. A NaN is outside the beam.
+ * altitude is 0. A NaN is outside the beam. This test goes by a vertical projection of the surface:
+ * - Outside the beam the factor is 1 whatever stands there, though direct light may still arrive on pitched glass.
+ * - A flat rooflight has an orientation that matters: a wall all round shades it fully from one side and not at all
+ *   from the other. Turn it to the sun at noon: 180 north of the tropics, 0 south of them.
+ *
+ * The clock is the standard time of the site's timezone, all the year: no summer time. Take half an hour of a timezone
+ * as 7.5 degrees of longitude: for UTC + 5:30 timezone 5 and a longitude less by 7.5.
+ *
+ * How objects combine. A distant object is as wide as its sector, one at the window as wide or as high as the window.
+ * Of the obstacles in a sector the one with the largest shade counts; so of all overhangs, in the sector and at the
+ * window, of the right fins and of the left fins. An obstacle at the window is looked at by itself, as if no distant
+ * one were there, and the least factor counts: two hedges do not add up.
+ *
+ * What gets past the shade is factor * direct + diffuse, not factor * total: diffuse light is never dimmed.
+ *
+ * docs/DIFFERENCES.md has an input for each of these, and where the standard has it otherwise.
  */
 #ifndef PILGARTZE_H
 #define PILGARTZE_H
@@ -97,37 +114,52 @@ uint64_t pilgartze_version(void);
 /* ---- Refusals ------------------------------------------------------------------------------------------------- */
 
 /* Why a call is turned down; 0 where it is not. Where several hold, the one that is tried first is given: 1 to 7 in
- * number order, over all steps, before anything is computed or stored; then 8 to 11, step by step. */
+ * number order, over all steps, before anything is computed or stored; then 8 to 11, step by step. After the arrow
+ * stands what to do. */
 enum pilgartze_refusal {
     PILGARTZE_ACCEPTED = 0,
-    /* site: a field of the site is out of range. */
+    /* site: a field of the site is out of range.
+     * -> Hold each field to the range beside it in pilgartze_site. */
     PILGARTZE_REFUSED_SITE = 1,
     /* run: a field of the run is out of range, or a step's hour is not in the year (8760 hours, in a leap year 8784);
-     * in a single-step call, a time that is out of range or whose hour is not in the year. */
+     * in a single-step call, a time that is out of range or whose hour is not in the year.
+     * -> Hold start, end and step to their ranges; end at 8760, or set leap_year. */
     PILGARTZE_REFUSED_RUN = 2,
-    /* surface: a field of the surface is out of range; also the sun's altitude or azimuth in a call of the factor. */
+    /* surface: a field of the surface is out of range; also the sun's altitude or azimuth in a call of the factor.
+     * -> Hold each field to its range; an azimuth far beyond 360 is that of a sun overhead. */
     PILGARTZE_REFUSED_SURFACE = 3,
     /* object: in a sector or at the window a field is out of range, a kind is not known, a count is above 8, an unused
-     * object or word is not all bits zero, or a list is too long or ends amid a record. */
+     * object or word is not all bits zero, or a list is too long or ends amid a record.
+     * -> Begin each sector by pilgartze_free_sector and each object by its function below; leave out an object of
+     *    height or depth 0. */
     PILGARTZE_REFUSED_OBJECT = 4,
-    /* series: a step needs a value past the end of a series. */
+    /* series: a step needs a value past the end of a series.
+     * -> Lengthen the series or end the run sooner; see that start_day and series_step are those of the series. */
     PILGARTZE_REFUSED_SERIES = 5,
-    /* reading: a value of a series that a step needs is out of range. */
+    /* reading: a value of a series that a step needs is out of range.
+     * -> Look for NaN, for values below 0 (also tiny ones) and for a reflectivity above 1. */
     PILGARTZE_REFUSED_READING = 6,
-    /* results: the results list is too short for the steps. */
+    /* results: the results list is too short for the steps.
+     * -> Lend a row for each step; PILGARTZE_MOST_STEPS rows are always enough. */
     PILGARTZE_REFUSED_RESULTS = 7,
     /* gap: a sector does not start where the one before it ends. 8 to 10 come only where the sun is inside the beam,
      * and go by the sectors in their order, up to the one with the sun: at each gap, then turned, then whether the sun
-     * is in it. */
+     * is in it.
+     * -> Start each sector at just the double at which the one before ends. */
     PILGARTZE_REFUSED_GAP = 8,
-    /* turned: a sector ends below its start. */
+    /* turned: a sector ends below its start.
+     * -> Part a sector that goes across north into two, one that ends at 360 and one that starts at 0. */
     PILGARTZE_REFUSED_TURNED = 9,
-    /* no sector: the sun is in none of the sectors. */
+    /* no sector: the sun is in none of the sectors.
+     * -> Let the sectors go from 0 to 360. If they do, the sun stands exactly on a border, or is overhead: move the
+     *    border or the longitude by 0.0001. */
     PILGARTZE_REFUSED_NO_SECTOR = 10,
     /* reveal: an object at the window is a reveal (kind 4), for which there is no factor; the sun is inside the beam,
-     * and a sector with it is found. */
+     * and a sector with it is found.
+     * -> Pass an overhang, a left fin and a right fin of its depth and distance (but see the right fin's comment). */
     PILGARTZE_REFUSED_REVEAL = 11,
-    /* line: a line of a shade listing is malformed. The shade listing has this number; no call below gives it. */
+    /* line: a line of a shade listing is malformed. The shade listing has this number; no call below gives it.
+     * -> Ten values of 16 upper-case hexadecimal digits, single spaces, after the names line. */
     PILGARTZE_REFUSED_LINE = 12
 };
 
@@ -145,12 +177,14 @@ static inline const char *pilgartze_refusal_word(uint64_t number)
 typedef struct pilgartze_site {
     double latitude;                 /* -90..90, north positive */
     double longitude;                /* -180..180, east positive */
-    int64_t timezone;                /* -13..14, hours ahead of UTC */
+    int64_t timezone;                /* -13..14, hours ahead of UTC; the sun goes by timezone - longitude / 15 */
     uint64_t start_day;              /* 0..365, the day of the year, from 0, on which the series begin */
     double series_step;              /* 0.25..24, hours from one value of a series to the next */
     uint64_t leap_year;              /* 0 or 1 */
     uint64_t direct_beam_conversion; /* 0: the direct series is the beam at normal incidence;
-                                        1: it is the beam on the horizontal plane, and is converted */
+                                        1: it is the beam on the horizontal plane, and is converted: divided by the
+                                        sine of the altitude, so that 10 W/m2 with the sun just above the horizon can
+                                        come to millions. Prefer 0 where the series can be had */
 } pilgartze_site;
 
 /* The steps of a run, in hours from the start of the year. The first step is at start; after a step at time t another
@@ -170,7 +204,8 @@ typedef struct pilgartze_surface {
     double tilt;        /* 0..180: 0 faces the sky, 90 is upright, 180 faces the ground */
     double orientation; /* 0..360, clockwise from north: which way the surface faces */
     double base_height; /* 0..1000, from the ground to the lower edge */
-    double height;      /* 0.001..1000 */
+    double height;      /* 0.001..1000; of a tilted surface its vertical projection: slant height * sine of the tilt.
+                           The slant height itself is accepted and gives a wrong factor */
     double width;       /* 0.001..1000 */
 } pilgartze_surface;
 
@@ -191,7 +226,8 @@ typedef struct pilgartze_object {
  * and so is one exactly in the north. Whether there is a gap is looked at only up to the sector with the sun.
  * Let the sectors go all the way round, from 0 to 360: where the sun is inside the beam and in no sector the step is
  * refused (10), and that can be so at night too, when the altitude is 0. With nothing in the distance one free sector
- * from 0 to 360 does. */
+ * from 0 to 360 does, but for hours in which the sun is exactly in the north: such are met on day 359, whose equation
+ * of time is 0, at longitudes 7.5, 22.5, 37.5 and so on. A longitude moved by 0.0001 has none. */
 typedef struct pilgartze_sector {
     double start;                                     /* 0..360, clockwise from north */
     double end;                                       /* 0..360 */
@@ -207,7 +243,8 @@ enum pilgartze_window_kind {
     PILGARTZE_OVERHANG = 1,
     PILGARTZE_RIGHT_FIN = 2, /* seldom shades: only where the azimuth less (180 - orientation) is below -270 */
     PILGARTZE_LEFT_FIN = 3,
-    PILGARTZE_REVEAL = 4 /* refused (11) where the sun is inside the beam and a sector with it is found */
+    PILGARTZE_REVEAL = 4 /* refused (11) where the sun is inside the beam and a sector with it is found: pass an
+                            overhang and two fins of its depth and distance */
 };
 
 /* An object at the window. A list has at most 16. */
@@ -215,13 +252,14 @@ typedef struct pilgartze_window_object {
     uint64_t kind;       /* an enum pilgartze_window_kind */
     double size;         /* above 0, up to 1000: an obstacle's height above the ground, any other's depth */
     double distance;     /* 0..10000: from an obstacle to the window, from any other to the window's edge */
-    double transparency; /* an obstacle's, 0..1; of any other kind all bits zero (0.0, not -0.0) */
+    double transparency; /* an obstacle's, 0 (opaque) .. 1 (shades nothing); of any other kind all bits zero (0.0, not
+                            -0.0) */
 } pilgartze_window_object;
 
 #define PILGARTZE_MOST_WINDOW_OBJECTS 16
 
-/* The weather series. A step uses the value at the floor of (time - 24 * start_day) / series_step; below 0 it uses the
- * first. Values that no step uses may be anything. */
+/* The weather series. A step uses the value at the floor of (time - 24 * start_day) / series_step; below 0, in a run
+ * that starts before its series, it uses the first. Values that no step uses may be anything. */
 typedef struct pilgartze_weather {
     const double *diffuse;      /* 0..10000 W/m2, on the horizontal plane */
     const double *direct;       /* 0..10000 W/m2, see direct_beam_conversion */
@@ -254,7 +292,7 @@ typedef struct pilgartze_row {
     double azimuth;  /* the sun's, from south, eastwards positive */
     double direct;   /* W/m2 on the unshaded surface: the beam, and the sky's light from around the sun; not below 0 */
     double diffuse;  /* W/m2: the rest of the sky's light, and what the ground reflects; can be below 0 */
-    double total;    /* direct + diffuse */
+    double total;    /* direct + diffuse, unshaded */
     double factor;   /* the part of direct that reaches the surface; 1 outside the beam. From 0 to 1: proved where no
                         shade extent is NaN; none is known to be; that is measured, not proved */
 } pilgartze_row;
@@ -278,7 +316,8 @@ typedef struct pilgartze_answer {
     uint64_t number; /* an enum pilgartze_refusal; 0: accepted */
     uint64_t step;   /* where number is 8 to 11 the step, from 0, at which the run ended; otherwise 0 */
     uint64_t count;  /* how many steps there are, and rows were stored */
-    double sum;      /* of factor * direct over all steps, W/m2; times the step in hours it is Wh/m2 */
+    double sum;      /* of factor * direct over all steps, W/m2; times the step in hours it is Wh/m2. One NaN row, see
+                        pilgartze_row, makes it NaN */
 } pilgartze_answer;
 
 typedef struct pilgartze_factor_answer {

@@ -1,0 +1,223 @@
+/* Tries the inputs that docs/DIFFERENCES.md names, entry by entry, so that what it says stays so. Good C99. */
+#include "pilgartze.h"
+
+#include <math.h>
+#include <stdio.h>
+
+#define HOURS 8760
+
+static double hundred[HOURS];
+static double fifth[HOURS];
+static pilgartze_row rows[HOURS];
+static const pilgartze_weather weather = {hundred, hundred, fifth, HOURS};
+static const pilgartze_run_times year = {0.0, HOURS, 1.0};
+static const pilgartze_reading reading = {100.0, 600.0, 0.2};
+static pilgartze_sector free_sector;
+static pilgartze_sector walled_sector;
+static const pilgartze_shading bare = {&free_sector, 1, NULL, 0};
+static const pilgartze_shading walled = {&walled_sector, 1, NULL, 0};
+static int checks = 0;
+static int failures = 0;
+
+static void check(int holds, int entry, const char *what)
+{
+    checks += 1;
+    if (!holds) {
+        failures += 1;
+        printf("entry %d: %s: not as it should be\n", entry, what);
+    }
+}
+
+static int about(double value, double wanted)
+{
+    return fabs(value - wanted) <= 0.5e-5 * fabs(wanted);
+}
+
+static pilgartze_site site_at(double latitude, double longitude, int64_t timezone)
+{
+    pilgartze_site site = {0.0, 0.0, 0, 0, 1.0, 0, 0};
+    site.latitude = latitude;
+    site.longitude = longitude;
+    site.timezone = timezone;
+    return site;
+}
+
+static pilgartze_surface facing(double tilt, double orientation, double base_height, double height)
+{
+    pilgartze_surface surface = {0.0, 0.0, 0.0, 0.0, 1.0};
+    surface.tilt = tilt;
+    surface.orientation = orientation;
+    surface.base_height = base_height;
+    surface.height = height;
+    return surface;
+}
+
+static pilgartze_breakdown irradiance(pilgartze_site site, double time, pilgartze_surface surface,
+                                      pilgartze_reading values)
+{
+    pilgartze_breakdown breakdown;
+    check(pilgartze_irradiance_at(&site, time, &surface, &values, &breakdown) == 0, 0, "an irradiance is refused");
+    return breakdown;
+}
+
+/* The factor with these objects at the window, and nothing in the distance. */
+static pilgartze_factor_answer behind(const pilgartze_window_object *objects, size_t count, double altitude,
+                                      double azimuth, pilgartze_surface surface)
+{
+    pilgartze_shading shading = {&free_sector, 1, NULL, 0};
+    shading.window = objects;
+    shading.window_count = count;
+    return pilgartze_factor_at(altitude, azimuth, &surface, &shading);
+}
+
+static void sun_and_sky(void)
+{
+    const pilgartze_surface upright = facing(90.0, 180.0, 1.0, 1.0);
+    const pilgartze_reading grazing = {0.0, 10.0, 0.2};
+    const pilgartze_reading no_light = {-0.0, 0.0, 0.2};
+    pilgartze_site converted = site_at(50.31, 0.0, 0);
+    pilgartze_breakdown sun;
+    sun = irradiance(site_at(0.37476825552591986, -110.72173407338755, -10), 1929.0, upright, reading);
+    check(sun.altitude == 90.0 && sun.azimuth == -16326106363.67939, 2, "the sun overhead");
+    converted.direct_beam_conversion = 1;
+    sun = irradiance(converted, 2309.0, facing(90.0, 90.0, 1.0, 1.0), grazing);
+    check(about(sun.direct, 4597031.0), 4, "a beam near the horizon");
+    sun = irradiance(site_at(-8.067087, 8.26, 0), 11.0, facing(15.0, 180.0, 1.0, 1.0), no_light);
+    check(isnan(sun.direct) && isnan(sun.diffuse) && isnan(sun.total), 18, "the sun square on the glass");
+    sun = irradiance(site_at(-7.854071, 10.648195, 0), 1427.0, upright, reading);
+    check(isnan(sun.altitude), 18, "the altitude of a sun overhead");
+    sun = irradiance(site_at(51.06, -1.31, 0), 12.0, facing(90.0, 0.0, 1.0, 1.0), no_light);
+    check(sun.direct == 0.0 && signbit(sun.direct), 19, "no light that is -0.0");
+}
+
+static void clocks(void)
+{
+    const pilgartze_surface upright = facing(90.0, 180.0, 1.0, 1.0);
+    const pilgartze_run_times odd = {0.0, 3.0, 0.3};
+    const pilgartze_run_times early = {2352.0, 2402.0, 1.0};
+    const double diffuse[] = {100.0, 50.0};
+    const double direct[] = {400.0, 300.0};
+    pilgartze_weather short_series = {diffuse, direct, fifth, 2};
+    pilgartze_site site = site_at(19.0, 72.75 + 7.5, 6);
+    pilgartze_breakdown above = irradiance(site, 4116.0, upright, reading);
+    pilgartze_breakdown below = irradiance(site_at(19.0, 72.75 - 7.5, 5), 4116.0, upright, reading);
+    pilgartze_row first;
+    check(above.altitude == below.altitude && above.azimuth == below.azimuth, 23, "a half-hour zone from both sides");
+    check(pilgartze_run_job(&site, &odd, &upright, &weather, &bare, rows, HOURS).count == 11, 12, "steps of 0.3");
+    site.start_day = 100;
+    check(pilgartze_run_job(&site, &early, &upright, &short_series, &bare, rows, HOURS).count == 50, 24,
+          "a run that starts before its series");
+    check(pilgartze_step_at(&site, 2364.0, &upright, &reading, &bare, &first) == 0, 24, "a step by itself");
+    check(rows[12].altitude == first.altitude && rows[12].direct > 0.0, 24, "the first value for an earlier day");
+}
+
+static void midnight(void)
+{
+    const pilgartze_surface north = facing(90.0, 0.0, 1.0, 1.2);
+    pilgartze_site site = site_at(47.5, 7.5, 1);
+    pilgartze_answer answer = pilgartze_run_job(&site, &year, &north, &weather, &bare, rows, HOURS);
+    check(answer.number == PILGARTZE_REFUSED_NO_SECTOR && answer.step == 8592, 9, "midnight exactly in the north");
+    site.longitude = 7.5001;
+    check(pilgartze_run_job(&site, &year, &north, &weather, &bare, rows, HOURS).count == HOURS, 9,
+          "the same a few metres further east");
+}
+
+static void beam(void)
+{
+    const pilgartze_site site = site_at(51.06, -1.31, 0);
+    const pilgartze_surface pitched = facing(10.0, 0.0, 3.0, 0.3);
+    pilgartze_surface flat = facing(0.0, 0.0, 3.0, 1.0);
+    pilgartze_row row;
+    check(pilgartze_factor_at(30.0, 0.0, &flat, &walled).factor == 1.0, 10, "a rooflight turned to the north");
+    flat.orientation = 180.0;
+    check(pilgartze_factor_at(30.0, 0.0, &flat, &walled).factor == 0.0, 10, "a rooflight turned to the south");
+    check(pilgartze_step_at(&site, 4116.0, &pitched, &reading, &walled, &row) == 0, 10, "a pitched roof");
+    check(row.factor == 1.0 && about(row.direct, 547.70654), 10, "light from behind on a pitched roof");
+}
+
+static void objects(void)
+{
+    const pilgartze_surface roof = facing(30.0, 180.0, 1.0, 1.0);
+    const pilgartze_surface slant = facing(30.0, 180.0, 1.0, 2.0);
+    const pilgartze_surface upright = facing(90.0, 180.0, 0.0, 2.0);
+    const pilgartze_window_object awning = pilgartze_overhang(0.5, 0.0);
+    const pilgartze_window_object hedges[] = {pilgartze_obstacle(1.0, 1.0, 0.5), pilgartze_obstacle(1.0, 1.0, 0.5)};
+    const pilgartze_window_object wall = pilgartze_obstacle(1.0, 1.0, 0.0);
+    const pilgartze_window_object glass = pilgartze_obstacle(1.0, 1.0, 1.0);
+    pilgartze_sector distant = pilgartze_free_sector(0.0, 360.0);
+    pilgartze_shading both = {NULL, 1, NULL, 1};
+    pilgartze_add_object(&distant, pilgartze_distant_obstacle(1.0, 10.0));
+    both.sectors = &distant;
+    both.window = hedges;
+    check(behind(&awning, 1, 45.0, 0.0, roof).factor == 0.5, 21, "a roof's vertical projection");
+    check(behind(&awning, 1, 45.0, 0.0, slant).factor == 0.75, 21, "a roof's slant height");
+    check(behind(hedges, 1, 0.0, 0.0, upright).factor == 0.75, 11, "one hedge");
+    check(behind(hedges, 2, 0.0, 0.0, upright).factor == 0.75, 11, "two hedges");
+    check(pilgartze_factor_at(0.0, 0.0, &upright, &both).factor == 0.5, 11, "a distant wall and a hedge");
+    check(behind(&wall, 1, 0.0, 0.0, upright).factor == 0.5, 22, "transparency 0");
+    check(behind(&glass, 1, 0.0, 0.0, upright).factor == 1.0, 22, "transparency 1");
+}
+
+static void fins(void)
+{
+    const pilgartze_surface upright = facing(90.0, 180.0, 0.0, 1.2);
+    const pilgartze_surface east = facing(90.0, 45.0, 0.0, 1.2);
+    const pilgartze_window_object right = pilgartze_right_fin(0.5, 0.0);
+    const pilgartze_window_object left = pilgartze_left_fin(0.5, 0.0);
+    const pilgartze_window_object reveal = pilgartze_reveal(0.2, 0.05);
+    const pilgartze_window_object parts[] = {pilgartze_overhang(0.2, 0.05), pilgartze_left_fin(0.2, 0.05),
+                                             pilgartze_right_fin(0.2, 0.05)};
+    check(behind(&right, 1, 30.0, -45.0, upright).factor == 1.0, 7, "a right fin, the sun to the right");
+    check(about(behind(&left, 1, 30.0, 45.0, upright).factor, 0.5), 7, "a left fin, the sun to the left");
+    check(behind(&right, 1, 30.0, -150.0, east).factor < 1.0, 7, "a right fin, a difference below -270");
+    check(behind(&reveal, 1, 30.0, 20.0, upright).number == PILGARTZE_REFUSED_REVEAL, 28, "a reveal");
+    check(about(behind(parts, 3, 30.0, 20.0, upright).factor, 0.9178564), 28, "an overhang and fins in its place");
+}
+
+static void sectors(void)
+{
+    const pilgartze_surface upright = facing(90.0, 180.0, 0.0, 1.2);
+    pilgartze_sector halves[] = {pilgartze_free_sector(0.0, 180.0), pilgartze_free_sector(190.0, 360.0)};
+    pilgartze_shading shading = {NULL, 2, NULL, 0};
+    shading.sectors = halves;
+    check(pilgartze_factor_at(10.0, 10.0, &upright, &shading).number == 0, 15, "a gap behind the sun");
+    check(pilgartze_factor_at(10.0, -20.0, &upright, &shading).number == PILGARTZE_REFUSED_GAP, 15, "a gap before it");
+    halves[1].start = 180.0;
+    check(pilgartze_factor_at(10.0, 0.0, &upright, &shading).number == PILGARTZE_REFUSED_NO_SECTOR, 9, "a border");
+}
+
+static void shaded_light(void)
+{
+    const pilgartze_site site = site_at(51.06, -1.31, 0);
+    const pilgartze_surface upright = facing(90.0, 180.0, 1.0, 1.2);
+    const pilgartze_run_times day = {0.0, 24.0, 1.0};
+    const pilgartze_surface square = facing(15.0, 180.0, 1.0, 1.0);
+    const pilgartze_site overhead = site_at(-8.067087, 8.26, 0);
+    pilgartze_row with, without;
+    check(pilgartze_step_at(&site, 4116.0, &upright, &reading, &walled, &with) == 0, 29, "a step behind a wall");
+    check(pilgartze_step_at(&site, 4116.0, &upright, &reading, &bare, &without) == 0, 29, "the same without it");
+    check(with.factor == 0.0 && with.diffuse == without.diffuse && with.total == without.total, 29, "diffuse light");
+    check(isnan(pilgartze_run_job(&overhead, &day, &square, &weather, &bare, rows, HOURS).sum), 18, "a NaN sum");
+}
+
+int main(void)
+{
+    int hour;
+    for (hour = 0; hour < HOURS; hour++) {
+        hundred[hour] = 100.0;
+        fifth[hour] = 0.2;
+    }
+    free_sector = pilgartze_free_sector(0.0, 360.0);
+    walled_sector = free_sector;
+    pilgartze_add_object(&walled_sector, pilgartze_distant_obstacle(100.0, 10.0));
+    sun_and_sky();
+    clocks();
+    midnight();
+    beam();
+    objects();
+    fins();
+    sectors();
+    shaded_light();
+    printf("docs/DIFFERENCES.md: %d checks of its inputs, %d failed\n", checks, failures);
+    return failures == 0 ? 0 : 1;
+}
