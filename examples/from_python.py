@@ -66,7 +66,7 @@ def load(path):
 
 
 def lent(*lists):
-    """Each list as the library takes it: a pointer and a length in bytes. The caller keeps the lists during the call."""
+    """Each list as the library takes it, a pointer and a length in bytes. The caller keeps it during the call."""
     return [part for each in lists for part in (ctypes.addressof(each), ctypes.sizeof(each))]
 
 
