@@ -1,6 +1,8 @@
 /* A test of the library through include/pilgartze.h: that it is of the header's version; that the four calls agree with
  * each other, bit for bit; some factors that are known; and each refusal, with what is then stored. Good C99 and good
- * C++11. */
+ * C++11.
+ *
+ * With any argument it prints some results of its job in place of the test: what examples/from_python.py prints. */
 #include "pilgartze.h"
 
 #include <stdio.h>
@@ -231,8 +233,44 @@ static void check_single_refusals(void)
     check(pilgartze_factor_at(91.0, 0.0, &made.surface, &shading).factor == 0.0, "refused factor", 0);
 }
 
-int main(void)
+/* ---- The job's results ---------------------------------------------------------------------------------------- */
+
+/* The sum with the overhang so deep, and the row of a morning hour. 17 digits tell any two doubles apart. */
+static void print_run(job *of, double depth)
 {
+    const pilgartze_row *const row = &rows[16];
+    pilgartze_answer answer;
+    of->window[0] = pilgartze_overhang(depth, 0.15);
+    answer = run_job(of);
+    printf("overhang %.1f m: %u steps, %.17g Wh/m2\n", depth, (unsigned)answer.count, answer.sum * of->run.step);
+    printf("  at 8:00: altitude %.17g, azimuth %.17g, direct %.17g, diffuse %.17g, total %.17g, factor %.17g\n",
+           row->altitude, row->azimuth, row->direct, row->diffuse, row->total, row->factor);
+}
+
+static void print_factor(const job *of, double altitude)
+{
+    const pilgartze_shading shading = shading_of(of);
+    const pilgartze_factor_answer answer = pilgartze_factor_at(altitude, 50.0, &of->surface, &shading);
+    printf("sun at altitude %.0f: number %u, factor %.17g\n", altitude, (unsigned)answer.number, answer.factor);
+}
+
+static void print_results(void)
+{
+    job made = good_job();
+    printf("pilgartze %u\n", (unsigned)pilgartze_version());
+    print_run(&made, 0.6);
+    print_run(&made, 1.2);
+    print_factor(&made, 35.0);
+    print_factor(&made, -1.0);
+}
+
+int main(int argc, char **argv)
+{
+    (void)argv;
+    if (argc > 1) {
+        print_results();
+        return 0;
+    }
     check_version();
     check_agreement();
     check_factors();
