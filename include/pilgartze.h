@@ -1,4 +1,5 @@
-/* pilgartze.h: sun, sky and shade on one surface, for C99 and C++11. Link with libpilgartze.a (x86-64, Linux).
+/* pilgartze.h: sun, sky and shade on one surface, for C99 and C++11. Link with libpilgartze.a or
+ * libpilgartze.so (x86-64, Linux).
  *
  * A site, its weather and a surface go in. For each step of a run the sun's position, the irradiance on the surface and
  * a direct shading factor come out, and the sum of factor times direct irradiance over all steps.
