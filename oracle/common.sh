@@ -63,10 +63,12 @@ static_library() {
     rt staticlib "$1" >&2 || fail "the library $1 was not built" 1
 }
 
-# has_texts FOLDER: whether the published texts are there, under either name that oracle/slice takes.
+# has_texts FOLDER: whether the published texts are there, each under either name that oracle/slice takes.
 has_texts() {
-    local file=$1/src/core/external_conditions.rs
-    [ -f "$file" ] || [ -f "$file.txt" ]
+    local name
+    for name in compare_floats core/units core/simulation_time core/external_conditions; do
+        [ -f "$1/src/$name.rs" ] || [ -f "$1/src/$name.rs.txt" ] || return 1
+    done
 }
 
 # published_items FOLDER: cuts them out of the published texts, and says where they are to rustc.

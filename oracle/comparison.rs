@@ -61,7 +61,9 @@ impl Settings {
         if self.print {
             let Tally { compared, both_nan } = tally;
             let word = with.word();
-            println!("  {name:<44} {word:<10} {compared:>12} cases, {both_nan:>9} NaN on both sides");
+            println!(
+                "  {name:<44} {word:<10} {compared:>12} cases, {both_nan:>9} NaN on both sides"
+            );
             if compared >= self.count as u64 {
                 FULL[with as usize].fetch_add(1, Ordering::Relaxed);
             }

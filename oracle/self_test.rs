@@ -334,7 +334,9 @@ fn rules(settings: &Settings) -> Outcome {
 
     let nothing = compare("nothing", std::iter::empty(), |[x]: [f64; 1]| [x], |x| x)?;
     must(
-        settings.report("nothing", With::PlainForm, nothing).is_err(),
+        settings
+            .report("nothing", With::PlainForm, nothing)
+            .is_err(),
         "an empty comparison must be an error",
     )?;
     let only_nan = Tally {

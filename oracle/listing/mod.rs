@@ -105,8 +105,7 @@ fn output_of(program: &Program, listing: &Listing, random: Random) -> Result<Vec
     let mut output = child.stdout.take().expect("a pipe was asked for");
     let (sender, receiver) = mpsc::channel();
     std::thread::scope(|scope| {
-        let writer =
-            scope.spawn(|| write_in_pieces(input, &listing.bytes, listing.pieces, random));
+        let writer = scope.spawn(|| write_in_pieces(input, &listing.bytes, listing.pieces, random));
         scope.spawn(move || {
             let mut bytes = vec![];
             let read = output.read_to_end(&mut bytes);
