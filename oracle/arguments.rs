@@ -1,7 +1,7 @@
 //! Cases for functions of several arguments: each argument has places at which something changes,
 //! and a range in which the useful ones lie.
 
-use crate::comparison::{compare, Outcome, Settings};
+use crate::comparison::{compare, Outcome, Settings, With};
 use crate::random::{chief_edges, ulps_from, Random};
 
 pub struct Argument {
@@ -121,7 +121,7 @@ pub fn around(places: &[f64]) -> Vec<f64> {
     places.iter().flat_map(near).collect()
 }
 
-/// Compares one function: on aimed cases, then on those of its arguments.
+/// Compares one published function: on aimed cases, then on those of its arguments.
 pub fn compare_function<const I: usize>(
     settings: &Settings,
     name: &str,
@@ -133,5 +133,5 @@ pub fn compare_function<const I: usize>(
     let mut random = settings.random(name);
     let inputs = aimed.chain(cases(&mut random, &arguments, settings.count));
     let tally = compare(name, inputs, |input| [rust(input)], |input| [rattle(input)])?;
-    settings.report(name, tally)
+    settings.report(name, With::Published, tally)
 }

@@ -35,15 +35,19 @@ side_by_side() {
     return "$status"
 }
 
-# The published Rust and the standard library's whole root want a rustc that is not too old.
+# rustc_will_do: the published Rust and the standard library's whole root want 1.84 or later.
+rustc_will_do() {
+    local minor
+    minor=$(rustc --version 2>/dev/null | sed -n 's/^rustc 1\.\([0-9]*\)\..*/\1/p')
+    [ "${minor:-0}" -ge 84 ]
+}
+
 need_rustc() {
     command -v rustc >/dev/null ||
-        fail "rustc is not installed (Debian 13: apt install rustc)"
+        fail "rustc is not installed (Debian 12: apt install rustc-web; Debian 13: apt install rustc)"
     command -v cc >/dev/null || fail "there is no C compiler to link with (Debian: apt install gcc)"
     command -v nm >/dev/null || fail "nm is not installed (Debian: apt install binutils)"
-    local minor
-    minor=$(rustc --version | sed -n 's/^rustc 1\.\([0-9]*\)\..*/\1/p')
-    [ "${minor:-0}" -ge 84 ] || fail "rustc 1.84 or later is needed; this is $(rustc --version)"
+    rustc_will_do || fail "rustc 1.84 or later is needed; this is $(rustc --version)"
 }
 
 # prove NAME..: these crates and all below them, several at a time; a static library is proved one
@@ -59,10 +63,18 @@ static_library() {
     rt staticlib "$1" >&2 || fail "the library $1 was not built" 1
 }
 
+# has_texts FOLDER: whether the published texts are there, each under either name that oracle/slice takes.
+has_texts() {
+    local name
+    for name in compare_floats core/units core/simulation_time core/external_conditions; do
+        [ -f "$1/src/$name.rs" ] || [ -f "$1/src/$name.rs.txt" ] || return 1
+    done
+}
+
 # published_items FOLDER: cuts them out of the published texts, and says where they are to rustc.
 published_items() {
     command -v python3 >/dev/null || fail "python3 is not installed (Debian: apt install python3)"
-    [ -d "$1" ] || fail "no folder $1 with the published texts (name it by --source DIR)"
+    has_texts "$1" || fail "the published texts are not in $1 (name their folder by --source DIR)"
     python3 oracle/slice target/oracle/published_items.rs "$1" || exit 1
     export ORACLE_PUBLISHED_ITEMS=$PWD/target/oracle/published_items.rs
 }

@@ -32,8 +32,12 @@ use std::path::PathBuf;
 use std::process::ExitCode;
 
 /// The sections, in the order in which they are run. A new one is added here.
-const SECTIONS: [fn(&Settings) -> Outcome; 5] = [
+const SECTIONS: [fn(&Settings) -> Outcome; 6] = [
     |settings| published::sanity::section(settings),
+    |settings| {
+        let (least, most) = (published::min_of_2, published::max_of_2);
+        numbers::least_and_most(settings, &probes::LIBRARY, least, most)
+    },
     |settings| numbers::section(settings, &probes::LIBRARY),
     |settings| words::section(settings, &probes::LIBRARY),
     |settings| published::sun::section(settings, &probes::LIBRARY),
@@ -109,6 +113,7 @@ fn run(arguments: &Arguments) -> Outcome {
     for section in SECTIONS {
         section(settings)?;
     }
+    settings.report_all();
     println!("no difference");
     Ok(())
 }

@@ -1,6 +1,7 @@
 //! Comparing two functions case by case, bit for bit.
 
 use crate::random::Random;
+use std::sync::atomic::{AtomicU64, Ordering};
 
 /// What a section gives: nothing, or the first difference in words.
 pub type Outcome = Result<(), String>;
@@ -15,6 +16,28 @@ pub struct Settings {
     pub print: bool,
 }
 
+/// What Rattle's side of a comparison is held to.
+#[derive(Clone, Copy)]
+pub enum With {
+    /// The published Rust.
+    Published,
+    /// The specification's stand-in for a float method, as the published Rust is given it.
+    StandIn,
+    /// A form written for the comparison alone.
+    PlainForm,
+}
+
+impl With {
+    const WORDS: [&'static str; 3] = ["published", "stand-in", "plain form"];
+
+    fn word(self) -> &'static str {
+        With::WORDS[self as usize]
+    }
+}
+
+/// How many comparisons with each had all the cases that were asked for.
+static FULL: [AtomicU64; 3] = [const { AtomicU64::new(0) }; 3];
+
 impl Settings {
     pub fn random(&self, name: &str) -> Random {
         Random::new(self.seed, name)
@@ -28,7 +51,7 @@ impl Settings {
 
     /// The line of one function. That nothing was compared, or NaN alone, is an error: it would
     /// say nothing.
-    pub fn report(&self, name: &str, tally: Tally) -> Outcome {
+    pub fn report(&self, name: &str, with: With, tally: Tally) -> Outcome {
         if tally.compared == 0 {
             return Err(format!("{name}: nothing was compared"));
         }
@@ -37,9 +60,29 @@ impl Settings {
         }
         if self.print {
             let Tally { compared, both_nan } = tally;
-            println!("  {name:<44} {compared:>12} cases, {both_nan:>9} NaN on both sides");
+            let word = with.word();
+            println!(
+                "  {name:<44} {word:<10} {compared:>12} cases, {both_nan:>9} NaN on both sides"
+            );
+            if compared >= self.count as u64 {
+                FULL[with as usize].fetch_add(1, Ordering::Relaxed);
+            }
         }
         Ok(())
+    }
+
+    /// How many of the comparisons that were printed were full ones, and with what.
+    pub fn report_all(&self) {
+        let counts = FULL.each_ref().map(|count| count.load(Ordering::Relaxed));
+        let mut line = format!(
+            "comparisons of {} cases or more: {}",
+            self.count,
+            counts.iter().sum::<u64>()
+        );
+        for (word, count) in With::WORDS.iter().zip(counts) {
+            line += &format!(", {word} {count}");
+        }
+        println!("{line}");
     }
 
     /// How many of a function's cases were of some kind.

@@ -1,9 +1,9 @@
 //! The stand-ins and the other functions on doubles.
 
-use crate::comparison::{compare, Outcome, Settings};
+use crate::comparison::{compare, Outcome, Settings, With};
 use crate::probes::{OneDouble, Probes, TwoDoubles};
 use crate::random::{chief_edges, edges, power_of_two, ulps_from, Random};
-use crate::{published, stand_ins};
+use crate::stand_ins;
 
 /// Where a function's useful inputs lie.
 #[derive(Clone, Copy)]
@@ -118,24 +118,46 @@ fn pairs(random: &mut Random, count: usize) -> impl Iterator<Item = [f64; 2]> + 
     each.into_iter().chain(drawn)
 }
 
+fn two(
+    settings: &Settings,
+    name: &str,
+    with: With,
+    rust: fn(f64, f64) -> f64,
+    rattle: TwoDoubles,
+) -> Outcome {
+    let mut random = settings.random(name);
+    let tally = compare(
+        name,
+        pairs(&mut random, settings.count),
+        |[a, b]| [rust(a, b)],
+        |[a, b]| [unsafe { rattle(a, b) }],
+    )?;
+    settings.report(name, with, tally)
+}
+
+/// `min_of_2` and `max_of_2`, which the published Rust has itself: it is handed in, so that this
+/// file does without its texts.
+pub fn least_and_most(
+    settings: &Settings,
+    probes: &Probes,
+    min_of_2: fn(f64, f64) -> f64,
+    max_of_2: fn(f64, f64) -> f64,
+) -> Outcome {
+    settings.heading("the lesser and the greater of two doubles: published Rust against Rattle");
+    let with = With::Published;
+    two(settings, "min_of_2", with, min_of_2, probes.min_of_2)?;
+    two(settings, "max_of_2", with, max_of_2, probes.max_of_2)
+}
+
 fn of_two(settings: &Settings, probes: &Probes) -> Outcome {
-    let two = |name: &str, rust: fn(f64, f64) -> f64, rattle: TwoDoubles| {
-        let mut random = settings.random(name);
-        let tally = compare(
-            name,
-            pairs(&mut random, settings.count),
-            |[a, b]| [rust(a, b)],
-            |[a, b]| [unsafe { rattle(a, b) }],
-        )?;
-        settings.report(name, tally)
-    };
-    two("min_of_2", published::min_of_2, probes.min_of_2)?;
-    two("max_of_2", published::max_of_2, probes.max_of_2)?;
-    two("float_min", stand_ins::float_min, probes.float_min)?;
-    two("float_max", stand_ins::float_max, probes.float_max)
+    let (min, max) = (stand_ins::float_min, stand_ins::float_max);
+    two(settings, "float_min", With::StandIn, min, probes.float_min)?;
+    two(settings, "float_max", With::StandIn, max, probes.float_max)
 }
 
 const TURNS: [Useful; 3] = [Between(-64.0, 64.0), Between(-7.0, 7.0), Between(-1.0, 1.0)];
+
+const WHOLE_NUMBER_ROOT: &str = "sqrt (whole numbers)";
 
 /// The functions of one double, each with the range in which it is of use.
 fn each_of_one(probes: &Probes) -> Vec<(&'static str, Vec<Useful>, fn(f64) -> f64, OneDouble)> {
@@ -168,7 +190,7 @@ fn each_of_one(probes: &Probes) -> Vec<(&'static str, Vec<Useful>, fn(f64) -> f6
             probes.to_degrees,
         ),
         ("sqrt", roots.clone(), stand_ins::sqrt, probes.sqrt),
-        ("sqrt (whole numbers)", roots, by_whole_numbers, probes.sqrt),
+        (WHOLE_NUMBER_ROOT, roots, by_whole_numbers, probes.sqrt),
         ("sin", turns.clone(), stand_ins::sin, probes.sin),
         ("cos", turns.clone(), stand_ins::cos, probes.cos),
         ("tan", turns, stand_ins::tan, probes.tan),
@@ -183,7 +205,11 @@ fn of_one(settings: &Settings, probes: &Probes, edges: &[f64]) -> Outcome {
         let mut random = settings.random(name);
         let inputs = doubles(&mut random, edges, &useful, settings.count).map(|x| [x]);
         let tally = compare(name, inputs, |[x]| [rust(x)], |[x]| [unsafe { rattle(x) }])?;
-        settings.report(name, tally)?;
+        let with = match name == WHOLE_NUMBER_ROOT {
+            true => With::PlainForm,
+            false => With::StandIn,
+        };
+        settings.report(name, with, tally)?;
     }
     Ok(())
 }
@@ -202,11 +228,11 @@ fn sine_and_cosine(settings: &Settings, probes: &Probes, edges: &[f64]) -> Outco
             [both.sin, both.cos]
         },
     )?;
-    settings.report("sin_cos", tally)
+    settings.report("sin_cos", With::StandIn, tally)
 }
 
 pub fn section(settings: &Settings, probes: &Probes) -> Outcome {
-    settings.heading("functions on doubles: published Rust and stand-ins against Rattle");
+    settings.heading("functions on doubles: stand-ins against Rattle");
     let edges = edges();
     of_two(settings, probes)?;
     of_one(settings, probes, &edges)?;

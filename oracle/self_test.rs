@@ -2,14 +2,14 @@
 //!
 //! Both sides are Rust here; the library is not called.
 
-use crate::comparison::{compare, same, Outcome, Settings, Tally};
+use crate::comparison::{compare, same, Outcome, Settings, Tally, With};
 use crate::guarded::{Guarded, Side, OUT_OF_BOUNDS};
 use crate::listing::{self, Program};
 use crate::probes::{Digits, Probes, SinCos};
 use crate::published::wrong::{wrong_sides, Wrong};
 use crate::published::{interface, irradiance, sun, wrong};
 use crate::random::{power_of_two, ulps_from};
-use crate::{numbers, stand_ins, words};
+use crate::{numbers, published, stand_ins, words};
 use std::path::Path;
 
 // --- The right functions, behind the C interface ---
@@ -301,6 +301,8 @@ type Section = Box<dyn Fn(&Settings, &Probes) -> Outcome>;
 /// Sections, and the functions that they have to find.
 fn sections() -> Vec<(Section, Vec<Wrong>)> {
     let lowest = |settings: &Settings, probes: &Probes| {
+        let (least, most) = (published::min_of_2, published::max_of_2);
+        numbers::least_and_most(settings, probes, least, most)?;
         numbers::section(settings, probes)?;
         words::section(settings, probes)
     };
@@ -332,7 +334,9 @@ fn rules(settings: &Settings) -> Outcome {
 
     let nothing = compare("nothing", std::iter::empty(), |[x]: [f64; 1]| [x], |x| x)?;
     must(
-        settings.report("nothing", nothing).is_err(),
+        settings
+            .report("nothing", With::PlainForm, nothing)
+            .is_err(),
         "an empty comparison must be an error",
     )?;
     let only_nan = Tally {
@@ -340,7 +344,7 @@ fn rules(settings: &Settings) -> Outcome {
         both_nan: 5,
     };
     must(
-        settings.report("NaN", only_nan).is_err(),
+        settings.report("NaN", With::PlainForm, only_nan).is_err(),
         "a comparison of NaN alone must be an error",
     )
 }
@@ -377,8 +381,9 @@ fn listings(settings: &Settings, this_program: &Path) -> Result<usize, String> {
         let path = this_program;
         listing::run(settings, &Program { path, arguments })
     };
-    listing_in(listing::wrong::RIGHT)
-        .map_err(|words| format!("self-test, the right listing: {words}"))?;
+    for way in listing::wrong::RIGHT {
+        listing_in(way).map_err(|words| format!("self-test, {way}: {words}"))?;
+    }
     let mut found = 0;
     for way in listing::wrong::wrong_ways() {
         must_be_found(way, "listing differs", listing_in(way))?;

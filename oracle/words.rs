@@ -4,7 +4,7 @@
 //! page are compared with what the plain functions below give: the bytes that a call leaves alone
 //! as much as those it stores.
 
-use crate::comparison::{same, shown, Outcome, Settings, Tally};
+use crate::comparison::{same, shown, Outcome, Settings, Tally, With};
 use crate::guarded::{Guarded, Side, PAGE};
 use crate::probes::{Digits, Probes};
 use crate::random::{chief_edges, Random, NAN_PATTERNS};
@@ -335,7 +335,7 @@ fn compare(
         tally.compared += 1;
         tally.both_nan += right.is_nan() as u64;
     }
-    settings.report(name, tally)
+    settings.report(name, With::PlainForm, tally)
 }
 
 /// How many words, or digits, a list of that length may have places for.

@@ -92,7 +92,7 @@ void try_stack(soak *in, uint64_t jobs)
 {
     job made = job_with_room();
     int call;
-    printf("bytes of stack, of %lu at most: ", (unsigned long)PILGARTZE_STACK_BYTES);
+    printf("bytes of stack over %lu jobs, of %lu at most: ", (unsigned long)jobs, (unsigned long)PILGARTZE_STACK_BYTES);
     for (call = CALLS; call >= 0; call--) {
         const char *const name = call == CALLS ? "no call" : name_of((enum call)call);
         const size_t bytes = stack_of(in, (enum call)call, jobs, &made);

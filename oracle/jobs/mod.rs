@@ -8,7 +8,7 @@ pub mod lent;
 pub mod self_test;
 pub mod wrong;
 
-use crate::comparison::{same, shown, Outcome, Settings, Tally};
+use crate::comparison::{same, shown, Outcome, Settings, Tally, With};
 use crate::published::jobs::*;
 use crate::shading::call::Call;
 use crate::shading::laws::Law;
@@ -398,7 +398,7 @@ impl Comparison<'_> {
     }
 
     fn report(&self, settings: &Settings) -> Outcome {
-        settings.report("jobs", self.tally)?;
+        settings.report("jobs", With::Published, self.tally)?;
         if self.plan.compared {
             self.met.report(settings)?;
             settings.detail("also judged by the record of a year", self.by_new);

@@ -8,7 +8,7 @@ pub mod wrong;
 use crate::comparison::{Outcome, Settings};
 use crate::random::Random;
 use expected::{expected, Answers};
-use std::io::{Read, Write};
+use std::io::{ErrorKind, Read, Write};
 use std::os::fd::{AsRawFd, RawFd};
 use std::process::{ChildStdin, Command, Stdio};
 use std::sync::mpsc;
@@ -26,24 +26,52 @@ const PATIENCE: Duration = Duration::from_secs(60);
 
 extern "C" {
     fn ioctl(file: RawFd, request: u64, ...) -> i32;
+    fn poll(files: *mut Polled, count: u64, milliseconds: i32) -> i32;
 }
 
 const FIONREAD: u64 = 0x541B; // Linux
+const POLLERR: i16 = 8;
+
+/// The C library's `struct pollfd`.
+#[repr(C)]
+struct Polled {
+    file: RawFd,
+    asked: i16,
+    found: i16,
+}
+
+/// Nobody reads from the pipe any more.
+fn abandoned(pipe: &ChildStdin) -> bool {
+    let mut polled = Polled {
+        file: pipe.as_raw_fd(),
+        asked: 0,
+        found: 0,
+    };
+    unsafe { poll(&mut polled, 1, 0) == 1 && polled.found & POLLERR != 0 }
+}
 
 /// Waits for the program to have read all that was written, so that it reads the next piece by
-/// itself; but not for long, since it may have ended.
+/// itself; but not for long, and not where it has stopped reading.
 fn wait_until_read(pipe: &ChildStdin) {
     let start = Instant::now();
     let mut unread = 0i32;
     while unsafe { ioctl(pipe.as_raw_fd(), FIONREAD, &mut unread as *mut i32) } == 0
         && unread > 0
         && start.elapsed() < Duration::from_millis(20)
+        && !abandoned(pipe)
     {
         std::thread::yield_now();
     }
 }
 
-fn write_in_pieces(mut pipe: ChildStdin, bytes: &[u8], pieces: Pieces, mut random: Random) {
+/// A program may stop reading before the end, as one may at a wrong names line: the rest is then
+/// not written, and what it has answered is compared all the same.
+fn write_in_pieces(
+    mut pipe: ChildStdin,
+    bytes: &[u8],
+    pieces: Pieces,
+    mut random: Random,
+) -> std::io::Result<()> {
     let mut rest = bytes;
     while !rest.is_empty() {
         let len = match pieces {
@@ -52,15 +80,16 @@ fn write_in_pieces(mut pipe: ChildStdin, bytes: &[u8], pieces: Pieces, mut rando
             Pieces::UpTo(most) => 1 + random.below(most),
         };
         let (piece, later) = rest.split_at(len.min(rest.len()));
-        // a program that has ended reads no more, and need not
-        if pipe.write_all(piece).and_then(|_| pipe.flush()).is_err() {
-            return;
+        match pipe.write_all(piece).and_then(|_| pipe.flush()) {
+            Err(error) if error.kind() == ErrorKind::BrokenPipe => return Ok(()),
+            written => written?,
         }
         if pieces != Pieces::Whole {
             wait_until_read(&pipe);
         }
         rest = later;
     }
+    Ok(())
 }
 
 /// What the program writes to its standard output.
@@ -76,7 +105,7 @@ fn output_of(program: &Program, listing: &Listing, random: Random) -> Result<Vec
     let mut output = child.stdout.take().expect("a pipe was asked for");
     let (sender, receiver) = mpsc::channel();
     std::thread::scope(|scope| {
-        scope.spawn(|| write_in_pieces(input, &listing.bytes, listing.pieces, random));
+        let writer = scope.spawn(|| write_in_pieces(input, &listing.bytes, listing.pieces, random));
         scope.spawn(move || {
             let mut bytes = vec![];
             let read = output.read_to_end(&mut bytes);
@@ -90,6 +119,8 @@ fn output_of(program: &Program, listing: &Listing, random: Random) -> Result<Vec
         let status = child.wait().map_err(|error| error.to_string())?;
         let bytes = bytes.map_err(|_| format!("{name} does not end"))?;
         let bytes = bytes.map_err(|error| error.to_string())?;
+        let written = writer.join().expect("the writer does not panic");
+        written.map_err(|error| format!("{name} cannot be written to: {error}"))?;
         match status.success() {
             true => Ok(bytes),
             false => Err(format!("{name} fails: {status}")),

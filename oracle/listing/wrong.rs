@@ -20,6 +20,7 @@ macro_rules! ways {
 
 ways! {
     Right
+    RightAndDoneAtWrongNames
     HeaderMissing
     HeaderOnlyWithLines
     NoInputAccepted
@@ -57,10 +58,11 @@ ways! {
 }
 use Way::*;
 
-/// The wrong ways by their names, and the right one.
-pub const RIGHT: &str = WAYS[0].0;
+/// The wrong ways by their names, and the right ones, of which the second stops reading at a wrong
+/// names line.
+pub const RIGHT: [&str; 2] = [WAYS[0].0, WAYS[1].0];
 pub fn wrong_ways() -> impl Iterator<Item = &'static str> {
-    WAYS[1..].iter().map(|&(name, _)| name)
+    WAYS[RIGHT.len()..].iter().map(|&(name, _)| name)
 }
 
 fn line_as(way: Way, line: &[u8]) -> Vec<u8> {
@@ -125,8 +127,15 @@ fn answer(way: Way, judge: &mut Judge, line: &[u8]) -> String {
     }
 }
 
+/// Whether the names line is there as a whole, and wrong.
+fn wrong_names(reads: &[Vec<u8>]) -> bool {
+    let bytes = || reads.iter().flatten().copied();
+    let line = bytes().take_while(|&byte| byte != b'\n');
+    bytes().any(|byte| byte == b'\n') && !line.eq(NAMES.bytes())
+}
+
 /// All that is read, read by read.
-fn reads() -> std::io::Result<Vec<Vec<u8>>> {
+fn reads(way: Way) -> std::io::Result<Vec<Vec<u8>>> {
     let mut input = std::io::stdin().lock();
     let mut buffer = vec![0; 1 << 16];
     let mut reads = vec![];
@@ -134,6 +143,9 @@ fn reads() -> std::io::Result<Vec<Vec<u8>>> {
         match input.read(&mut buffer)? {
             0 => return Ok(reads),
             len => reads.push(buffer[..len].to_vec()),
+        }
+        if way == RightAndDoneAtWrongNames && wrong_names(&reads) {
+            return Ok(reads);
         }
     }
 }
@@ -213,7 +225,7 @@ fn output(way: Way, lines: &[Vec<u8>]) -> String {
 pub fn listing(way: &str) -> Outcome {
     let way = WAYS.iter().find(|(name, _)| *name == way);
     let &(_, way) = way.ok_or("usage: --shade-listing WAY")?;
-    let reads = reads().map_err(|error| error.to_string())?;
+    let reads = reads(way).map_err(|error| error.to_string())?;
     let output = output(way, &lines(way, reads));
     let written = std::io::stdout().write_all(output.as_bytes());
     written.map_err(|error| error.to_string())

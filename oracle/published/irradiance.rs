@@ -5,7 +5,7 @@ use super::interface as rust;
 use super::sun::{altitude, declination_of, hour_angle_at, BRANCHES, DAYS};
 use super::*;
 use crate::arguments::{around, compare_function, Argument};
-use crate::comparison::{compare, same, shown, Outcome, Settings, Tally};
+use crate::comparison::{compare, same, shown, Outcome, Settings, Tally, With};
 use crate::probes::{HourCall, ProbeHour, Probes, YEAR, YEAR_COLUMNS};
 use crate::random::{ulps_from, Random};
 use std::cell::Cell;
@@ -471,7 +471,7 @@ fn one_hours(settings: &Settings, rattle: &Probes) -> Outcome {
              sky, circumsolar, horizontal, ground)"
         )
     })?;
-    settings.report("hour", tally)?;
+    settings.report("hour", With::Published, tally)?;
     met.get().report(settings)
 }
 
@@ -581,7 +581,7 @@ fn years(settings: &Settings, rattle: &Probes) -> Outcome {
         all.compared += tally.compared;
         all.both_nan += tally.both_nan;
     }
-    settings.report("year", all)
+    settings.report("year", With::Published, all)
 }
 
 pub fn section(settings: &Settings, rattle: &Probes) -> Outcome {

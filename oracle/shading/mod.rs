@@ -9,7 +9,7 @@ pub mod self_test;
 pub mod walks;
 pub mod wrong;
 
-use crate::comparison::{same, shown, Outcome, Settings, Tally};
+use crate::comparison::{same, shown, Outcome, Settings, Tally, With};
 use crate::guarded::{Guarded, Side};
 use crate::pilgartze::{factor_by, FactorAnswer, FactorCall, Shading, Surface};
 use crate::published::shading::{Judge, Judged, Numbers, MOST_SECTORS, SECTOR_WORDS};
@@ -238,7 +238,7 @@ fn run(settings: &Settings, function: FactorCall, compared: bool, laws: &[Law]) 
             try_laws(laws, &mut pairs, &mut random, &call, got.factor, answer)?;
         }
     }
-    settings.report("factor", tally)?;
+    settings.report("factor", With::Published, tally)?;
     if compared {
         met.report(settings)?;
     }

@@ -55,6 +55,10 @@ impl Walks {
             }
             settings.heading(&line);
         }
+        settings.detail(
+            &format!("{name}, ends by way and place"),
+            all_ends().count() as u64,
+        );
         Ok(())
     }
 }
