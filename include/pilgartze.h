@@ -66,7 +66,8 @@
  *
  * What gets past the shade is factor * direct + diffuse, not factor * total: diffuse light is never dimmed.
  *
- * docs/DIFFERENCES.md has an input for each of these, and where the standard has it otherwise.
+ * DIFFERENCES.md (in docs, installed in share/doc/pilgartze) has an input for each of these, and where the standard has
+ * it otherwise.
  */
 #ifndef PILGARTZE_H
 #define PILGARTZE_H
