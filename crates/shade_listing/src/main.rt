@@ -27,7 +27,7 @@ fn write_out(bytes: &[u8]) -> bool {
 
 // A read or a write has failed: the listing is over. What was read of the last line may be cut short, and is not answered.
 fn given_up() -> Progress
-    ensures { λ r. ⌜ (lastPrinted (r .reader .stage) (readingOf (r .reader) .held) ≡ []) × (r .going ≡ false) ⌝ }
+    ensures { λ r. ⌜ (lastPrinted (r .reader .stage) (readingOf (r .reader) .held) ≡ []) × (wantsMore (r .reader .stage) ≡ false) × (r .going ≡ false) ⌝ }
 {
     Progress {
         reader: line_start(Stage::Over),
@@ -38,7 +38,7 @@ fn given_up() -> Progress
 // Prints what the lines print that end in a piece. A piece of 2,048 bytes has at most as many lines, each answered by at most 19 bytes,
 // so that there is room for all answers.
 fn print_answers(reader: Reader, piece: &[u8]) -> Progress
-    ensures { λ r. ⌜ (r .going ≡ true → wantsMore (r .reader .stage) ≡ true) ⌝ }
+    ensures { λ r. ⌜ r .going ≡ wantsMore (r .reader .stage) ⌝ }
 {
     let mut out = io::large_buffer();
     let answered = answer_piece(reader, piece, &mut out, 0);

@@ -1,6 +1,5 @@
--- `print_answers` goes on only where more is wanted.
+-- `print_answers` goes on just where more is wanted.
 use mathlib.Core.Path.{sym, _∙_}
-use mathlib.Core.Bool.{true≢false}
 use native.Mathlib.Omega.{arith}
 use denote.Ref.{now}
 use Rattle.listing.specs.Reading.{readingOf, printedOn}
@@ -38,10 +37,10 @@ wants-more-requires : tie.Need-wants-more-requires
 wants-more-requires c κs = tt
 
 returns : tie.Need-returns
-returns c = λ e. absurd (true≢false (sym e ∙ c .given-up .ensures .1))
+returns c = c .given-up .ensures .2 ∙ sym (c .given-up .ensures .1)
 
 returns-2 : tie.Need-returns-2
-returns-2 c = λ e. sym (c .wants-more .ensures) ∙ e
+returns-2 c = c .wants-more .ensures
 
 pub print-answers-spec : {M : Type 1} → statement M
 print-answers-spec =

@@ -1,4 +1,4 @@
--- `read_piece` goes on only where more is wanted.
+-- `read_piece` goes on only where more is wanted, and not where the input has ended.
 use mathlib.Core.Path.{sym, _∙_}
 use mathlib.Core.Bool.{true≢false}
 use borrow.Author.Needs.{needs}
@@ -21,7 +21,7 @@ given-up-requires : tie.Need-given-up-requires
 given-up-requires c κs = search needs
 
 returns : tie.Need-returns
-returns c = λ e. absurd (true≢false (sym e ∙ c .given-up .ensures .1))
+returns c = λ e. absurd (true≢false (sym e ∙ c .given-up .ensures .2))
 
 returns-2 : tie.Need-returns-2
 returns-2 c = search needs
@@ -42,7 +42,7 @@ print-answers-requires : tie.Need-print-answers-requires
 print-answers-requires c κs = search needs
 
 returns-3 : tie.Need-returns-3
-returns-3 c = search needs
+returns-3 c = λ e. sym (c .print-answers .ensures) ∙ e
 
 pub read-piece-spec : {M : Type 1} → statement M
 read-piece-spec =
