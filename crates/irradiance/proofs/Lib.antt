@@ -1,3 +1,3 @@
-pub mod Table
+pub mod TableRow
 pub mod Constants
 pub mod NotNegative

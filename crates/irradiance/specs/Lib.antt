@@ -1,3 +1,4 @@
+pub mod Table
 pub mod Sky
 pub mod Surface
 pub mod Parts

@@ -2,3 +2,4 @@
 pub mod parts;
 pub mod sky;
 pub mod surface;
+pub mod table;

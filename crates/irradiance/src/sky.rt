@@ -1,20 +1,9 @@
 // The state of the sky: the Perez model's clearness, brightness and coefficients F1 and F2.
 ghost use mathlib.Core.Path.{_≡_};
-ghost use Rattle.irradiance.specs.Sky.{directBeam, altitudeTerm, clearness, skyBrightness, tableRow, coefficientsAt, brightnessOf};
+ghost use Rattle.irradiance.specs.Sky.{directBeam, altitudeTerm, clearness, skyBrightness, brightnessOf};
 ghost use Rattle.irradiance.specs.Sky.{brightnessIn, cutBrightness, circumsolarBrightness, horizontalBrightness, skyOf};
+use crate::table::coefficients_at;
 use sun::hour::Hour;
-
-// Table 8 of ISO 52010-1: F11, F12, F13, F21, F22, F23.
-const BRIGHTNESS_COEFFICIENTS: [[f64; 6]; 8] = [
-    [-0.008, 0.588, -0.062, -0.06, 0.072, -0.022],
-    [0.13, 0.683, -0.151, -0.019, 0.066, -0.029],
-    [0.33, 0.487, -0.221, 0.055, -0.064, -0.026],
-    [0.568, 0.187, -0.295, 0.109, -0.152, -0.014],
-    [0.873, -0.392, -0.362, 0.226, -0.462, 0.001],
-    [1.132, -1.237, -0.412, 0.288, -0.823, 0.056],
-    [1.06, -1.6, -0.359, 0.264, -1.127, 0.131],
-    [0.678, -0.327, -0.25, 0.156, -1.377, 0.251],
-];
 
 // The beam at normal incidence, in W/m², by the series' value in W/m² and the sine of the sun's altitude.
 pub fn init_direct_beam_radiation(
@@ -63,41 +52,6 @@ pub fn init_dimensionless_sky_brightness_parameter(
     ensures { λ r. ⌜ r ≡ skyBrightness «air_mass» «diffuse_horizontal_radiation» «extra_terrestrial_radiation» ⌝ }
 {
     air_mass * diffuse_horizontal_radiation / extra_terrestrial_radiation
-}
-
-// The row of Table 8: the first whose limit is above the clearness, and the last for the rest.
-fn table_row(clearness_parameter: f64) -> usize
-    ensures { λ r. ⌜ r ≡ tableRow «clearness_parameter» ⌝ }
-{
-    if clearness_parameter < 1.065 {
-        return 0;
-    }
-    if clearness_parameter < 1.23 {
-        return 1;
-    }
-    if clearness_parameter < 1.5 {
-        return 2;
-    }
-    if clearness_parameter < 1.95 {
-        return 3;
-    }
-    if clearness_parameter < 2.8 {
-        return 4;
-    }
-    if clearness_parameter < 4.5 {
-        return 5;
-    }
-    if clearness_parameter < 6.2 {
-        return 6;
-    }
-    7
-}
-
-// The coefficients that hold at a clearness.
-fn coefficients_at(clearness_parameter: f64) -> [f64; 6]
-    ensures { λ r. ⌜ r ≡ coefficientsAt «clearness_parameter» ⌝ }
-{
-    BRIGHTNESS_COEFFICIENTS[table_row(clearness_parameter)]
 }
 
 // Three of a row's coefficients put together.

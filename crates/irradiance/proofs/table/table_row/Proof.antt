@@ -1,7 +1,7 @@
 use lib.Ieee.{ofBits}
-use Rattle.irradiance.specs.Sky.{tableRow}
-use Rattle.irradiance.proofs.sky.table_row.Statement.{statement}
-use Rattle.irradiance.proofs.sky.table_row.Tie as tie
+use Rattle.irradiance.specs.Table.{tableRow}
+use Rattle.irradiance.proofs.table.table_row.Statement.{statement}
+use Rattle.irradiance.proofs.table.table_row.Tie as tie
 
 returns : tie.Need-returns
 unfolding tableRow ofBits
