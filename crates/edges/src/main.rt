@@ -1,7 +1,7 @@
 // Runs the specification's values at the edges, and prints a line for each: its name, and `ok` or what came instead.
 ghost use mathlib.Core.Path.{_≡_};
-ghost use Rattle.doubles.specs.Arithmetic.{whole};
-ghost use Rattle.irradiance.specs.Sky.{circumsolarBrightness};
+ghost use Rattle.irradiance.specs.Table.{tableRow};
+ghost use Rattle.edges.specs.Values.{accepted as accepted-value};
 
 mod shades;
 mod values;
@@ -95,12 +95,11 @@ fn shifts() {
     );
 }
 
-// At sky brightness 0 and zenith 0 the coefficient F1 is the first number of the clearness's row (0 for row 0), which tells the rows
-// apart.
-fn first_of_row(clearness: f64) -> f64
-    ensures { λ r. ⌜ r ≡ circumsolarBrightness clearness (whole 0) (whole 0) ⌝ }
+// The row of Table 8 at a clearness.
+fn row_value(clearness: f64) -> Value
+    ensures { λ r. ⌜ r ≡ accepted-value (tableRow clearness) ⌝ }
 {
-    irradiance::sky::init_f1_circumsolar_brightness_coefficient(clearness, 0.0, 0.0)
+    accepted(irradiance::table::table_row(clearness) as u64)
 }
 
 fn sky() {
@@ -110,18 +109,18 @@ fn sky() {
         clearness,
         0x4000_0000_0000_0000,
     );
-    // 0.873
-    compare_double(
+    compare(
         b"diffuse 100, beam 100, altitude 0: row 4",
-        first_of_row(clearness),
-        0x3FEB_EF9D_B22D_0E56,
+        row_value(clearness),
+        accepted(4),
     );
-    // 0.13
-    compare_double(
-        b"clearness 1.065: row 1",
-        first_of_row(1.065),
-        0x3FC0_A3D7_0A3D_70A4,
-    );
+}
+
+fn rows() {
+    compare(b"clearness 2: row 4", row_value(2.0), accepted(4));
+    compare(b"clearness 1.065: row 1", row_value(1.065), accepted(1));
+    compare(b"clearness 999: row 7", row_value(999.0), accepted(7));
+    compare(b"clearness NaN: row 7", row_value(0.0 / 0.0), accepted(7));
 }
 
 fn orientations() {
@@ -253,6 +252,7 @@ fn main() {
     sun_angles();
     shifts();
     sky();
+    rows();
     orientations();
     obstacles();
     overhangs();

@@ -6,6 +6,7 @@ ghost use Rattle.doubles.specs.Functions.{toRadians};
 ghost use Rattle.angles.specs.Sine.{sine};
 ghost use Rattle.days.specs.Day.{orbitDeviation, solarDeclination, equationOfTime, extraTerrestrialRadiation, dayOf};
 ghost use Rattle.sun.specs.Hour.{timeShift, solarTime, hourAngle, solarAltitude, solarZenith, solarAzimuth, airMass};
+ghost use Rattle.irradiance.specs.Table.{tableRow};
 ghost use Rattle.irradiance.specs.Sky.{directBeam, clearness, skyBrightness, circumsolarBrightness, horizontalBrightness};
 ghost use Rattle.probes.specs.Hours.{hourWith, hourAt, dayAnswer, dayGiven, pair};
 use angles::SinCos;
@@ -156,6 +157,14 @@ pub extern "C" fn probe_init_dimensionless_sky_brightness_parameter(
         diffuse,
         extra_terrestrial_radiation,
     )
+}
+
+// The row of Table 8, 0 to 7.
+#[no_mangle]
+pub extern "C" fn probe_table_row(clearness_parameter: f64) -> usize
+    ensures { λ r. ⌜ r ≡ tableRow «clearness_parameter» ⌝ }
+{
+    irradiance::table::table_row(clearness_parameter)
 }
 
 // A number: zenith in degrees.

@@ -6,14 +6,15 @@ use mathlib.Core.List.{List, [], _∷_}
 use lib.Dec.{eqb}
 use lib.IntN.{pos}
 use lib.ListN.{length}
-use lib.Ieee.{Float, binary64, add, sub, mul, div, neg, lt, le, eq, isNan, toUnsigned, ofInt, toBits}
+use lib.Ieee.{Float, nan, binary64, add, sub, mul, div, neg, lt, le, eq, isNan, toUnsigned, ofInt, toBits}
 use Rattle.doubles.specs.Arithmetic.{whole, decimal}
 use Rattle.doubles.specs.Functions.{cubeOf, floorOf, toRadians, floatMax}
 use Rattle.angles.specs.Sine.{isAngle, quarterTurns, quadrant, remainder, sineSum, cosineSum, sineSeries, cosineSeries, sineAt, cosineAt, clamp, sine, cosine, tangent}
 use Rattle.days.specs.Day.{equationOfTime}
 use Rattle.sun.specs.Hour.{timeShift, hourAngle}
 use Rattle.orientation.specs.Orientation.{orientation180, wrappedOnce}
-use Rattle.irradiance.specs.Sky.{clearness, tableRow}
+use Rattle.irradiance.specs.Table.{tableRow}
+use Rattle.irradiance.specs.Sky.{clearness}
 use Rattle.objects.specs.declared.surface.Surface.{Surface}
 use Rattle.objects.specs.declared.sectors.ShadingObject.{ShadingObject}
 use Rattle.objects.specs.declared.sectors.ShadingObjectType.the-variants as distant
@@ -83,6 +84,9 @@ edgeValues =
     && eqb (tableRow (clearness (whole 100) (whole 100) (whole 0))) 4
     -- clearness 1.065 row 1
     && eqb (tableRow (decimal 1065 3)) 1
+    -- clearness 999 row 7, NaN row 7
+    && eqb (tableRow (whole 999)) 7
+    && eqb (tableRow nan) 7
     -- orientation 0 becomes 180, 360 becomes −180
     && same (orientation180 (whole 0)) (whole 180)
     && same (orientation180 (whole 360)) (neg (whole 180))

@@ -24,7 +24,8 @@ use Rattle.days.specs.Day.{orbitDeviation, solarDeclination, equationOfTime, ex
 use Rattle.sun.specs.Hour.{sinCosOf, timeShift, solarTime, hourAngle, altitudeSine, cutAltitude, solarAltitude, solarZenith, azimuthDenominator, solarAzimuth, airMass, hourOf}
 use Rattle.sun.specs.Site.{siteFine, hoursInYear}
 use Rattle.irradiance.specs.Surface.{incidenceArgument, incidenceAngle, cosineOfDegrees, aOverB, incidenceBy, incidenceOf}
-use Rattle.irradiance.specs.Sky.{directBeam, altitudeTerm, clearness, skyBrightness, limits, firstAbove, tableRow, coefficients, coefficientsAt, brightnessOf, brightnessIn, brightness, cutBrightness, circumsolarBrightness, horizontalBrightness, skyOf}
+use Rattle.irradiance.specs.Table.{limits, firstAbove, tableRow, coefficients, coefficientsAt}
+use Rattle.irradiance.specs.Sky.{directBeam, altitudeTerm, clearness, skyBrightness, brightnessOf, brightnessIn, brightness, cutBrightness, circumsolarBrightness, horizontalBrightness, skyOf}
 use Rattle.irradiance.specs.Parts.{directIrradiance, skyIrradiance, circumsolarIrradiance, horizontalIrradiance, groundReflection, irradianceOf}
 use Rattle.orientation.specs.Orientation.{orientation180, wrappedOnce}
 use Rattle.simulation_time.specs.Steps.{runFine, goesOn, stepsFrom, stepCount, timeAt, timesFrom, times, atAll}
