@@ -145,6 +145,7 @@ extern "C" {
         diffuse: f64,
         extra_terrestrial: f64,
     ) -> f64;
+    fn probe_table_row(clearness: f64) -> usize;
     fn probe_init_f1_circumsolar_brightness_coefficient(
         clearness: f64,
         delta: f64,
@@ -343,6 +344,7 @@ pub struct Probes {
     pub init_direct_beam_radiation: unsafe extern "C" fn(u64, f64, f64) -> f64,
     pub init_dimensionless_clearness_parameter: ThreeDoubles,
     pub init_dimensionless_sky_brightness_parameter: ThreeDoubles,
+    pub table_row: unsafe extern "C" fn(f64) -> usize,
     pub init_f1_circumsolar_brightness_coefficient: ThreeDoubles,
     pub init_f2_horizontal_brightness_coefficient: ThreeDoubles,
     pub hour: HourCall,
@@ -388,6 +390,7 @@ pub const LIBRARY: Probes = Probes {
     init_direct_beam_radiation: probe_init_direct_beam_radiation,
     init_dimensionless_clearness_parameter: probe_init_dimensionless_clearness_parameter,
     init_dimensionless_sky_brightness_parameter: probe_init_dimensionless_sky_brightness_parameter,
+    table_row: probe_table_row,
     init_f1_circumsolar_brightness_coefficient: probe_init_f1_circumsolar_brightness_coefficient,
     init_f2_horizontal_brightness_coefficient: probe_init_f2_horizontal_brightness_coefficient,
     hour: probe_hour,

@@ -104,6 +104,7 @@ const RIGHT: Probes = Probes {
     init_dimensionless_clearness_parameter: interface::init_dimensionless_clearness_parameter,
     init_dimensionless_sky_brightness_parameter:
         interface::init_dimensionless_sky_brightness_parameter,
+    table_row: interface::table_row,
     init_f1_circumsolar_brightness_coefficient:
         interface::init_f1_circumsolar_brightness_coefficient,
     init_f2_horizontal_brightness_coefficient: interface::init_f2_horizontal_brightness_coefficient,

@@ -56,6 +56,18 @@ pub extern "C" fn init_direct_beam_radiation(
     super::init_direct_beam_radiation(conversion_needed == 1, raw_value, altitude)
 }
 
+/// The row of Table 8. The published search has no name of its own: it stands in the look-up of a
+/// single coefficient, so the row is told by the six numbers that six of these find.
+pub extern "C" fn table_row(clearness: f64) -> usize {
+    use super::BrightnessCoefficientName::*;
+    let found =
+        [F11, F12, F13, F21, F22, F23].map(|name| super::brightness_coefficient(clearness, name));
+    super::BRIGHTNESS_COEFFICIENTS
+        .iter()
+        .position(|row| [row.f11, row.f12, row.f13, row.f21, row.f22, row.f23] == found)
+        .expect("all six stand in one row")
+}
+
 /// The arguments of one hour, as the C interface has them.
 pub fn one_hour(
     latitude: f64,

@@ -112,7 +112,16 @@ fn sky_parameters(settings: &Settings, rattle: &Probes) -> Outcome {
     )
 }
 
+/// The row of Table 8, and F1 and F2, for each of which the published form looks for it three times.
 fn brightness_coefficients(settings: &Settings, rattle: &Probes) -> Outcome {
+    compare_function(
+        settings,
+        "table_row",
+        std::iter::empty(),
+        [clearness()],
+        |[c]| rust::table_row(c) as f64,
+        |[c]| unsafe { (rattle.table_row)(c) } as f64,
+    )?;
     compare_function(
         settings,
         "init_f1_circumsolar_brightness_coefficient",

@@ -336,6 +336,27 @@ extern "C" fn brightness_with_the_quotient_first(mass: f64, diffuse: f64, radiat
     mass * (diffuse / radiation)
 }
 /// The row before takes the limit itself too.
+extern "C" fn row_with_a_closed_limit<const ROW: usize>(c: f64) -> usize {
+    if c == LIMITS[ROW] {
+        ROW
+    } else {
+        right::table_row(c)
+    }
+}
+extern "C" fn last_row_one_early(c: f64) -> usize {
+    match right::table_row(c) {
+        6 => 7,
+        row => row,
+    }
+}
+extern "C" fn row_0_for_nan(c: f64) -> usize {
+    if c.is_nan() {
+        0
+    } else {
+        right::table_row(c)
+    }
+}
+/// The row before takes the limit itself too.
 extern "C" fn f1_with_a_closed_limit<const ROW: usize>(c: f64, delta: f64, zenith: f64) -> f64 {
     let clearness = if c == LIMITS[ROW] {
         ulps_from(c, -1)
@@ -358,6 +379,13 @@ extern "C" fn f1_of_nan_in_the_first_row(c: f64, delta: f64, zenith: f64) -> f64
 }
 extern "C" fn f1_that_drops_a_nan(c: f64, delta: f64, zenith: f64) -> f64 {
     right::init_f1_circumsolar_brightness_coefficient(c, delta, zenith).max(0.0)
+}
+extern "C" fn f2_from_the_row_before(c: f64, delta: f64, zenith: f64) -> f64 {
+    let clearness = match right::table_row(c) {
+        0 => c,
+        row => ulps_from(LIMITS[row - 1], -1),
+    };
+    right::init_f2_horizontal_brightness_coefficient(clearness, delta, zenith)
 }
 extern "C" fn f2_cut_at_0(c: f64, delta: f64, zenith: f64) -> f64 {
     let f2 = right::init_f2_horizontal_brightness_coefficient(c, delta, zenith);
@@ -530,6 +558,10 @@ pub fn irradiance(right: Probes) -> Vec<Wrong> {
         init_dimensionless_clearness_parameter: clearness_of_minus_zero,
         init_dimensionless_clearness_parameter: clearness_by_one_plus_a_quotient,
         init_dimensionless_sky_brightness_parameter: brightness_with_the_quotient_first,
+        table_row: row_with_a_closed_limit::<0>,
+        table_row: row_with_a_closed_limit::<6>,
+        table_row: last_row_one_early,
+        table_row: row_0_for_nan,
         init_f1_circumsolar_brightness_coefficient: f1_with_a_closed_limit::<0>,
         init_f1_circumsolar_brightness_coefficient: f1_with_a_closed_limit::<1>,
         init_f1_circumsolar_brightness_coefficient: f1_with_a_closed_limit::<2>,
@@ -541,6 +573,7 @@ pub fn irradiance(right: Probes) -> Vec<Wrong> {
         init_f1_circumsolar_brightness_coefficient: f1_that_drops_a_nan,
         init_f2_horizontal_brightness_coefficient: f2_with_a_closed_limit::<0>,
         init_f2_horizontal_brightness_coefficient: f2_with_a_closed_limit::<6>,
+        init_f2_horizontal_brightness_coefficient: f2_from_the_row_before,
         init_f2_horizontal_brightness_coefficient: f2_cut_at_0,
         init_f2_horizontal_brightness_coefficient: f2_of_the_zenith_by_radians,
         hour: clearness_by_the_raw_beam,
