@@ -28,7 +28,8 @@ tableRow e = firstAbove limits e
 
 -- What the row at clearness e must be, said without a search: the first whose limit is above e, and row 7 where none is.
 -- `tableRow-is-row` (proofs/TableRow.antt) proves it of `tableRow`, and `row-unique` there that no other number meets it.
--- (`lt` is the test `<` of the language, `isNan` is `x != x`, and `T` says that a test is passed.)
+-- (`getD limits j nan` is the limit of row j; `lt` and `isNan` are the tests `<` and `x != x` of the language, and `T` says that a test is
+-- passed.)
 pub record IsTableRow (e : Float) (row : ℕ) : Type 0 where
   pub within : row ≤ 7
   -- e is below the limit of no row before it, and below its own, where it has one

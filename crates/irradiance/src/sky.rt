@@ -123,6 +123,7 @@ pub fn sky_of(
         diffuse,
         extra_terrestrial_radiation,
     );
+    // One search of Table 8 for both F1 and F2.
     let row = coefficients_at(e);
     Sky {
         diffuse: diffuse,
