@@ -7,12 +7,12 @@ use native.Mathlib.Omega.{arith}
 use lib.Dec.{T, lit≤}
 use lib.Ieee.{Float, nan, fin, binary64, neg, lt, le, eq, ofInt, toUnsigned, isNan, fits}
 use Rattle.doubles.specs.Arithmetic.{_⊖_, _⊗_, _⊘_, whole, bits}
-use Rattle.doubles.specs.Functions.{floorOf}
+use Rattle.doubles.specs.Functions.{clamp, floorOf}
 use Rattle.doubles.specs.Order.{Number}
 use Rattle.doubles.proofs.Order.{le-of-not-lt}
 use Rattle.doubles.proofs.Bounds.{one-number}
 use Rattle.doubles.specs.Series.{horner}
-use Rattle.angles.specs.Sine.{isAngle, quarterTurns, quadrant, remainder, sineStep, cosineStep, sineSum, cosineSum, sineSeries, cosineSeries, sineAt, cosineAt, clamp, ofAngle, sine, cosine}
+use Rattle.angles.specs.Sine.{isAngle, quarterTurns, quadrant, remainder, sineStep, cosineStep, sineSum, cosineSum, sineSeries, cosineSeries, sineAt, cosineAt, ofAngle, sine, cosine}
 use Rattle.angles.proofs.Small.{Small, more-small, neg-small, round-small, sub-small, mul-small, div-small, by-value}
 use Rattle.angles.proofs.Turns.{whole-value, part-le, cut, floor-up, floor-level, floor-down}
 use Rattle.angles.proofs.Reduction.{unfloored, angle-small, unfloored-small, unfloored-fits}

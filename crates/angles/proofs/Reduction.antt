@@ -8,7 +8,8 @@ use lib.Dec.{T, lit≤}
 use lib.Ieee.{Float, nan, binary64, neg, lt, le, eq, toUnsigned, fits}
 use lib.Ieee.Fits.{add-fits, and-l, and-r}
 use Rattle.doubles.specs.Arithmetic.{_⊕_, _⊗_, whole, bits, decimal}
-use Rattle.angles.specs.Sine.{isAngle, quarterTurns, quadrant, remainder, sineSum, cosineSum, sineSeries, cosineSeries, clamp, ofAngle}
+use Rattle.doubles.specs.Functions.{clamp}
+use Rattle.angles.specs.Sine.{isAngle, quarterTurns, quadrant, remainder, sineSum, cosineSum, sineSeries, cosineSeries, ofAngle}
 use Rattle.angles.specs.Reduction.{Reduces, Expands}
 use Rattle.angles.proofs.Small.{Small, within, neg-small, add-small, mul-small}
 use Rattle.angles.proofs.Turns.{Cuttable, cut, part-le, floor-up, floor-level, floor-down, quadrant-up, quadrant-next, cuttable-up, cuttable-down}

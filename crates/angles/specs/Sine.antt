@@ -3,7 +3,7 @@ use mathlib.Core.Bool.{Bool, cond, _&&_}
 use Prim.Native.Nat.{ℕ, zero, suc, _+_, _-_, _*_, _%_}
 use lib.Ieee.{Float, nan, neg, lt, le, toUnsigned}
 use Rattle.doubles.specs.Arithmetic.{_⊕_, _⊖_, _⊗_, _⊘_, decimal, whole, bits}
-use Rattle.doubles.specs.Functions.{floorOf}
+use Rattle.doubles.specs.Functions.{clamp, floorOf}
 use Rattle.doubles.specs.Series.{horner}
 
 -- |a| ≤ 64
@@ -66,12 +66,7 @@ cosineAt (suc zero) s c = neg s
 cosineAt (suc (suc zero)) s c = neg c
 cosineAt (suc (suc (suc n))) s c = s
 
--- results clamp to −1..1
-unfoldable pub clamp : Float → Float
-unfolding whole neg
-clamp x = cond (lt x (neg (whole 1))) (neg (whole 1)) (cond (lt (whole 1) x) (whole 1) x)
-
--- what both have in common, from a to the result: NaN where a is no angle
+-- what both have in common, from a to the result: results clamp to −1..1, and are NaN where a is no angle
 unfoldable pub ofAngle : (ℕ → Float → Float → Float) → Float → Float
 ofAngle at a =
     let k = quarterTurns a in

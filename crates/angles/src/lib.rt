@@ -1,7 +1,8 @@
 // Sine, cosine and tangent of an angle in radians, each defined for every double by the operations that give it: an equation with a
 // definition of `specs/`.
 ghost use mathlib.Core.Path.{_≡_};
-ghost use Rattle.angles.specs.Sine.{remainder, sineSum, cosineSum, clamp, sine, cosine, tangent};
+ghost use Rattle.doubles.specs.Functions.{clamp};
+ghost use Rattle.angles.specs.Sine.{remainder, sineSum, cosineSum, sine, cosine, tangent};
 ghost use Rattle.angles.specs.Reduction.{Reduces, Expands};
 
 // The brackets of both series, before the sine's is multiplied by the angle's rest.
@@ -33,18 +34,6 @@ fn sum_both(t: f64) -> Sums
     let s = 1.0 - t / 6.0 * s;
     let c = 1.0 - t / 2.0 * c;
     Sums { sine: s, cosine: c }
-}
-
-fn clamped(x: f64) -> f64
-    ensures { λ r. ⌜ r ≡ clamp x ⌝ }
-{
-    if x < -1.0 {
-        -1.0
-    } else if x > 1.0 {
-        1.0
-    } else {
-        x
-    }
 }
 
 // An angle's quarter turns modulo 4 and the rest; quadrant 4 where it is no angle.
@@ -117,10 +106,10 @@ pub fn sin(a: f64) -> f64
     let s = angle.sine * angle.rest;
     let c = angle.cosine;
     match quadrant {
-        0 => clamped(s),
-        1 => clamped(c),
-        2 => clamped(-s),
-        3 => clamped(-c),
+        0 => doubles::clamped(s),
+        1 => doubles::clamped(c),
+        2 => doubles::clamped(-s),
+        3 => doubles::clamped(-c),
         _ => 0.0 / 0.0,
     }
 }
@@ -134,10 +123,10 @@ pub fn cos(a: f64) -> f64
     let s = angle.sine * angle.rest;
     let c = angle.cosine;
     match quadrant {
-        0 => clamped(c),
-        1 => clamped(-s),
-        2 => clamped(-c),
-        3 => clamped(s),
+        0 => doubles::clamped(c),
+        1 => doubles::clamped(-s),
+        2 => doubles::clamped(-c),
+        3 => doubles::clamped(s),
         _ => 0.0 / 0.0,
     }
 }
@@ -152,8 +141,8 @@ fn both_clamped(sin: f64, cos: f64) -> SinCos
     ensures { λ r. ⌜ (r .sin ≡ clamp sin) × (r .cos ≡ clamp cos) ⌝ }
 {
     SinCos {
-        sin: clamped(sin),
-        cos: clamped(cos),
+        sin: doubles::clamped(sin),
+        cos: doubles::clamped(cos),
     }
 }
 

@@ -1,9 +1,10 @@
 -- The arcsine taken apart and put together again.
 use mathlib.Core.Bool.{Bool, true, false, cond}
 use mathlib.Core.Path.{_≡_, refl}
-use lib.Ieee.{Float, nan, neg, lt}
+use lib.Ieee.{Float, neg, lt}
 use Rattle.doubles.specs.Arithmetic.{_⊗_, whole}
-use Rattle.arcsines.specs.Arcsine.{isSine, complement, upToHalf, halfAngleSine, arcsineSeries, upwardBy, arcsineUpward, arcsine}
+use Rattle.doubles.specs.Functions.{clamp}
+use Rattle.arcsines.specs.Arcsine.{complement, upToHalf, halfAngleSine, arcsineSeries, upwardBy, arcsineUpward, arcsine}
 use Rattle.arcsines.specs.ArcsineParts.{magnitude, seriesArgument, arcsineBy}
 
 upward-by : (m : Float) → (let s = arcsineSeries (seriesArgument m) in upwardBy m s s) ≡ arcsineUpward m
@@ -16,15 +17,15 @@ upward-by m = go (upToHalf m) (halfAngleSine m)
     go true half = refl
     go false half = refl
 
-pub arcsine-by : (a : Float) → arcsineBy a (arcsineSeries (seriesArgument (magnitude a))) ≡ arcsine a
+pub arcsine-by : (a : Float) → arcsineBy (clamp a) (arcsineSeries (seriesArgument (magnitude (clamp a)))) ≡ arcsine a
 unfolding arcsineBy magnitude arcsine
-arcsine-by a = go (lt a (whole 0))
+arcsine-by a = go (clamp a) (lt (clamp a) (whole 0))
   where
     by : Float → Float → Float
     by m x = let s = arcsineSeries (seriesArgument x) in upwardBy m s s
 
-    go : (b : Bool) →
-        cond (isSine a) (cond b (neg (by (neg a) (cond b (neg a) a))) (by a (cond b (neg a) a))) nan
-        ≡ cond (isSine a) (cond b (neg (arcsineUpward (neg a))) (arcsineUpward a)) nan
-    go true = rw (upward-by (neg a)) refl
-    go false = rw (upward-by a) refl
+    go : (a : Float) (b : Bool) →
+        cond b (neg (by (neg a) (cond b (neg a) a))) (by a (cond b (neg a) a))
+        ≡ cond b (neg (arcsineUpward (neg a))) (arcsineUpward a)
+    go a true = rw (upward-by (neg a)) refl
+    go a false = rw (upward-by a) refl

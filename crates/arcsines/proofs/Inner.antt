@@ -1,7 +1,7 @@
 -- The paper's lines for the arcsine, as theorems about the definition: the series from 0 to 0.5, above that PI/2 − 2·arcsine(root((1−a)/2)), and odd below 0.
 -- The root is at most 0.5, so that the inner arcsine is the series, which the definition takes at once. Assumes nothing.
 use mathlib.Core.Path.{_≡_, refl, sym}
-use mathlib.Core.Bool.{Bool, true, false, cond, _&&_}
+use mathlib.Core.Bool.{Bool, true, false}
 use Prim.Native.Nat.{ℕ, zero, suc, _+_, _*_, _^_, _≤_, _<_}
 use native.Mathlib.Nat.{le-trans as ℕ·le-trans, le-of-eq, not-le-of-lt, mul-assoc, mul-le-mul, mul-pos, zero-lt-suc}
 use native.Mathlib.Decide.{decLe}
@@ -17,13 +17,15 @@ use lib.Ieee.Order.{le-of-values}
 use lib.Ieee.Positive.{positive, values-of-le}
 use lib.Ieee.Scale.{finite}
 use Rattle.doubles.specs.Arithmetic.{_⊖_, _⊗_, _⊘_, decimal, whole}
+use Rattle.doubles.specs.Functions.{clamp}
 use Rattle.doubles.specs.Order.{_≼_, _≺_, Number, Finite}
-use Rattle.doubles.proofs.Order.{le→cross, le-refl, le-trans, lt→le, left-number, le-of-not-lt, not-below, not-up-to, neg-le, neg-neg}
+use Rattle.doubles.proofs.Order.{le→cross, le-refl, le-trans, lt→le, left-number, le-of-not-lt, not-below, not-up-to, neg-le, neg-lt, neg-neg}
 use Rattle.doubles.proofs.Monotone.{sub-mono, div-mono}
-use Rattle.doubles.proofs.Bounds.{sub-number, div-number, zero-number, one-number, sub-nonneg, div-nonneg, positive-nonzero}
+use Rattle.doubles.proofs.Bounds.{sub-number, div-number, zero-number, one-number, zero-le-one, sub-nonneg, div-nonneg, positive-nonzero}
+use Rattle.doubles.proofs.Clamping.{clamp-own, clamp-above, clamp-below}
 use Rattle.roots.specs.Root.{squareRoot}
 use Rattle.roots.proofs.Theorems.{squareRoot-is-root, squareRoot-not-negative}
-use Rattle.arcsines.specs.Arcsine.{isSine, arcsineSeries, halfAngleSine, arcsineUpward, arcsine, halfPi}
+use Rattle.arcsines.specs.Arcsine.{arcsineSeries, halfAngleSine, arcsineUpward, oddly, arcsine, halfPi}
 
 abbrev half : Float
 half = decimal 5 1
@@ -48,6 +50,7 @@ record Constants : Type 0 where
   quarter-half : quarter ≼ half
   half-one : half ≼ whole 1
   minus-one : neg (whole 1) ≼ whole 0
+  minus-one-below : neg (whole 1) ≺ whole 0
   minus-zero : whole 0 ≼ neg (whole 0)
   two : whole 0 ≺ whole 2
   finite-one : Finite (whole 1)
@@ -69,6 +72,7 @@ constants = record {
   quarter-half = record { holds = tt };
   half-one = record { holds = tt };
   minus-one = record { holds = tt };
+  minus-one-below = record { holds = tt };
   minus-zero = record { holds = tt };
   two = record { holds = tt };
   finite-one = record { holds = tt };
@@ -129,12 +133,12 @@ root-in (fin true (suc m) e) f h k = absurd (none m e h)
 
 -- from 0 to 0.5 the series
 pub arcsine-series : (a : Float) → T (le (whole 0) a) → T (le a (decimal 5 1)) → arcsine a ≡ arcsineSeries a
-unfolding arcsine isSine arcsineUpward
+unfolding arcsine arcsineUpward
 arcsine-series a h k =
     let c = constants in
     let low : whole 0 ≼ a = record { holds = h } in
     let high : a ≼ half = record { holds = k } in
-    simp (is-true (le (neg (whole 1)) a) (le-trans (c .minus-one) low .holds), is-true (le a (whole 1)) (le-trans high (c .half-one) .holds), is-true (le a half) k, not-below low)
+    simp (clamp-own (le-trans (c .minus-one) low) (le-trans high (c .half-one)), is-true (le a half) k, not-below low)
 
 -- the inner arcsine is the series
 pub arcsine-inner : (a : Float) → T (lt (decimal 5 1) a) → T (le a (whole 1)) → arcsine (halfAngleSine a) ≡ arcsineSeries (halfAngleSine a)
@@ -152,37 +156,24 @@ arcsine-above-half a h k =
     let c = constants in
     let above : half ≺ a = record { holds = h } in
     let low : whole 0 ≼ a = le-trans (c .zero-half) (lt→le above) in
-    rw (arcsine-inner a h k) (unfold arcsine isSine arcsineUpward in
-    simp (is-true (le (neg (whole 1)) a) (le-trans (c .minus-one) low .holds), is-true (le a (whole 1)) k, not-up-to above, not-below low))
+    rw (arcsine-inner a h k) (unfold arcsine arcsineUpward in simp (clamp-own (le-trans (c .minus-one) low) (record { holds = k }), not-up-to above, not-below low))
 
-le-neg : (x y : Float) → le (neg y) (neg x) ≡ le x y
-le-neg x y = same (le (neg y) (neg x)) (le x y) (λ (t : T (le (neg y) (neg x))). rw (neg-neg x, neg-neg y) at (neg-le {x = neg y} {y = neg x} (record { holds = t }) .holds)) (λ (t : T (le x y)). neg-le (record { holds = t }) .holds)
-  where
-    same : (p q : Bool) → (T p → T q) → (T q → T p) → p ≡ q
-    same true true f g = refl
-    same true false f g = absurd (f tt)
-    same false true f g = absurd (g tt)
-    same false false f g = refl
-
-sine-neg : (a : Float) → isSine (neg a) ≡ isSine a
-unfolding isSine
-sine-neg a =
-    let fact : le (neg a) (whole 1) ≡ le (neg (whole 1)) a = rw (neg-neg (whole 1)) at (le-neg (neg (whole 1)) a) in
-    rw (le-neg a (whole 1), fact) (swap (le a (whole 1)) (le (neg (whole 1)) a))
-  where
-    swap : (p q : Bool) → p && q ≡ q && p
-    swap true true = refl
-    swap true false = refl
-    swap false true = refl
-    swap false false = refl
-
--- odd for a below 0, where beyond −1 both are NaN
+-- odd for a below 0
 pub arcsine-odd : (a : Float) → T (lt a (whole 0)) → arcsine a ≡ neg (arcsine (neg a))
 unfolding arcsine
-arcsine-odd a h =
-    let below : a ≼ whole 0 = lt→le (record { holds = h }) in
-    rw (is-true (lt a (whole 0)) h, sine-neg a, not-below (le-trans (constants .minus-zero) (neg-le below))) (go (isSine a))
+arcsine-odd a h = go (lt a (neg (whole 1))) refl
   where
-    go : (b : Bool) → cond b (neg (arcsineUpward (neg a))) nan ≡ neg (cond b (arcsineUpward (neg a)) nan)
-    go true = refl
-    go false = unfold neg in refl
+    below : a ≺ whole 0
+    below = record { holds = h }
+
+    go : (b : Bool) → lt a (neg (whole 1)) ≡ b → oddly arcsineUpward (clamp a) ≡ neg (oddly arcsineUpward (clamp (neg a)))
+    go true e =
+        let beyond : a ≺ neg (whole 1) = record { holds = rw e tt } in
+        let beyond′ : whole 1 ≺ neg a = rw (neg-neg (whole 1)) at (neg-lt beyond) in
+        rw (clamp-below beyond, clamp-above beyond′) (unfold oddly in simp (is-true (lt (neg (whole 1)) (whole 0)) (constants .minus-one-below .holds), not-below zero-le-one, neg-neg (whole 1)))
+    go false e =
+        let low : neg (whole 1) ≼ a = le-of-not-lt (left-number (lt→le below)) (left-number (constants .minus-one)) e in
+        let up : whole 0 ≼ neg a = le-trans (constants .minus-zero) (neg-le (lt→le below)) in
+        let high : neg a ≼ whole 1 = rw (neg-neg (whole 1)) at (neg-le low) in
+        rw (clamp-own low (le-trans (lt→le below) zero-le-one), clamp-own (le-trans (constants .minus-one) up) high)
+        (unfold oddly in simp (is-true (lt a (whole 0)) h, not-below up))

@@ -1,9 +1,9 @@
 -- Arcsine and arccosine, as the paper's stand-ins define them. Results are angles in radians.
-use mathlib.Core.Bool.{Bool, cond, _&&_}
+use mathlib.Core.Bool.{Bool, cond}
 use Prim.Native.Nat.{ℕ, _+_, _-_, _*_, _^_}
-use lib.Ieee.{Float, nan, neg, lt, le}
+use lib.Ieee.{Float, neg, lt, le}
 use Rattle.doubles.specs.Arithmetic.{_⊕_, _⊖_, _⊗_, _⊘_, decimal, whole}
-use Rattle.doubles.specs.Functions.{pi}
+use Rattle.doubles.specs.Functions.{clamp, pi}
 use Rattle.doubles.specs.Series.{horner}
 use Rattle.roots.specs.Root.{squareRoot}
 
@@ -47,20 +47,16 @@ unfoldable pub arcsineUpward : Float → Float
 unfolding upwardBy halfAngleSine
 arcsineUpward a = upwardBy a (arcsineSeries a) (arcsineSeries (halfAngleSine a))
 
--- from −1 to 1
-unfoldable pub isSine : Float → Bool
-unfolding whole neg
-isSine a = le (neg (whole 1)) a && le a (whole 1)
-
--- NaN beyond ±1 and for NaN; odd for a below 0; from 0 on as `upward` has it
-unfoldable pub oddOnSines : (Float → Float) → Float → Float
+-- odd for a below 0; from 0 on as `upward` has it
+unfoldable pub oddly : (Float → Float) → Float → Float
 unfolding whole
-oddOnSines upward a = cond (isSine a) (cond (lt a (whole 0)) (neg (upward (neg a))) (upward a)) nan
+oddly upward a = cond (lt a (whole 0)) (neg (upward (neg a))) (upward a)
 
+-- Any number above 1 is taken as 1, any below −1 as −1. NaN gives NaN.
 unfoldable pub arcsine : Float → Float
-unfolding oddOnSines
-arcsine a = oddOnSines arcsineUpward a
+unfolding oddly
+arcsine a = oddly arcsineUpward (clamp a)
 
--- arccosine is PI/2 − arcsine
+-- arccosine is PI/2 − arcsine: of any number above 1 it is +0, of any below −1 PI
 unfoldable pub arccosine : Float → Float
 arccosine a = complement (arcsine a)

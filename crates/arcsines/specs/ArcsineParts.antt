@@ -5,7 +5,7 @@ use Prim.Native.Nat.{_+_}
 use lib.Ieee.{Float, neg, lt}
 use Rattle.doubles.specs.Arithmetic.{whole}
 use Rattle.doubles.specs.Series.{horner}
-use Rattle.arcsines.specs.Arcsine.{arcsineStep, upToHalf, halfAngleSine, upwardBy, oddOnSines}
+use Rattle.arcsines.specs.Arcsine.{arcsineStep, upToHalf, halfAngleSine, upwardBy, oddly}
 use Rattle.arcsines.specs.declared.Both.{Both}
 
 abbrev pub both : Float → Float → Both
@@ -30,7 +30,7 @@ unfoldable pub seriesArgument : Float → Float
 unfolding upToHalf halfAngleSine
 seriesArgument m = cond (upToHalf m) m (halfAngleSine m)
 
--- the arcsine by that series
+-- the arcsine of a clamped number by that series
 unfoldable pub arcsineBy : Float → Float → Float
-unfolding oddOnSines upwardBy
-arcsineBy a series = oddOnSines (λ m. upwardBy m series series) a
+unfolding oddly upwardBy
+arcsineBy a series = oddly (λ m. upwardBy m series series) a

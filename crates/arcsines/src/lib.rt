@@ -122,40 +122,41 @@ fn arcsine_upward(m: f64, series: f64) -> f64
     }
 }
 
-// The arcsine of a by the series of its magnitude.
+// The arcsine of a number from −1 to 1 by the series of its magnitude; NaN of NaN.
 fn arcsine_by(a: f64, series: f64) -> f64
     ensures { λ r. ⌜ r ≡ arcsineBy a series ⌝ }
 {
-    if (-1.0 <= a) & (a <= 1.0) {
-        if a < 0.0 {
-            -arcsine_upward(-a, series)
-        } else {
-            arcsine_upward(a, series)
-        }
+    if a < 0.0 {
+        -arcsine_upward(-a, series)
     } else {
-        0.0 / 0.0
+        arcsine_upward(a, series)
     }
 }
 
-// The arcsine of a, in radians; NaN beyond ±1. The series of two cost no more than that of one, so there is no other.
+// The arcsine of a, in radians, from −PI/2 to PI/2: a number above 1 is taken as 1, one below −1 as −1, and NaN gives NaN. The series
+// of two cost no more than that of one, so there is no other.
 pub fn asin(a: f64) -> f64
     ensures { λ r. ⌜ r ≡ arcsine a ⌝ }
 {
-    let argument = series_argument(magnitude(a));
+    let sine = doubles::clamped(a);
+    let argument = series_argument(magnitude(sine));
     let series = arcsine_series_both(argument, argument);
-    arcsine_by(a, series.first)
+    arcsine_by(sine, series.first)
 }
 
 // Two arcsines at once, in radians.
 pub fn asin_both(a: f64, b: f64) -> Both
     ensures { λ r. ⌜ (r .first ≡ arcsine a) × (r .second ≡ arcsine b) ⌝ }
 {
-    let first = series_argument(magnitude(a));
-    let second = series_argument(magnitude(b));
-    let series = arcsine_series_both(first, second);
+    let first = doubles::clamped(a);
+    let second = doubles::clamped(b);
+    let series = arcsine_series_both(
+        series_argument(magnitude(first)),
+        series_argument(magnitude(second)),
+    );
     Both {
-        first: arcsine_by(a, series.first),
-        second: arcsine_by(b, series.second),
+        first: arcsine_by(first, series.first),
+        second: arcsine_by(second, series.second),
     }
 }
 
@@ -166,7 +167,7 @@ pub fn acos_by(arc_sine: f64) -> f64
     doubles::PI / 2.0 - arc_sine
 }
 
-// The arccosine of a, in radians; NaN beyond ±1.
+// The arccosine of a, in radians, from 0 to PI; it clamps nothing but by its arcsine.
 pub fn acos(a: f64) -> f64
     ensures { λ r. ⌜ r ≡ arccosine a ⌝ }
 {

@@ -378,6 +378,12 @@ neg-turns (fin false m e) (fin false n d) h = sides→le (fin true n d) (fin tru
 pub neg-le : {x y : Float} → x ≼ y → neg y ≼ neg x
 neg-le {x} {y} h = record { holds = neg-turns x y (h .holds) }
 
+pub neg-lt : {x y : Float} → x ≺ y → neg y ≺ neg x
+neg-lt {x} {y} h =
+    let l = neg-le (lt→le h) in
+    lt-of-not-le (left-number l) (right-number l)
+    (is-false (le (neg x) (neg y)) (not-T (le (neg x) (neg y)) (λ t. lt-excludes h (rw (neg-neg x, neg-neg y) at (neg-le {x = neg x} {y = neg y} (record { holds = t }))))))
+
 -- ---- only a NaN differs from itself
 
 pub equals-itself : (x : Float) → eq x x ≡ not (isNan x)

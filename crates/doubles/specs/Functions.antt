@@ -23,6 +23,11 @@ unfoldable pub floatMax : Float → Float → Float
 unfolding maxOf2
 floatMax x y = cond (isNan x) y (cond (isNan y) x (maxOf2 x y))
 
+-- clamped to −1..1: any number below −1 is taken as −1, any above 1 as 1, the infinities too; NaN stays NaN
+unfoldable pub clamp : Float → Float
+unfolding whole neg
+clamp x = cond (lt x (neg (whole 1))) (neg (whole 1)) (cond (lt (whole 1) x) (whole 1) x)
+
 -- The largest whole number that is not above x. A zero keeps its sign; −0.5 gives −1, and 0.5 gives +0.
 -- A double with no fraction is itself; any other is m / 2 ^ suc k, whose quotient is cut off, or for a negative one taken up.
 unfoldable pub floorOf : Float → Float

@@ -22,6 +22,11 @@ pub record _≈_ (x y : Float) : Type 0 where
   pub below : x ≼ y
   pub above : y ≼ x
 
+-- from low to high
+pub record InRange (low high x : Float) : Type 0 where
+  pub from : low ≼ x
+  pub to : x ≼ high
+
 -- no NaN
 pub record Number (x : Float) : Type 0 where
   pub holds : T (not (isNan x))

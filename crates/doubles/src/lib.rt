@@ -1,6 +1,6 @@
 // Functions on doubles that the language has no operator for. Where nothing else is said, results have the unit of the arguments.
 ghost use mathlib.Core.Path.{_≡_};
-ghost use Rattle.doubles.specs.Functions.{minOf2, maxOf2, floatMin, floatMax, floorOf, cubeOf, toRadians, toDegrees};
+ghost use Rattle.doubles.specs.Functions.{minOf2, maxOf2, floatMin, floatMax, clamp, floorOf, cubeOf, toRadians, toDegrees};
 
 // The double nearest to PI, for every crate.
 pub const PI: f64 = 3.141592653589793;
@@ -37,6 +37,19 @@ pub fn float_max(x: f64, y: f64) -> f64
         return x;
     }
     if y == y { y } else { x }
+}
+
+// Clamped to −1..1; NaN stays NaN.
+pub fn clamped(x: f64) -> f64
+    ensures { λ r. ⌜ r ≡ clamp x ⌝ }
+{
+    if x < -1.0 {
+        -1.0
+    } else if x > 1.0 {
+        1.0
+    } else {
+        x
+    }
 }
 
 // The largest whole number that is not above x.

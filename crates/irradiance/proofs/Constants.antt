@@ -2,8 +2,8 @@
 use mathlib.Core.Path.{_≡_, refl}
 use lib.Ieee.{add, sub, mul, div, lt, le, toUnsigned}
 use Rattle.doubles.specs.Arithmetic.{whole, bits}
-use Rattle.doubles.specs.Functions.{floorOf, toRadians}
-use Rattle.angles.specs.Sine.{isAngle, quarterTurns, quadrant, remainder, sineSum, cosineSum, sineSeries, cosineSeries, cosineAt, clamp, cosine}
+use Rattle.doubles.specs.Functions.{clamp, floorOf, toRadians}
+use Rattle.angles.specs.Sine.{isAngle, quarterTurns, quadrant, remainder, sineSum, cosineSum, sineSeries, cosineSeries, cosineAt, cosine}
 use Rattle.irradiance.specs.Surface.{cosineOfDegrees}
 
 pub cosine-85 : cosineOfDegrees (whole 85) ≡ bits 0x3FB64FD6B8C280FF

@@ -23,7 +23,7 @@ incidenceArgument l d t o w =
     ⊕ d .cos ⊗ l .sin ⊗ t .sin ⊗ o .cos ⊗ w .cos
     ⊕ d .cos ⊗ t .sin ⊗ o .sin ⊗ w .sin
 
--- The solar angle of incidence. Not clamped: a sum just above 1 gives NaN.
+-- The solar angle of incidence, from 0 to 180. A sum that rounds above 1 gives 0.
 unfoldable pub incidenceAngle : SinCos → SinCos → SinCos → SinCos → SinCos → Float
 unfolding incidenceArgument
 incidenceAngle l d t o w = toDegrees (arccosine (incidenceArgument l d t o w))

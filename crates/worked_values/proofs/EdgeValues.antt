@@ -8,8 +8,8 @@ use lib.IntN.{pos}
 use lib.ListN.{length}
 use lib.Ieee.{Float, nan, binary64, add, sub, mul, div, neg, lt, le, eq, isNan, toUnsigned, ofInt, toBits}
 use Rattle.doubles.specs.Arithmetic.{whole, decimal}
-use Rattle.doubles.specs.Functions.{cubeOf, floorOf, toRadians, floatMax}
-use Rattle.angles.specs.Sine.{isAngle, quarterTurns, quadrant, remainder, sineSum, cosineSum, sineSeries, cosineSeries, sineAt, cosineAt, clamp, sine, cosine, tangent}
+use Rattle.doubles.specs.Functions.{clamp, cubeOf, floorOf, toRadians, floatMax}
+use Rattle.angles.specs.Sine.{isAngle, quarterTurns, quadrant, remainder, sineSum, cosineSum, sineSeries, cosineSeries, sineAt, cosineAt, sine, cosine, tangent}
 use Rattle.days.specs.Day.{equationOfTime}
 use Rattle.sun.specs.Hour.{timeShift, hourAngle}
 use Rattle.orientation.specs.Orientation.{orientation180, wrappedOnce}

@@ -13,11 +13,11 @@ use lib.ListN.{replicate}
 use lib.Ieee.{Float, add, sub, mul, div, neg, lt, le, eq, ne, isNan, fits, toUnsigned, ofInt, ofBits}
 use lib.Ieee.Fits.{and-l, and-r}
 use Rattle.doubles.specs.Arithmetic.{_⊕_, whole, decimal, bits}
-use Rattle.doubles.specs.Functions.{floorOf, cubeOf, toRadians, toDegrees, minOf2, maxOf2, floatMin, floatMax, largestOf}
+use Rattle.doubles.specs.Functions.{clamp, floorOf, cubeOf, toRadians, toDegrees, minOf2, maxOf2, floatMin, floatMax, largestOf}
 use Rattle.doubles.specs.Order.{_≼_, _≈_, Number, Finite}
 use Rattle.doubles.specs.Ranges.{within, aboveZero}
-use Rattle.angles.specs.Sine.{isAngle, quarterTurns, quadrant, remainder, sineSum, cosineSum, sineSeries, cosineSeries, sineAt, cosineAt, clamp, sine, cosine, tangent}
-use Rattle.arcsines.specs.Arcsine.{isSine, arcsineSeries, halfPi, arcsineUpward, arcsine, arccosine}
+use Rattle.angles.specs.Sine.{isAngle, quarterTurns, quadrant, remainder, sineSum, cosineSum, sineSeries, cosineSeries, sineAt, cosineAt, sine, cosine, tangent}
+use Rattle.arcsines.specs.Arcsine.{arcsineSeries, halfPi, arcsineUpward, arcsine, arccosine}
 use Rattle.powers.specs.Power.{logarithmOf, powerOf, powerBy, powMinus1253}
 use Rattle.words.specs.Words.{number, wordCount, wordAt, doubleAt}
 use Rattle.days.specs.Day.{orbitDeviation, solarDeclination, equationOfTime, extraTerrestrialRadiation, dayOf}
@@ -150,7 +150,7 @@ unfolding lists doubles checked tried siteFine hoursInYear atAll indicesFine rea
 checks = 0
 
 sun : ℕ
-unfolding lists doubles sine cosine tangent isAngle quarterTurns quadrant remainder sineSeries sineSum cosineSeries cosineSum sineAt cosineAt clamp arcsine isSine arcsineUpward
+unfolding lists doubles sine cosine tangent isAngle quarterTurns quadrant remainder sineSeries sineSum cosineSeries cosineSum sineAt cosineAt clamp arcsine arcsineUpward
     arcsineSeries halfPi powMinus1253 powerBy powerOf logarithmOf orbitDeviation solarDeclination equationOfTime extraTerrestrialRadiation dayOf sinCosOf timeShift
     solarTime hourAngle altitudeSine cutAltitude solarAltitude solarZenith azimuthDenominator solarAzimuth airMass hourOf orientation180 wrappedOnce currentHour sunAt timeAt
 sun = 0

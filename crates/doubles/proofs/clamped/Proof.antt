@@ -1,7 +1,7 @@
 use lib.Ieee.{ofBits, neg}
-use Rattle.angles.specs.Sine.{clamp}
-use Rattle.angles.proofs.clamped.Statement.{statement}
-use Rattle.angles.proofs.clamped.Tie as tie
+use Rattle.doubles.specs.Functions.{clamp}
+use Rattle.doubles.proofs.clamped.Statement.{statement}
+use Rattle.doubles.proofs.clamped.Tie as tie
 
 returns : tie.Need-returns
 unfolding clamp ofBits neg
