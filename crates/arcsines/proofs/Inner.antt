@@ -22,15 +22,16 @@ use Rattle.doubles.specs.Order.{_≼_, _≺_, Number, Finite}
 use Rattle.doubles.proofs.Order.{le→cross, le-refl, le-trans, lt→le, left-number, le-of-not-lt, not-below, not-up-to, neg-le, neg-lt, neg-neg}
 use Rattle.doubles.proofs.Monotone.{sub-mono, div-mono}
 use Rattle.doubles.proofs.Bounds.{sub-number, div-number, zero-number, one-number, zero-le-one, sub-nonneg, div-nonneg, positive-nonzero}
+use Rattle.doubles.proofs.Ranges.{Between}
 use Rattle.doubles.proofs.Clamping.{clamp-own, clamp-above, clamp-below}
 use Rattle.roots.specs.Root.{squareRoot}
 use Rattle.roots.proofs.Theorems.{squareRoot-is-root, squareRoot-not-negative}
 use Rattle.arcsines.specs.Arcsine.{arcsineSeries, halfAngleSine, arcsineUpward, oddly, arcsine, halfPi}
 
-abbrev half : Float
+abbrev pub half : Float
 half = decimal 5 1
 
-abbrev quarter : Float
+abbrev pub quarter : Float
 quarter = decimal 25 2
 
 -- ---- (1 − a) / 2 lies from 0 to 0.25
@@ -129,6 +130,14 @@ root-in (fin true (suc m) e) f h k = absurd (none m e h)
     none : (m : ℕ) (e : ℤ) → whole 0 ≼ fin true (suc m) e → ⊥
     none m e h = unfold whole in (let c = le→cross {x = whole 0} {y = fin true (suc m) e} (record { holds = tt }) (record { holds = tt }) h in omega (arith, mul-pos (zero-lt-suc m) (up-pos e)))
 
+pub half-angle-in : {a : Float} → half ≺ a → a ≼ whole 1 → Between half (halfAngleSine a)
+unfolding halfAngleSine
+half-angle-in {a} h k =
+    let x = (whole 1 ⊖ a) ⊘ whole 2 in
+    let r = radicand-in (lt→le h) k in
+    let q : squareRoot x ≼ half = root-in x (div-fits binary64 (whole 1 ⊖ a) (whole 2)) (r .0) (r .1) in
+    record { low = le-of-not-lt (left-number q) zero-number (unfold whole in squareRoot-not-negative x); high = q }
+
 -- ---- the paper's lines
 
 -- from 0 to 0.5 the series
@@ -142,12 +151,9 @@ arcsine-series a h k =
 
 -- the inner arcsine is the series
 pub arcsine-inner : (a : Float) → T (lt (decimal 5 1) a) → T (le a (whole 1)) → arcsine (halfAngleSine a) ≡ arcsineSeries (halfAngleSine a)
-unfolding halfAngleSine
 arcsine-inner a h k =
-    let x = (whole 1 ⊖ a) ⊘ whole 2 in
-    let r = radicand-in (lt→le (record { holds = h })) (record { holds = k }) in
-    let q : squareRoot x ≼ half = root-in x (div-fits binary64 (whole 1 ⊖ a) (whole 2)) (r .0) (r .1) in
-    arcsine-series (squareRoot x) (le-of-not-lt (left-number q) zero-number (unfold whole in squareRoot-not-negative x) .holds) (q .holds)
+    let r = half-angle-in (record { holds = h }) (record { holds = k }) in
+    arcsine-series (halfAngleSine a) (r .low .holds) (r .high .holds)
 
 -- above 0.5: PI/2 − 2·arcsine(root((1−a)/2))
 pub arcsine-above-half : (a : Float) → T (lt (decimal 5 1) a) → T (le a (whole 1)) → arcsine a ≡ halfPi ⊖ whole 2 ⊗ arcsine (squareRoot ((whole 1 ⊖ a) ⊘ whole 2))

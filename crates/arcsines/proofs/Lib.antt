@@ -1,3 +1,4 @@
 pub mod ArcsineParts
 pub mod Computed
 pub mod Inner
+pub mod Range

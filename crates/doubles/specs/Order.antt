@@ -2,7 +2,7 @@
 -- Zeros of either sign are level, an infinity lies beyond every finite double, and a NaN stands in no relation.
 use mathlib.Core.Bool.{not}
 use lib.Dec.{T}
-use lib.Ieee.{Float, binary64, lt, le, eq, fits, isNan}
+use lib.Ieee.{Float, binary64, neg, lt, le, eq, fits, isNan}
 use Rattle.doubles.specs.Arithmetic.{whole}
 use lib.Ieee.Scale.{finite}
 
@@ -26,6 +26,11 @@ pub record _≈_ (x y : Float) : Type 0 where
 pub record InRange (low high x : Float) : Type 0 where
   pub from : low ≼ x
   pub to : x ≼ high
+
+-- from −bound to bound
+pub record About (bound x : Float) : Type 0 where
+  pub from : neg bound ≼ x
+  pub to : x ≼ bound
 
 -- no NaN
 pub record Number (x : Float) : Type 0 where

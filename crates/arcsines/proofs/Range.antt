@@ -1,0 +1,196 @@
+-- Where an arcsine and an arccosine lie: of any number the arcsine is from −PI/2 to PI/2 and the arccosine from 0 to PI, as doubles, so that
+-- both are numbers; and what they are beyond ±1 and of NaN. Assumes nothing.
+use mathlib.Core.Path.{_≡_, refl}
+use mathlib.Core.Bool.{Bool, true, false, cond, _&&_}
+use Prim.Native.Nat.{ℕ, zero, suc, _+_, _-_, _*_, _^_, _<_}
+use native.Mathlib.Nat.{lt-irrefl}
+use native.Mathlib.Omega.{arith}
+use native.Mathlib.Decide.{decLe}
+use lib.Dec.{T}
+use lib.Ieee.{Float, nan, add, sub, mul, div, neg, lt, le, isNan}
+use lib.Ieee.Scale.{finite}
+use Rattle.doubles.specs.Arithmetic.{_⊕_, _⊖_, _⊗_, _⊘_, decimal, whole}
+use Rattle.doubles.specs.Functions.{clamp, pi}
+use Rattle.doubles.specs.Series.{horner}
+use Rattle.doubles.specs.Order.{_≼_, _≺_, InRange, About, Number}
+use Rattle.doubles.proofs.Order.{le-refl, le-trans, lt→le, left-number, le-of-not-lt, lt-of-not-le, neg-le, neg-neg}
+use Rattle.doubles.proofs.Bounds.{zero-number, one-number, mul-number, mul-nonneg}
+use Rattle.doubles.proofs.Ranges.{Between, finite-between}
+use Rattle.doubles.proofs.Clamping.{clamp-above, clamp-below, clamp-range}
+use Rattle.doubles.proofs.Intervals.{split, holdsEnds, in-number, own-range, between-range, widen, add-in, sub-in, about, as-range, about-number, neg-about, mul-about, div-about, horner-in}
+use Rattle.arcsines.specs.Arcsine.{arcsineStep, arcsineSeries, halfPi, complement, upToHalf, halfAngleSine, upwardBy, arcsineUpward, oddly, arcsine, arccosine}
+use Rattle.arcsines.proofs.Computed.{steps}
+use Rattle.arcsines.proofs.Inner.{half, quarter, half-angle-in}
+
+-- ---- beyond ±1, and NaN
+
+pub arcsine-above : {a : Float} → whole 1 ≺ a → arcsine a ≡ halfPi
+unfolding steps
+arcsine-above h = rw (clamp-above h) refl
+
+pub arcsine-below : {a : Float} → a ≺ neg (whole 1) → arcsine a ≡ neg halfPi
+unfolding steps
+arcsine-below h = rw (clamp-below h) refl
+
+pub arccosine-above : {a : Float} → whole 1 ≺ a → arccosine a ≡ whole 0
+arccosine-above h = unfold arccosine in rw (arcsine-above h) (unfold halfPi div sub in refl)
+
+pub arccosine-below : {a : Float} → a ≺ neg (whole 1) → arccosine a ≡ pi
+arccosine-below h = unfold arccosine in rw (arcsine-below h) (unfold halfPi div sub neg in refl)
+
+pub arcsine-nan : arcsine nan ≡ nan
+unfolding steps
+arcsine-nan = refl
+
+pub arccosine-nan : arccosine nan ≡ nan
+unfolding steps
+arccosine-nan = refl
+
+-- ---- the series of an argument from 0 to 0.5: every bracket lies from 0.5 to 1.5
+
+-- (2n − 1)² and 2n(2n + 1)
+abbrev odds : ℕ → Float
+odds n = whole ((2 * n - 1) ^ 2)
+
+abbrev evens : ℕ → Float
+evens n = whole (2 * n * (2 * n + 1))
+
+-- what the checker computes of them for one n, and for n = 1 up to count: 0.25 times their quotient is at most 0.25
+unfoldable quotientTest : ℕ → Bool
+unfolding whole decimal neg mul div lt le
+quotientTest n =
+    let most = quarter ⊗ odds n in
+    (le (neg (odds n)) (odds n) && le (odds n) (odds n))
+    && (finite quarter && finite (odds n) && le most most)
+    && (lt (whole 0) (evens n) && holdsEnds (neg most) most (evens n) (evens n) (neg quarter) (neg most ⊘ evens n) (most ⊘ evens n) quarter)
+
+unfoldable quotientTests : ℕ → Bool
+quotientTests zero = true
+quotientTests (suc n) = quotientTest (suc n) && quotientTests n
+
+all-tested : T (quotientTests 24)
+unfolding quotientTests quotientTest
+all-tested = tt
+
+tested : (n : ℕ) → T (quotientTests n) → (k : ℕ) → k < n → T (quotientTest (suc k))
+unfolding quotientTests
+tested zero t k l = absurd (omega arith)
+tested (suc n) t k l =
+    let s = split (quotientTest (suc n)) (quotientTests n) t in
+    elim (decLe (suc k) n) [ yes h ↦ tested n (s .1) k h | no h ↦ last (omega arith) (s .0) ]
+  where
+    last : k ≡ n → T (quotientTest (suc n)) → T (quotientTest (suc k))
+    last e t = rw e t
+
+quotient-about : (t : Float) (n : ℕ) → About quarter t → T (quotientTest n) → About quarter ((t ⊗ odds n) ⊘ evens n)
+unfolding quotientTest
+quotient-about t n r b =
+    let most = quarter ⊗ odds n in
+    let p = split ((le (neg (odds n)) (odds n) && le (odds n) (odds n)) && (finite quarter && finite (odds n) && le most most))
+        (lt (whole 0) (evens n) && holdsEnds (neg most) most (evens n) (evens n) (neg quarter) (neg most ⊘ evens n) (most ⊘ evens n) quarter) b in
+    let q = split (le (neg (odds n)) (odds n) && le (odds n) (odds n)) (finite quarter && finite (odds n) && le most most) (p .0) in
+    let own = split (le (neg (odds n)) (odds n)) (le (odds n) (odds n)) (q .0) in
+    let by = split (lt (whole 0) (evens n)) (holdsEnds (neg most) most (evens n) (evens n) (neg quarter) (neg most ⊘ evens n) (most ⊘ evens n) quarter) (p .1) in
+    let odds-about : About (odds n) (odds n) = record { from = record { holds = own .0 }; to = record { holds = own .1 } } in
+    let product : About most (t ⊗ odds n) = mul-about r odds-about (q .1) in
+    div-about (evens n) product (by .0) (by .1)
+
+abbrev threeHalves : Float
+threeHalves = decimal 15 1
+
+step-in : (t : Float) → About quarter t → (k : ℕ) → k < 24 → (h : Float) → InRange half threeHalves h → InRange half threeHalves (arcsineStep t (suc k) h)
+unfolding arcsineStep whole decimal neg add mul le
+step-in t r k l h s =
+    let q : About quarter ((t ⊗ odds (suc k)) ⊘ evens (suc k)) = quotient-about t (suc k) r (tested 24 all-tested k l) in
+    let b : About threeHalves h = about s tt in
+    let m : About half (((t ⊗ odds (suc k)) ⊘ evens (suc k)) ⊗ h) = mul-about q b tt in
+    add-in (own-range one-number) (as-range m) tt
+
+-- from 0 to 0.75
+abbrev threeQuarters : Float
+threeQuarters = decimal 75 2
+
+zero-half : whole 0 ≼ half
+unfolding whole decimal le
+zero-half = record { holds = tt }
+
+series-in : {a : Float} → Between half a → Between threeQuarters (arcsineSeries a)
+unfolding arcsineSeries whole decimal neg mul le
+series-in {a} b =
+    let r : About half a = about (between-range b) tt in
+    let t : About quarter (a ⊗ a) = mul-about r r tt in
+    let one : InRange half threeHalves (whole 1) = widen (own-range one-number) tt in
+    let h : InRange half threeHalves (horner (arcsineStep (a ⊗ a)) 24 (whole 1)) = horner-in (arcsineStep (a ⊗ a)) 24 (step-in (a ⊗ a) t) (whole 1) one in
+    let k : About threeHalves (horner (arcsineStep (a ⊗ a)) 24 (whole 1)) = about h tt in
+    let m : About threeQuarters (a ⊗ horner (arcsineStep (a ⊗ a)) 24 (whole 1)) = mul-about r k tt in
+    record { low = mul-nonneg (b .low) (le-trans zero-half (h .from)) (about-number m); high = m .to }
+
+-- ---- the arcsine
+
+number-halfPi : Number halfPi
+unfolding halfPi div isNan
+number-halfPi = record { holds = tt }
+
+-- above 0.5: PI/2 − 2·the series
+rest-in : {s : Float} → Between threeQuarters s → Between halfPi (complement (whole 2 ⊗ s))
+unfolding halfPi whole decimal neg sub mul div le isNan
+rest-in {s} b =
+    let two : About (whole 2) (whole 2) = about (own-range (record { holds = tt })) tt in
+    let r : About threeQuarters s = about (between-range b) tt in
+    let d : About threeHalves (whole 2 ⊗ s) = mul-about two r tt in
+    let z : whole 0 ≼ whole 2 ⊗ s = mul-nonneg {x = whole 2} {y = s} (record { holds = tt }) (b .low) (about-number d) in
+    let e : InRange (whole 0) threeHalves (whole 2 ⊗ s) = record { from = z; to = d .to } in
+    let c : InRange (whole 0) halfPi (halfPi ⊖ whole 2 ⊗ s) = sub-in (own-range number-halfPi) e tt in
+    record { low = c .from; high = c .to }
+
+half-number : Number half
+unfolding decimal isNan
+half-number = record { holds = tt }
+
+threeQuarters-below : threeQuarters ≼ halfPi
+unfolding decimal halfPi div le
+threeQuarters-below = record { holds = tt }
+
+upward-in : {m : Float} → whole 0 ≼ m → m ≼ whole 1 → Between halfPi (arcsineUpward m)
+unfolding arcsineUpward
+upward-in {m} l u = go (le m half) refl
+  where
+    go : (b : Bool) → le m half ≡ b → Between halfPi (cond b (arcsineSeries m) (complement (whole 2 ⊗ arcsineSeries (halfAngleSine m))))
+    go true e =
+        let s = series-in (record { low = l; high = record { holds = rw e tt } }) in
+        record { low = s .low; high = le-trans (s .high) threeQuarters-below }
+    go false e = rest-in (series-in (half-angle-in (lt-of-not-le half-number (left-number u) e) u))
+
+upward-about : {m : Float} → whole 0 ≼ m → m ≼ whole 1 → About halfPi (arcsineUpward m)
+unfolding whole halfPi neg div le
+upward-about l u = about (between-range (upward-in l u)) tt
+
+minus-zero : whole 0 ≼ neg (whole 0)
+unfolding whole neg le
+minus-zero = record { holds = tt }
+
+-- of any number from −PI/2 to PI/2
+pub arcsine-range : {a : Float} → Number a → About halfPi (arcsine a)
+unfolding arcsine
+arcsine-range {a} n = go (lt (clamp a) (whole 0)) refl
+  where
+    r : About (whole 1) (clamp a)
+    r = clamp-range n
+
+    go : (b : Bool) → lt (clamp a) (whole 0) ≡ b → About halfPi (cond b (neg (arcsineUpward (neg (clamp a)))) (arcsineUpward (clamp a)))
+    go true e =
+        let below : clamp a ≼ whole 0 = lt→le (record { holds = rw e tt }) in
+        neg-about (upward-about (le-trans minus-zero (neg-le below)) (rw (neg-neg (whole 1)) at (neg-le (r .from))))
+    go false e = upward-about (le-of-not-lt (about-number r) zero-number e) (r .to)
+
+-- and from 0 to PI
+pub arccosine-range : {a : Float} → Number a → InRange (whole 0) pi (arccosine a)
+unfolding arccosine whole halfPi neg sub div le
+arccosine-range {a} n = sub-in (own-range number-halfPi) (as-range (arcsine-range n)) tt
+
+-- so both are numbers
+pub arcsine-number : {a : Float} → Number a → Number (arcsine a)
+arcsine-number n = about-number (arcsine-range n)
+
+pub arccosine-number : {a : Float} → Number a → Number (arccosine a)
+arccosine-number n = in-number (arccosine-range n)

@@ -1,0 +1,215 @@
+-- Interval arithmetic: where a sum, a difference, a product or a quotient lies, by where its operands lie. The last argument of each
+-- law is a test of the ends, which the checker computes where they are constants. Assumes nothing.
+use mathlib.Core.Path.{_≡_, refl}
+use mathlib.Core.Bool.{Bool, true, false, not, cond, _&&_}
+use Prim.Native.Nat.{ℕ, zero, suc, _*_, _<_}
+use native.Mathlib.Omega.{arith}
+use lib.Dec.{T}
+use lib.Ieee.{Float, nan, inf, fin, binary64, up, down, round, mul, neg, lt, le}
+use lib.Ieee.Scale.{finite}
+use Rattle.doubles.specs.Arithmetic.{_⊕_, _⊖_, _⊗_, _⊘_, whole}
+use Rattle.doubles.specs.Series.{horner}
+use Rattle.doubles.specs.Order.{_≼_, _≺_, InRange, About, Number, Finite}
+use Rattle.doubles.proofs.Order.{le-refl, le-trans, lt→le, left-number, le-of-not-lt, neg-finite, neg-le, neg-neg}
+use Rattle.doubles.proofs.Rounding.{round-neg}
+use Rattle.doubles.proofs.Monotone.{add-mono, sub-mono, mul-mono, div-mono}
+use Rattle.doubles.proofs.Bounds.{add-number, sub-number, mul-number, div-number, positive-nonzero, mul-nonneg, zero-number}
+use Rattle.doubles.proofs.Differences.{between-finite}
+use Rattle.doubles.proofs.Ranges.{Between, finite-between}
+
+pub split : (p q : Bool) → T (p && q) → T p × T q
+split true q t = (tt, t)
+split false q t = absurd t
+
+-- ---- what lies in a range
+
+pub in-number : {a b x : Float} → InRange a b x → Number x
+in-number r = left-number (r .to)
+
+pub own-range : {x : Float} → Number x → InRange x x x
+own-range n = record { from = le-refl n; to = le-refl n }
+
+pub between-range : {c x : Float} → Between c x → InRange (whole 0) c x
+between-range b = record { from = b .low; to = b .high }
+
+pub in-finite : {a b x : Float} → Finite a → Finite b → InRange a b x → Finite x
+in-finite f g r = between-finite f g (r .from) (r .to)
+
+pub widen : {l h a b x : Float} → InRange a b x → T (le l a && le b h) → InRange l h x
+widen {l} {h} {a} {b} r t =
+    let s = split (le l a) (le b h) t in
+    record { from = le-trans (record { holds = s .0 }) (r .from); to = le-trans (r .to) (record { holds = s .1 }) }
+
+-- ---- sums and differences
+
+-- Four ends of operands are finite, and low and high, which come of them, lie from l to h: tested, and as facts.
+abbrev pub holdsEnds : Float → Float → Float → Float → Float → Float → Float → Float → Bool
+holdsEnds a b c d l low high h = finite a && finite b && (finite c && finite d) && (le l low && le high h)
+
+record Ends (a b c d l low high h : Float) : Type 0 where
+  a-finite : Finite a
+  b-finite : Finite b
+  c-finite : Finite c
+  d-finite : Finite d
+  below : l ≼ low
+  above : high ≼ h
+
+ends : (a b c d l low high h : Float) → T (holdsEnds a b c d l low high h) → Ends a b c d l low high h
+ends a b c d l low high h t =
+    let s = split (finite a && finite b && (finite c && finite d)) (le l low && le high h) t in
+    let p = split (finite a && finite b) (finite c && finite d) (s .0) in
+    let first = split (finite a) (finite b) (p .0) in
+    let second = split (finite c) (finite d) (p .1) in
+    let order = split (le l low) (le high h) (s .1) in
+    record {
+      a-finite = record { holds = first .0 };
+      b-finite = record { holds = first .1 };
+      c-finite = record { holds = second .0 };
+      d-finite = record { holds = second .1 };
+      below = record { holds = order .0 };
+      above = record { holds = order .1 };
+    }
+
+pub add-in : {l h a b c d x y : Float} → InRange a b x → InRange c d y → T (holdsEnds a b c d l (a ⊕ c) (b ⊕ d) h) → InRange l h (x ⊕ y)
+add-in {l} {h} {a} {b} {c} {d} p q t =
+    let e = ends a b c d l (a ⊕ c) (b ⊕ d) h t in
+    let n = add-number (in-finite (e .a-finite) (e .b-finite) p) (in-finite (e .c-finite) (e .d-finite) q) in
+    record {
+      from = le-trans (e .below) (add-mono (p .from) (q .from) (add-number (e .a-finite) (e .c-finite)) n);
+      to = le-trans (add-mono (p .to) (q .to) n (add-number (e .b-finite) (e .d-finite))) (e .above);
+    }
+
+pub sub-in : {l h a b c d x y : Float} → InRange a b x → InRange c d y → T (holdsEnds a b c d l (a ⊖ d) (b ⊖ c) h) → InRange l h (x ⊖ y)
+sub-in {l} {h} {a} {b} {c} {d} p q t =
+    let e = ends a b c d l (a ⊖ d) (b ⊖ c) h t in
+    let n = sub-number (in-finite (e .a-finite) (e .b-finite) p) (in-finite (e .c-finite) (e .d-finite) q) in
+    record {
+      from = le-trans (e .below) (sub-mono (p .from) (q .to) (sub-number (e .a-finite) (e .d-finite)) n);
+      to = le-trans (sub-mono (p .to) (q .from) n (sub-number (e .b-finite) (e .c-finite))) (e .above);
+    }
+
+-- ---- quotients by what is above zero
+
+pub div-in : {l h a b x : Float} (d : Float) → InRange a b x → T (lt (whole 0) d) → T (holdsEnds a b d d l (a ⊘ d) (b ⊘ d) h) → InRange l h (x ⊘ d)
+div-in {l} {h} {a} {b} d p z t =
+    let e = ends a b d d l (a ⊘ d) (b ⊘ d) h t in
+    let positive : whole 0 ≺ d = record { holds = z } in
+    let not-zero = positive-nonzero positive in
+    let n = div-number (in-finite (e .a-finite) (e .b-finite) p) (e .c-finite) not-zero in
+    record {
+      from = le-trans (e .below) (div-mono positive (p .from) (div-number (e .a-finite) (e .c-finite) not-zero) n);
+      to = le-trans (div-mono positive (p .to) n (div-number (e .b-finite) (e .c-finite) not-zero)) (e .above);
+    }
+
+-- ---- about zero
+
+pub about : {c a b x : Float} → InRange a b x → T (le (neg c) a && le b c) → About c x
+about {c} {a} {b} r t =
+    let s = widen {l = neg c} {h = c} r t in
+    record { from = s .from; to = s .to }
+
+pub as-range : {c x : Float} → About c x → InRange (neg c) c x
+as-range r = record { from = r .from; to = r .to }
+
+pub about-number : {c x : Float} → About c x → Number x
+about-number r = left-number (r .to)
+
+pub about-finite : {c x : Float} → Finite c → About c x → Finite x
+about-finite f r = between-finite (neg-finite f) f (r .from) (r .to)
+
+pub neg-about : {c x : Float} → About c x → About c (neg x)
+neg-about {c} r = record { from = neg-le (r .to); to = rw (neg-neg c) at (neg-le (r .from)) }
+
+pub more-about : {c d x : Float} → About c x → T (le (neg d) (neg c) && le c d) → About d x
+more-about r t = about (as-range r) t
+
+pub add-about : {h a b x y : Float} → About a x → About b y → T (holdsEnds (neg a) a (neg b) b (neg h) (neg a ⊕ neg b) (a ⊕ b) h) → About h (x ⊕ y)
+add-about {h} p q t =
+    let r = add-in {l = neg h} {h = h} (as-range p) (as-range q) t in
+    record { from = r .from; to = r .to }
+
+pub sub-about : {h a b x y : Float} → About a x → About b y → T (holdsEnds (neg a) a (neg b) b (neg h) (neg a ⊖ b) (a ⊖ neg b) h) → About h (x ⊖ y)
+sub-about {h} p q t =
+    let r = sub-in {l = neg h} {h = h} (as-range p) (as-range q) t in
+    record { from = r .from; to = r .to }
+
+pub div-about : {h a x : Float} (d : Float) → About a x → T (lt (whole 0) d) → T (holdsEnds (neg a) a d d (neg h) (neg a ⊘ d) (a ⊘ d) h) → About h (x ⊘ d)
+div-about {h} d p z t =
+    let r = div-in {l = neg h} {h = h} d (as-range p) z t in
+    record { from = r .from; to = r .to }
+
+
+round-turned : (s : Bool) (a c : ℕ) → round binary64 (not s) a c ≡ neg (round binary64 s a c)
+round-turned true a c = rw (round-neg a c, neg-neg (round binary64 false a c)) refl
+round-turned false a c = round-neg a c
+
+mul-turned : (x y : Float) → T (finite x) → T (finite y) → (neg x ⊗ y ≡ neg (x ⊗ y)) × (x ⊗ neg y ≡ neg (x ⊗ y))
+unfolding mul neg
+mul-turned nan y f g = absurd f
+mul-turned (inf s) y f g = absurd f
+mul-turned (fin s m e) nan f g = absurd g
+mul-turned (fin s m e) (inf t) f g = absurd g
+mul-turned (fin s m e) (fin t n d) f g = go s t
+  where
+    turned : (s : Bool) → round binary64 (not s) (m * up e * (n * up d)) (down e * down d) ≡ neg (round binary64 s (m * up e * (n * up d)) (down e * down d))
+    turned s = round-turned s (m * up e * (n * up d)) (down e * down d)
+
+    go : (s t : Bool) → (neg (fin s m e) ⊗ fin t n d ≡ neg (fin s m e ⊗ fin t n d)) × (fin s m e ⊗ neg (fin t n d) ≡ neg (fin s m e ⊗ fin t n d))
+    go true true = (turned false, turned false)
+    go true false = (turned true, turned true)
+    go false true = (turned true, turned true)
+    go false false = (turned false, turned false)
+
+minus-zero : whole 0 ≼ neg (whole 0)
+unfolding whole neg le
+minus-zero = record { holds = tt }
+
+zero-minus : neg (whole 0) ≼ whole 0
+unfolding whole neg le
+zero-minus = record { holds = tt }
+
+module _ {a b h : Float} (fa : Finite a) (fb : Finite b) (top : a ⊗ b ≼ h) where
+  mul-up : {x y : Float} → Between a x → Between b y → About h (x ⊗ y)
+  mul-up p q =
+      let n = mul-number (finite-between fa p) (finite-between fb q) in
+      let low = mul-nonneg (p .low) (q .low) n in
+      let high = le-trans (mul-mono (p .low) (q .low) (p .high) (q .high) n (mul-number fa fb)) top in
+      record { from = le-trans (neg-le (le-trans low high)) (le-trans zero-minus low); to = high }
+
+  -- a number about zero, or its opposite, is not negative
+  turn : {c x : Float} → About c x → (b : Bool) → lt x (whole 0) ≡ b → Between c (cond b (neg x) x)
+  turn {c} {x} r true e =
+      record { low = le-trans minus-zero (neg-le (lt→le {x = x} {y = whole 0} (record { holds = rw e tt }))); high = rw (neg-neg c) at (neg-le (r .from)) }
+  turn r false e = record { low = le-of-not-lt (about-number r) zero-number e; high = r .to }
+
+  mul-by : {x y : Float} → Between a x → About b y → About h (x ⊗ y)
+  mul-by {x} {y} p q = go (lt y (whole 0)) (turn q (lt y (whole 0)) refl)
+    where
+      go : (s : Bool) → Between b (cond s (neg y) y) → About h (x ⊗ y)
+      go true r =
+          let e = mul-turned x y (finite-between fa p .holds) (about-finite fb q .holds) in
+          rw (neg-neg (x ⊗ y)) at (neg-about (rw (e .1) at (mul-up p r)))
+      go false r = mul-up p r
+
+  mul-turns : {x y : Float} → About a x → About b y → About h (x ⊗ y)
+  mul-turns {x} {y} p q = go (lt x (whole 0)) (turn p (lt x (whole 0)) refl)
+    where
+      go : (s : Bool) → Between a (cond s (neg x) x) → About h (x ⊗ y)
+      go true r =
+          let e = mul-turned x y (about-finite fa p .holds) (about-finite fb q .holds) in
+          rw (neg-neg (x ⊗ y)) at (neg-about (rw (e .0) at (mul-by r q)))
+      go false r = mul-by r q
+
+pub mul-about : {h a b x y : Float} → About a x → About b y → T (finite a && finite b && le (a ⊗ b) h) → About h (x ⊗ y)
+mul-about {h} {a} {b} p q t =
+    let s = split (finite a && finite b) (le (a ⊗ b) h) t in
+    let f = split (finite a) (finite b) (s .0) in
+    mul-turns (record { holds = f .0 }) (record { holds = f .1 }) (record { holds = s .1 }) p q
+
+-- ---- Horner's scheme: a range that every step keeps
+
+pub horner-in : {l h : Float} (step : ℕ → Float → Float) (count : ℕ) → ((k : ℕ) → k < count → (x : Float) → InRange l h x → InRange l h (step (suc k) x))
+    → (x : Float) → InRange l h x → InRange l h (horner step count x)
+unfolding horner
+horner-in step zero keeps x r = r
+horner-in step (suc n) keeps x r = horner-in step n (λ k l. keeps k (omega arith)) (step (suc n) x) (keeps n (omega arith) x r)
