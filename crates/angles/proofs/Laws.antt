@@ -5,12 +5,12 @@ use Prim.Native.Nat.{ℕ, zero, suc, _+_, _-_, _*_, _^_, _≤_, _<_}
 use native.Mathlib.Nat.{le-trans, mul-pos, mul-le-mul, zero-lt-suc}
 use native.Mathlib.Omega.{arith}
 use lib.Dec.{T, lit≤}
+use lib.Ieee.Bits.{is-true}
 use lib.Ieee.{Float, nan, fin, binary64, neg, lt, le, eq, ofInt, toUnsigned, isNan, fits}
 use Rattle.doubles.specs.Arithmetic.{_⊖_, _⊗_, _⊘_, whole, bits}
 use Rattle.doubles.specs.Functions.{clamp, floorOf}
-use Rattle.doubles.specs.Order.{Number}
-use Rattle.doubles.proofs.Order.{le-of-not-lt}
-use Rattle.doubles.proofs.Bounds.{one-number}
+use Rattle.doubles.specs.Order.{About, Number}
+use Rattle.doubles.proofs.Clamping.{clamp-range}
 use Rattle.doubles.specs.Series.{horner}
 use Rattle.angles.specs.Sine.{isAngle, quarterTurns, quadrant, remainder, sineStep, cosineStep, sineSum, cosineSum, sineSeries, cosineSeries, sineAt, cosineAt, ofAngle, sine, cosine}
 use Rattle.angles.proofs.Small.{Small, more-small, neg-small, round-small, sub-small, mul-small, div-small, by-value}
@@ -105,23 +105,9 @@ cosine-series-small r h =
         (step-small (r ⊗ r) x ((2 * suc n - 1) * (2 * suc n)) j (mul-pos c d) (le-trans (mul-le-mul a b) (lit≤ tt)) m (mul-small 11 11 r r (lit≤ tt) h h) q)
 
 -- ---- from −1 to 1
-abbrev Unit-range : Float → Type 0
-Unit-range x = T (le (neg (whole 1)) x) × T (le x (whole 1))
-
-clamp-range : (k : ℕ) (x : Float) → Small k x → Unit-range (clamp x)
-unfolding clamp whole neg isNan
-clamp-range k (fin s m e) h = go (lt x (neg (whole 1))) (lt (whole 1) x) (λ p. le-of-not-lt number (record { holds = tt }) p .holds) (λ p. le-of-not-lt one-number number p .holds)
-  where
-    x : Float
-    x = fin s m e
-
-    number : Number x
-    number = record { holds = tt }
-
-    go : (p q : Bool) → (p ≡ false → T (le (neg (whole 1)) x)) → (q ≡ false → T (le x (whole 1))) → Unit-range (cond p (neg (whole 1)) (cond q (whole 1) x))
-    go true q f g = unfold le in (tt, tt)
-    go false true f g = unfold le in (tt, tt)
-    go false false f g = (f refl, g refl)
+small-number : (k : ℕ) (x : Float) → Small k x → Number x
+unfolding isNan
+small-number k (fin s m e) h = record { holds = tt }
 
 sineAt-small : (q k : ℕ) (s c : Float) → Small k s → Small k c → Small k (sineAt q s c)
 unfolding sineAt
@@ -137,31 +123,37 @@ cosineAt-small (suc zero) k s c p r = neg-small k s p
 cosineAt-small (suc (suc zero)) k s c p r = neg-small k c r
 cosineAt-small (suc (suc (suc q))) k s c p r = p
 
-of-range : (at : ℕ → Float → Float → Float) → ((q k : ℕ) (s c : Float) → Small k s → Small k c → Small k (at q s c)) → (a : Float) → isAngle a ≡ true → Unit-range (ofAngle at a)
+of-range : (at : ℕ → Float → Float → Float) → ((q k : ℕ) (s c : Float) → Small k s → Small k c → Small k (at q s c)) → (a : Float) → isAngle a ≡ true → About (whole 1) (ofAngle at a)
 unfolding ofAngle
 of-range at small a h =
     let r = remainder a (quarterTurns a) in
     let s = angle-rest a h in
-    rw h (clamp-range 195 (at (quadrant (quarterTurns a)) (sineSeries r) (cosineSeries r))
-    (small (quadrant (quarterTurns a)) 195 (sineSeries r) (cosineSeries r) (sine-series-small r s) (cosine-series-small r s)))
+    rw h (clamp-range (small-number 195 (at (quadrant (quarterTurns a)) (sineSeries r) (cosineSeries r))
+    (small (quadrant (quarterTurns a)) 195 (sineSeries r) (cosineSeries r) (sine-series-small r s) (cosine-series-small r s))))
+
+is-angle : {a : Float} → About (whole 64) a → isAngle a ≡ true
+unfolding isAngle
+is-angle {a} h = simp (is-true (le (neg (whole 64)) a) (h .from .holds), is-true (le a (whole 64)) (h .to .holds))
 
 -- of an angle they are numbers from −1 to 1
-pub sine-range : (a : Float) → isAngle a ≡ true → T (le (neg (whole 1)) (sine a)) × T (le (sine a) (whole 1))
+pub sine-range : {a : Float} → About (whole 64) a → About (whole 1) (sine a)
 unfolding sine
-sine-range a h = of-range sineAt sineAt-small a h
+sine-range {a} h = of-range sineAt sineAt-small a (is-angle h)
 
-pub cosine-range : (a : Float) → isAngle a ≡ true → T (le (neg (whole 1)) (cosine a)) × T (le (cosine a) (whole 1))
+pub cosine-range : {a : Float} → About (whole 64) a → About (whole 1) (cosine a)
 unfolding cosine
-cosine-range a h = of-range cosineAt cosineAt-small a h
+cosine-range {a} h = of-range cosineAt cosineAt-small a (is-angle h)
 
 -- so NaN comes only of what is no angle
-no-nan : (x : Float) (b : Bool) → (b ≡ true → T (le (neg (whole 1)) x) × T (le x (whole 1))) → x ≡ nan → b ≡ false
-unfolding le whole neg
+no-nan : (x : Float) (b : Bool) → (b ≡ true → About (whole 1) x) → x ≡ nan → b ≡ false
+unfolding le whole
 no-nan x false f h = refl
-no-nan x true f h = absurd (rw h at (f refl .0))
+no-nan x true f h = absurd ((rw h at (f refl)) .to .holds)
 
 pub sine-nan : (a : Float) → sine a ≡ nan → isAngle a ≡ false
-sine-nan a h = no-nan (sine a) (isAngle a) (sine-range a) h
+unfolding sine
+sine-nan a h = no-nan (sine a) (isAngle a) (of-range sineAt sineAt-small a) h
 
 pub cosine-nan : (a : Float) → cosine a ≡ nan → isAngle a ≡ false
-cosine-nan a h = no-nan (cosine a) (isAngle a) (cosine-range a) h
+unfolding cosine
+cosine-nan a h = no-nan (cosine a) (isAngle a) (of-range cosineAt cosineAt-small a) h

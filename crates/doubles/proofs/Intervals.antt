@@ -2,10 +2,13 @@
 -- law is a test of the ends, which the checker computes where they are constants. Assumes nothing.
 use mathlib.Core.Path.{_≡_, refl}
 use mathlib.Core.Bool.{Bool, true, false, not, cond, _&&_}
-use Prim.Native.Nat.{ℕ, zero, suc, _*_, _<_}
+use Prim.Native.Nat.{ℕ, zero, suc, _*_, _≤_, _<_}
+use native.Mathlib.Nat.{zero-lt-suc}
+use lib.IntN.{ℤ, pos, negsuc, natAbs}
 use native.Mathlib.Omega.{arith}
 use lib.Dec.{T}
-use lib.Ieee.{Float, nan, inf, fin, binary64, up, down, round, mul, neg, lt, le}
+use lib.Ieee.{Float, nan, inf, fin, binary64, up, down, round, mul, neg, lt, le, ofInt}
+use lib.Ieee.Order.{round-mono}
 use lib.Ieee.Scale.{finite}
 use Rattle.doubles.specs.Arithmetic.{_⊕_, _⊖_, _⊗_, _⊘_, whole}
 use Rattle.doubles.specs.Series.{horner}
@@ -205,6 +208,26 @@ mul-about {h} {a} {b} p q t =
     let s = split (finite a && finite b) (le (a ⊗ b) h) t in
     let f = split (finite a) (finite b) (s .0) in
     mul-turns (record { holds = f .0 }) (record { holds = f .1 }) (record { holds = s .1 }) p q
+
+-- ---- constants and whole numbers
+
+pub constant : (c x : Float) → T (le (neg c) x && le x c) → About c x
+constant c x t =
+    let s = split (le (neg c) x) (le x c) t in
+    record { from = record { holds = s .0 }; to = record { holds = s .1 } }
+
+pub whole-le : (m n : ℕ) → m ≤ n → whole m ≼ whole n
+unfolding whole ofInt
+whole-le m n h = record { holds = round-mono binary64 m 1 n 1 (zero-lt-suc 0) (zero-lt-suc 0) (omega arith) }
+
+pub whole-about : (c n : ℕ) → n ≤ c → About (whole c) (whole n)
+whole-about c n h =
+    let low = whole-le 0 n (omega arith) in
+    record { from = le-trans (neg-le (whole-le 0 c (omega arith))) (le-trans zero-minus low); to = whole-le n c h }
+
+pub int-about : (c : ℕ) (z : ℤ) → natAbs z ≤ c → About (whole c) (ofInt binary64 z)
+int-about c (pos n) h = unfold whole in whole-about c n h
+int-about c (negsuc n) h = unfold ofInt in rw (round-neg (suc n) 1) (unfold whole in neg-about (whole-about c (suc n) h))
 
 -- ---- Horner's scheme: a range that every step keeps
 
