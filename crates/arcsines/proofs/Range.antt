@@ -15,9 +15,9 @@ use Rattle.doubles.specs.Series.{horner}
 use Rattle.doubles.specs.Order.{_≼_, _≺_, InRange, About, Number}
 use Rattle.doubles.proofs.Order.{le-refl, le-trans, lt→le, left-number, le-of-not-lt, lt-of-not-le, neg-le, neg-neg}
 use Rattle.doubles.proofs.Bounds.{zero-number, one-number, mul-number, mul-nonneg}
-use Rattle.doubles.proofs.Ranges.{Between, finite-between}
+use Rattle.doubles.proofs.Ranges.{Between, both-of}
 use Rattle.doubles.proofs.Clamping.{clamp-above, clamp-below, clamp-range}
-use Rattle.doubles.proofs.Intervals.{split, holdsEnds, in-number, own-range, between-range, widen, add-in, sub-in, about, as-range, about-number, neg-about, mul-about, div-about, horner-in}
+use Rattle.doubles.proofs.Intervals.{holdsEnds, in-number, own-range, between-range, widen, add-in, sub-in, about, as-range, about-number, neg-about, mul-about, div-about, horner-in}
 use Rattle.arcsines.specs.Arcsine.{arcsineStep, arcsineSeries, halfPi, complement, upToHalf, halfAngleSine, upwardBy, arcsineUpward, oddly, arcsine, arccosine}
 use Rattle.arcsines.proofs.Computed.{steps}
 use Rattle.arcsines.proofs.Inner.{half, quarter, half-angle-in}
@@ -76,7 +76,7 @@ tested : (n : ℕ) → T (quotientTests n) → (k : ℕ) → k < n → T (quotie
 unfolding quotientTests
 tested zero t k l = absurd (omega arith)
 tested (suc n) t k l =
-    let s = split (quotientTest (suc n)) (quotientTests n) t in
+    let s = both-of (quotientTest (suc n)) (quotientTests n) t in
     elim (decLe (suc k) n) [ yes h ↦ tested n (s .1) k h | no h ↦ last (omega arith) (s .0) ]
   where
     last : k ≡ n → T (quotientTest (suc n)) → T (quotientTest (suc k))
@@ -86,11 +86,11 @@ quotient-about : (t : Float) (n : ℕ) → About quarter t → T (quotientTest n
 unfolding quotientTest
 quotient-about t n r b =
     let most = quarter ⊗ odds n in
-    let p = split ((le (neg (odds n)) (odds n) && le (odds n) (odds n)) && (finite quarter && finite (odds n) && le most most))
+    let p = both-of ((le (neg (odds n)) (odds n) && le (odds n) (odds n)) && (finite quarter && finite (odds n) && le most most))
         (lt (whole 0) (evens n) && holdsEnds (neg most) most (evens n) (evens n) (neg quarter) (neg most ⊘ evens n) (most ⊘ evens n) quarter) b in
-    let q = split (le (neg (odds n)) (odds n) && le (odds n) (odds n)) (finite quarter && finite (odds n) && le most most) (p .0) in
-    let own = split (le (neg (odds n)) (odds n)) (le (odds n) (odds n)) (q .0) in
-    let by = split (lt (whole 0) (evens n)) (holdsEnds (neg most) most (evens n) (evens n) (neg quarter) (neg most ⊘ evens n) (most ⊘ evens n) quarter) (p .1) in
+    let q = both-of (le (neg (odds n)) (odds n) && le (odds n) (odds n)) (finite quarter && finite (odds n) && le most most) (p .0) in
+    let own = both-of (le (neg (odds n)) (odds n)) (le (odds n) (odds n)) (q .0) in
+    let by = both-of (lt (whole 0) (evens n)) (holdsEnds (neg most) most (evens n) (evens n) (neg quarter) (neg most ⊘ evens n) (most ⊘ evens n) quarter) (p .1) in
     let odds-about : About (odds n) (odds n) = record { from = record { holds = own .0 }; to = record { holds = own .1 } } in
     let product : About most (t ⊗ odds n) = mul-about r odds-about (q .1) in
     div-about (evens n) product (by .0) (by .1)

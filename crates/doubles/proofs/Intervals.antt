@@ -18,11 +18,7 @@ use Rattle.doubles.proofs.Rounding.{round-neg}
 use Rattle.doubles.proofs.Monotone.{add-mono, sub-mono, mul-mono, div-mono}
 use Rattle.doubles.proofs.Bounds.{add-number, sub-number, mul-number, div-number, positive-nonzero, mul-nonneg, zero-number}
 use Rattle.doubles.proofs.Differences.{between-finite}
-use Rattle.doubles.proofs.Ranges.{Between, finite-between}
-
-pub split : (p q : Bool) → T (p && q) → T p × T q
-split true q t = (tt, t)
-split false q t = absurd t
+use Rattle.doubles.proofs.Ranges.{Between, finite-between, both-of}
 
 -- ---- what lies in a range
 
@@ -40,7 +36,7 @@ in-finite f g r = between-finite f g (r .from) (r .to)
 
 pub widen : {l h a b x : Float} → InRange a b x → T (le l a && le b h) → InRange l h x
 widen {l} {h} {a} {b} r t =
-    let s = split (le l a) (le b h) t in
+    let s = both-of (le l a) (le b h) t in
     record { from = le-trans (record { holds = s .0 }) (r .from); to = le-trans (r .to) (record { holds = s .1 }) }
 
 -- ---- sums and differences
@@ -59,11 +55,11 @@ record Ends (a b c d l low high h : Float) : Type 0 where
 
 ends : (a b c d l low high h : Float) → T (holdsEnds a b c d l low high h) → Ends a b c d l low high h
 ends a b c d l low high h t =
-    let s = split (finite a && finite b && (finite c && finite d)) (le l low && le high h) t in
-    let p = split (finite a && finite b) (finite c && finite d) (s .0) in
-    let first = split (finite a) (finite b) (p .0) in
-    let second = split (finite c) (finite d) (p .1) in
-    let order = split (le l low) (le high h) (s .1) in
+    let s = both-of (finite a && finite b && (finite c && finite d)) (le l low && le high h) t in
+    let p = both-of (finite a && finite b) (finite c && finite d) (s .0) in
+    let first = both-of (finite a) (finite b) (p .0) in
+    let second = both-of (finite c) (finite d) (p .1) in
+    let order = both-of (le l low) (le high h) (s .1) in
     record {
       a-finite = record { holds = first .0 };
       b-finite = record { holds = first .1 };
@@ -205,15 +201,15 @@ module _ {a b h : Float} (fa : Finite a) (fb : Finite b) (top : a ⊗ b ≼ h) w
 
 pub mul-about : {h a b x y : Float} → About a x → About b y → T (finite a && finite b && le (a ⊗ b) h) → About h (x ⊗ y)
 mul-about {h} {a} {b} p q t =
-    let s = split (finite a && finite b) (le (a ⊗ b) h) t in
-    let f = split (finite a) (finite b) (s .0) in
+    let s = both-of (finite a && finite b) (le (a ⊗ b) h) t in
+    let f = both-of (finite a) (finite b) (s .0) in
     mul-turns (record { holds = f .0 }) (record { holds = f .1 }) (record { holds = s .1 }) p q
 
 -- ---- constants and whole numbers
 
 pub constant : (c x : Float) → T (le (neg c) x && le x c) → About c x
 constant c x t =
-    let s = split (le (neg c) x) (le x c) t in
+    let s = both-of (le (neg c) x) (le x c) t in
     record { from = record { holds = s .0 }; to = record { holds = s .1 } }
 
 pub whole-le : (m n : ℕ) → m ≤ n → whole m ≼ whole n

@@ -1,10 +1,11 @@
--- From 0 to a bound, and what is finite there. Assumes nothing.
-use mathlib.Core.Bool.{true, false, not}
+-- From 0 to a bound, and what is finite there; and what the tests of a range say. Assumes nothing.
+use mathlib.Core.Bool.{Bool, true, false, not, _&&_}
 use lib.Dec.{T}
-use lib.Ieee.{Float, nan, inf, fin, add, sub, neg, le, isNan}
+use lib.Ieee.{Float, nan, inf, fin, add, sub, neg, lt, le, isNan}
 use lib.Ieee.Scale.{finite}
 use Rattle.doubles.specs.Arithmetic.{_⊖_, whole}
-use Rattle.doubles.specs.Order.{_≼_, Number, Finite}
+use Rattle.doubles.specs.Order.{_≼_, _≺_, InRange, Number, Finite}
+use Rattle.doubles.specs.Ranges.{within, aboveZero}
 use Rattle.doubles.proofs.Bounds.{sub-number}
 
 -- from 0 to a bound
@@ -34,3 +35,21 @@ finite-minus {x} {y} f n = record { holds = go x y (f .holds) (n .holds) }
     go (fin s m e) nan f n = absurd n
     go (fin s m e) (inf t) f n = tt
     go (fin s m e) (fin t k d) f n = sub-number {x = fin s m e} {y = fin t k d} (record { holds = tt }) (record { holds = tt }) .holds
+
+-- ---- the tests
+
+pub both-of : (a b : Bool) → T (a && b) → T a × T b
+both-of true b t = (tt, t)
+both-of false b t = absurd t
+
+pub within-range : (lowest highest x : Float) → T (within lowest highest x) → InRange lowest highest x
+unfolding within
+within-range lowest highest x t =
+    let p = both-of (le lowest x) (le x highest) t in
+    record { from = record { holds = p .0 }; to = record { holds = p .1 } }
+
+pub above-range : (highest x : Float) → T (aboveZero highest x) → (whole 0 ≺ x) × (x ≼ highest)
+unfolding aboveZero
+above-range highest x t =
+    let p = both-of (lt (whole 0) x) (le x highest) t in
+    (record { holds = p .0 }, record { holds = p .1 })

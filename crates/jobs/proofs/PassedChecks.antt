@@ -13,6 +13,7 @@ use lib.Ieee.Fits.{and-l, and-r}
 use Rattle.doubles.specs.Arithmetic.{whole}
 use Rattle.doubles.specs.Order.{_≼_}
 use Rattle.doubles.specs.Ranges.{within}
+use Rattle.doubles.proofs.Ranges.{within-range}
 use Rattle.words.specs.Words.{wordCount}
 use Rattle.sun.specs.Site.{siteFine, hoursInYear}
 use Rattle.simulation_time.specs.Steps.{stepCount, timeAt, times, atAll}
@@ -24,7 +25,7 @@ use Rattle.objects.specs.Surface.{surfaceFine}
 use Rattle.object_checks.specs.Checks.{sectorsFine, windowFine}
 use Rattle.objects.specs.Records.{windowObjectsOf}
 use Rattle.shading_laws.specs.Premises.{AcceptedSurface, AcceptedNear}
-use Rattle.object_checks.proofs.Accepted.{within-range, height-range, width-range}
+use Rattle.object_checks.proofs.Accepted.{height-range, width-range}
 use Rattle.object_checks.proofs.AcceptedWindow.{window-in-range}
 use Rattle.weather.specs.Weather.{readingFine}
 use Rattle.jobs.specs.declared.answers.Checked.{Checked}
@@ -113,15 +114,15 @@ module _ {job : Job} {results : List ℕ} (p : Passed job results) where
       let r = readingAt job (timeAt (job .run) i) in
       let a = within (whole 0) (whole 10000) (r .diffuse) in
       let b = within (whole 0) (whole 10000) (r .direct) in
-      within-range (whole 0) (whole 10000) (r .diffuse) (and-l a b (and-l (a && b) (within (whole 0) (whole 1) (r .reflectivity)) (reading-fine i h))) .0
+      within-range (whole 0) (whole 10000) (r .diffuse) (and-l a b (and-l (a && b) (within (whole 0) (whole 1) (r .reflectivity)) (reading-fine i h))) .from
 
   -- the surface's lengths are in their ranges
   pub surface-accepted : Doubles (job .surface) → AcceptedSurface (job .surface)
   surface-accepted d = record {
-    height-from = height-range (job .surface) (p .surface-fine) .0;
-    height-to = height-range (job .surface) (p .surface-fine) .1;
-    width-from = width-range (job .surface) (p .surface-fine) .0;
-    width-to = width-range (job .surface) (p .surface-fine) .1;
+    height-from = height-range (job .surface) (p .surface-fine) .from;
+    height-to = height-range (job .surface) (p .surface-fine) .to;
+    width-from = width-range (job .surface) (p .surface-fine) .from;
+    width-to = width-range (job .surface) (p .surface-fine) .to;
     height-fits = d .height-fits;
     width-fits = d .width-fits;
   }
@@ -129,6 +130,6 @@ module _ {job : Job} {results : List ℕ} (p : Passed job results) where
   -- every near obstacle's transparency is from 0 to 1
   pub near-accepted : AcceptedNear (windowObjectsOf (job .window))
   near-accepted = record {
-    transparency-from = λ o m t. window-in-range (job .window) (p .window-fine) o m .transparency-range t .0;
-    transparency-to = λ o m t. window-in-range (job .window) (p .window-fine) o m .transparency-range t .1;
+    transparency-from = λ o m t. window-in-range (job .window) (p .window-fine) o m .transparency-range t .from;
+    transparency-to = λ o m t. window-in-range (job .window) (p .window-fine) o m .transparency-range t .to;
   }

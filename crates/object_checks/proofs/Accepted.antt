@@ -10,9 +10,10 @@ use lib.Dec.{T, leb, eqb, leb→le, eqb→eq}
 use lib.ListN.{length}
 use lib.Ieee.{Float, nan, isNan, neg, lt, le, eq}
 use Rattle.doubles.specs.Arithmetic.{whole, decimal}
-use Rattle.doubles.specs.Order.{_≼_, _≺_}
+use Rattle.doubles.specs.Order.{InRange}
 use Rattle.doubles.specs.Ranges.{within, aboveZero}
 use Rattle.doubles.proofs.Order.{right-number}
+use Rattle.doubles.proofs.Ranges.{both-of, within-range}
 use Rattle.objects.specs.declared.surface.Surface.{Surface}
 use Rattle.words.specs.Lists.{firstFine}
 use Rattle.objects.specs.Surface.{surfaceFine}
@@ -21,30 +22,16 @@ use Rattle.objects.specs.Records.{recordsFrom}
 
 -- ---- truth values
 
-pub both-of : (a b : Bool) → T (a && b) → T a × T b
-both-of true b t = (tt, t)
-both-of false b t = absurd t
-
 pub either-of : (a b : Bool) → T (a || b) → T a ⊎ T b
 either-of true b t = inl tt
 either-of false b t = inr t
 
 -- ---- ranges
 
-module _ (lowest highest x : Float) where
-  pub within-range : T (within lowest highest x) → (lowest ≼ x) × (x ≼ highest)
-  unfolding within
-  within-range t = let p = both-of (le lowest x) (le x highest) t in (record { holds = p .0 }, record { holds = p .1 })
-
-module _ (highest x : Float) where
-  pub above-range : T (aboveZero highest x) → (whole 0 ≺ x) × (x ≼ highest)
-  unfolding aboveZero
-  above-range t = let p = both-of (lt (whole 0) x) (le x highest) t in (record { holds = p .0 }, record { holds = p .1 })
-
 -- NaN is in no range; −0.0 counts as 0, so that it is in a range from 0 and in none above 0
 pub nan-not-within : (lowest highest : Float) → T (within lowest highest nan) → ⊥
 unfolding isNan
-nan-not-within lowest highest t = right-number (within-range lowest highest nan t .0) .holds
+nan-not-within lowest highest t = right-number (within-range lowest highest nan t .from) .holds
 
 pub minus-zero-within : T (within (whole 0) (whole 180) (neg (whole 0)))
 unfolding within whole neg le lt eq
@@ -72,10 +59,16 @@ module _ (s : Surface) (t : T (surfaceFine s)) where
       let u = both-of a b (r .0) in
       (u .0, u .1, r .1, q .1, p .1)
 
-  pub height-range : (decimal 1 3 ≼ s .height) × (s .height ≼ whole 1000)
+  pub tilt-range : InRange (whole 0) (whole 180) (s .tilt)
+  tilt-range = within-range (whole 0) (whole 180) (s .tilt) (tests .0)
+
+  pub orientation-range : InRange (whole 0) (whole 360) (s .orientation)
+  orientation-range = within-range (whole 0) (whole 360) (s .orientation) (tests .1)
+
+  pub height-range : InRange (decimal 1 3) (whole 1000) (s .height)
   height-range = within-range (decimal 1 3) (whole 1000) (s .height) (tests .3)
 
-  pub width-range : (decimal 1 3 ≼ s .width) × (s .width ≼ whole 1000)
+  pub width-range : InRange (decimal 1 3) (whole 1000) (s .width)
   width-range = within-range (decimal 1 3) (whole 1000) (s .width) (tests .4)
 
 -- ---- an accepted list of records

@@ -9,13 +9,14 @@ use lib.ListN.{length}
 use lib.Ieee.{Float}
 use Rattle.doubles.specs.Arithmetic.{whole}
 use Rattle.doubles.specs.Ranges.{within, aboveZero}
+use Rattle.doubles.proofs.Ranges.{both-of}
 use Rattle.words.specs.Lists.{firstFine}
 use Rattle.words.specs.Words.{wordCount, wordAt, doubleAt}
 use Rattle.objects.specs.Objects.{counted}
 use Rattle.objects.specs.Records.{objectAt, objectsFrom, segmentAt, sectorCount}
 use Rattle.objects.proofs.Places.{take-records}
 use Rattle.object_checks.specs.Checks.{objectValuesFine, tripleFine, boundsFine, sectorRecordFine, sectorsFine}
-use Rattle.object_checks.proofs.Accepted.{both-of, few-records, record-fine}
+use Rattle.object_checks.proofs.Accepted.{few-records, record-fine}
 
 -- ---- one counted object
 

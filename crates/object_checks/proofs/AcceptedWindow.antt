@@ -11,8 +11,9 @@ use lib.Dec.{T, leb, eqb, leb→le}
 use lib.ListN.{length, take}
 use lib.Ieee.{Float}
 use Rattle.doubles.specs.Arithmetic.{whole}
-use Rattle.doubles.specs.Order.{_≼_, _≺_}
+use Rattle.doubles.specs.Order.{_≼_, _≺_, InRange}
 use Rattle.doubles.specs.Ranges.{within, aboveZero}
+use Rattle.doubles.proofs.Ranges.{both-of, within-range, above-range}
 use Rattle.words.specs.Words.{wordCount, wordAt, doubleAt}
 use Rattle.objects.specs.declared.window.WindowShadingObject.{WindowShadingObject}
 use Rattle.objects.specs.declared.window.WindowShadingType.the-variants as near
@@ -20,7 +21,7 @@ use Rattle.objects.specs.Objects.{kindNumber, ofKind}
 use Rattle.object_checks.specs.Checks.{windowValuesFine, windowRecordFine, windowFine}
 use Rattle.objects.specs.Records.{windowKind, windowObjectAt, windowCount, noWindowObject, windowObjectsOf, windowOf}
 use Rattle.objects.proofs.Places.{take-filled}
-use Rattle.object_checks.proofs.Accepted.{both-of, either-of, within-range, above-range, few-records, record-fine, member-records}
+use Rattle.object_checks.proofs.Accepted.{either-of, few-records, record-fine, member-records}
 
 -- a kind word that reads as an obstacle is 0
 others : (a b d : Bool) → T (eqb 0 (kindNumber (cond a near.Overhang (cond b near.SideFinRight (cond d near.SideFinLeft near.Reveal))))) → ⊥
@@ -57,10 +58,10 @@ module _ (kind : ℕ) (size distance transparency : Float) (spare : ℕ) (t : T 
   size-values : (whole 0 ≺ size) × (size ≼ whole 1000)
   size-values = above-range (whole 1000) size (tests .0)
 
-  distance-values : (whole 0 ≼ distance) × (distance ≼ whole 10000)
+  distance-values : InRange (whole 0) (whole 10000) distance
   distance-values = within-range (whole 0) (whole 10000) distance (tests .1)
 
-  transparency-values : kind ≡ 0 → (whole 0 ≼ transparency) × (transparency ≼ whole 1)
+  transparency-values : kind ≡ 0 → InRange (whole 0) (whole 1) transparency
   transparency-values e =
       elim (either-of (eqb kind 0 && within (whole 0) (whole 1) transparency) (leb 1 kind && leb kind 4 && eqb spare 0) (tests .2)) [
         | inl o ↦ within-range (whole 0) (whole 1) transparency (both-of (eqb kind 0) (within (whole 0) (whole 1) transparency) o .1)
@@ -76,8 +77,8 @@ module _ (kind : ℕ) (size distance transparency : Float) (spare : ℕ) (t : T 
 -- what is known of each: an obstacle alone has a transparency
 pub record WindowInRange (o : WindowShadingObject) : Type 0 where
   pub size-range : (whole 0 ≺ o .size) × (o .size ≼ whole 1000)
-  pub distance-range : (whole 0 ≼ o .distance) × (o .distance ≼ whole 10000)
-  pub transparency-range : T (ofKind near.Obstacle o) → (whole 0 ≼ o .transparency) × (o .transparency ≼ whole 1)
+  pub distance-range : InRange (whole 0) (whole 10000) (o .distance)
+  pub transparency-range : T (ofKind near.Obstacle o) → InRange (whole 0) (whole 1) (o .transparency)
 
 place-in-range : (l : List ℕ) (i : ℕ) → T (windowRecordFine l i) → WindowInRange (windowObjectAt l i)
 unfolding windowRecordFine windowObjectAt ofKind

@@ -12,12 +12,13 @@ use Rattle.doubles.specs.Arithmetic.{whole}
 use Rattle.doubles.specs.Order.{Number}
 use Rattle.doubles.specs.Ranges.{within, aboveZero}
 use Rattle.doubles.proofs.Order.{left-number}
+use Rattle.doubles.proofs.Ranges.{both-of, within-range, above-range}
 use Rattle.words.specs.Words.{wordCount, wordAt, doubleAt}
 use Rattle.words.proofs.Patterns.{low-pattern}
 use Rattle.objects.specs.Records.{sectorCount, Readable}
 use Rattle.object_checks.specs.Checks.{objectFine, objectUnused, tripleFine, sectorRecordFine, sectorsFine}
 use Rattle.object_checks.proofs.RecordLists.{counted-triple, unused-triple}
-use Rattle.object_checks.proofs.Accepted.{both-of, within-range, above-range, first-fine, whole-records}
+use Rattle.object_checks.proofs.Accepted.{first-fine, whole-records}
 use Rattle.object_checks.proofs.AcceptedSectors.{object-tests, bounds-tests, sector-tests, sector-count, sector-record}
 
 module _ (l : List ℕ) where
@@ -82,8 +83,8 @@ module _ (l : List ℕ) where
       bounds = bounds-tests (doubleAt l (27 * i)) (doubleAt l (27 * i + 1)) (wordAt l (27 * i + 2)) (sector-tests l i t .0)
 
       go : (d : ℕ) → d < 27 → NumberAt (27 * i + d)
-      go zero h = moved (27 * i) (27 * i + 0) (omega arith) (left-number (within-range (whole 0) (whole 360) (doubleAt l (27 * i)) (bounds .0) .1))
-      go (suc zero) h = left-number (within-range (whole 0) (whole 360) (doubleAt l (27 * i + 1)) (bounds .1) .1)
+      go zero h = moved (27 * i) (27 * i + 0) (omega arith) (left-number (within-range (whole 0) (whole 360) (doubleAt l (27 * i)) (bounds .0) .to))
+      go (suc zero) h = left-number (within-range (whole 0) (whole 360) (doubleAt l (27 * i + 1)) (bounds .1) .to)
       go (suc (suc zero)) h = small (27 * i + 2) (leb→le (wordAt l (27 * i + 2)) 8 (bounds .2))
       go (suc (suc (suc e))) h =
           moved (27 * i + 3 + 3 * (e / 3) + e % 3) (27 * i + suc (suc (suc e))) (omega arith)

@@ -1,1 +1,2 @@
 pub mod HourParts
+pub mod Range

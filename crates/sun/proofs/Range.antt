@@ -1,0 +1,235 @@
+-- Where the sun's angles lie, for every accepted site and every hour of either year: the hour angle within 207 degrees, the altitude from
+-- 0 to 90, and every sine and cosine of the hour from −1 to 1. So none of them is NaN. Assumes nothing.
+use mathlib.Core.Path.{_≡_, refl}
+use mathlib.Core.Bool.{Bool, true, false, cond, _&&_}
+use Prim.Native.Nat.{ℕ, suc, _+_, _/_, _%_, _≤_, _<_}
+use native.Mathlib.Omega.{arith}
+use lib.Dec.{T, leb, leb→le}
+use lib.IntN.{ℤ, pos, negsuc, negℤ, natAbs}
+use lib.Signed.{leZ}
+use lib.Ieee.{Float, neg, binary64, ofInt, add, sub, mul, div, lt, le, isNan}
+use Rattle.doubles.specs.Arithmetic.{_⊕_, _⊖_, _⊗_, _⊘_, decimal, whole}
+use Rattle.doubles.specs.Functions.{toRadians, toDegrees, pi}
+use Rattle.doubles.specs.Order.{_≼_, _≺_, InRange, About, Number}
+use Rattle.doubles.specs.Ranges.{within}
+use Rattle.doubles.proofs.Order.{le-refl, lt→le, le-of-not-lt, le-trans}
+use Rattle.doubles.proofs.Bounds.{zero-number}
+use Rattle.doubles.proofs.Ranges.{both-of, within-range}
+use Rattle.doubles.proofs.Intervals.{in-number, own-range, widen, add-in, sub-in, about, as-range, about-number, more-about, add-about, sub-about, mul-about, div-about, constant, whole-le, int-about}
+use Rattle.angles.specs.declared.SinCos.{SinCos}
+use Rattle.angles.specs.Sine.{sine, cosine}
+use Rattle.angles.proofs.Laws.{sine-range, cosine-range}
+use Rattle.arcsines.specs.Arcsine.{halfPi, arcsine}
+use Rattle.arcsines.proofs.Range.{arcsine-range}
+use Rattle.days.specs.Day.{orbitDeviation, solarDeclination, equationOfTime, dayOf}
+use Rattle.days.proofs.Range.{declination-about, equation-about}
+use Rattle.orientation.specs.Orientation.{wrappedOnce}
+use Rattle.sun.specs.declared.site.Site.{Site}
+use Rattle.sun.specs.declared.hour.Hour.{Hour}
+use Rattle.sun.specs.Site.{siteFine}
+use Rattle.sun.specs.Hour.{sinCosOf, timeShift, solarTime, hourAngle, altitudeSine, isNight, cutAltitude, solarAltitude, solarZenith, hourOf}
+
+-- ---- the sine and the cosine of an angle in degrees
+
+pub record UnitRange (x : SinCos) : Type 0 where
+  pub sin : About (whole 1) (x .sin)
+  pub cos : About (whole 1) (x .cos)
+
+pub radians-about : {degrees : Float} → About (whole 1000) degrees → About (whole 64) (toRadians degrees)
+unfolding toRadians whole decimal neg mul div le
+radians-about h = mul-about h (constant (decimal 175 4) (pi ⊘ whole 180) tt) tt
+
+pub unit-range : {degrees : Float} → About (whole 1000) degrees → UnitRange (sinCosOf degrees)
+unfolding sinCosOf
+unit-range h = record { sin = sine-range (radians-about h); cos = cosine-range (radians-about h) }
+
+-- ---- an angle shifted by 360 once
+
+number-180 : Number (whole 180)
+unfolding whole isNan
+number-180 = record { holds = tt }
+
+number-minus-180 : Number (neg (whole 180))
+unfolding whole neg isNan
+number-minus-180 = record { holds = tt }
+
+shifted-back : {angle : Float} → InRange (whole 180) (decimal 5667 1) angle → About (whole 207) (angle ⊖ whole 360)
+unfolding whole decimal neg sub le isNan
+shifted-back {angle} r =
+    let turn : InRange (whole 360) (whole 360) (whole 360) = own-range (record { holds = tt }) in
+    let d : InRange (neg (whole 207)) (whole 207) (angle ⊖ whole 360) = sub-in r turn tt in
+    record { from = d .from; to = d .to }
+
+shifted-on : {angle : Float} → InRange (neg (decimal 5667 1)) (neg (whole 180)) angle → About (whole 207) (angle ⊕ whole 360)
+unfolding whole decimal neg add le isNan
+shifted-on {angle} r =
+    let turn : InRange (whole 360) (whole 360) (whole 360) = own-range (record { holds = tt }) in
+    let d : InRange (neg (whole 207)) (whole 207) (angle ⊕ whole 360) = add-in r turn tt in
+    record { from = d .from; to = d .to }
+
+not-shifted : {angle : Float} → InRange (neg (whole 180)) (whole 180) angle → About (whole 207) angle
+unfolding whole neg le
+not-shifted r = about r tt
+
+wrapped-about : {angle : Float} → About (decimal 5667 1) angle → About (whole 207) (wrappedOnce angle)
+unfolding wrappedOnce
+wrapped-about {angle} r = go (lt (whole 180) angle) (lt angle (neg (whole 180))) refl refl
+  where
+    go : (b c : Bool) → lt (whole 180) angle ≡ b → lt angle (neg (whole 180)) ≡ c → About (whole 207) (cond b (angle ⊖ whole 360) (cond c (angle ⊕ whole 360) angle))
+    go true c p q = shifted-back (record { from = lt→le (record { holds = rw p tt }); to = r .to })
+    go false true p q = shifted-on (record { from = r .from; to = lt→le (record { holds = rw q tt }) })
+    go false false p q = not-shifted (record { from = le-of-not-lt (about-number r) number-minus-180 q; to = le-of-not-lt number-180 (about-number r) p })
+
+-- ---- the altitude by its sine
+
+sum-of-products : {a b c d e : Float} → About (whole 1) a → About (whole 1) b → About (whole 1) c → About (whole 1) d → About (whole 1) e → About (whole 2) (a ⊗ b ⊕ c ⊗ d ⊗ e)
+unfolding whole neg add mul le
+sum-of-products {a} {b} {c} {d} {e} p q r s t =
+    let first : About (whole 1) (a ⊗ b) = mul-about p q tt in
+    let second : About (whole 1) (c ⊗ d) = mul-about r s tt in
+    let third : About (whole 1) (c ⊗ d ⊗ e) = mul-about second t tt in
+    add-about first third tt
+
+-- PI/2 is 90 degrees, rounded as the paper has it
+degrees-about : {x : Float} → About halfPi x → About (whole 90) (toDegrees x)
+unfolding toDegrees halfPi whole decimal neg mul div le
+degrees-about h = mul-about h (constant (whole 180 ⊘ pi) (whole 180 ⊘ pi) tt) tt
+
+cut-range : {x : Float} → About (whole 90) x → InRange (whole 0) (whole 90) (cutAltitude x)
+unfolding cutAltitude isNight
+cut-range {x} r = go (lt x (decimal 1 4)) refl
+  where
+    least : Number (decimal 1 4)
+    least = record { holds = unfold decimal isNan in tt }
+
+    above-zero : whole 0 ≼ decimal 1 4
+    above-zero = record { holds = unfold whole decimal le in tt }
+
+    go : (b : Bool) → lt x (decimal 1 4) ≡ b → InRange (whole 0) (whole 90) (cond b (whole 0) x)
+    go true e = record { from = le-refl zero-number; to = record { holds = unfold whole le in tt } }
+    go false e = record { from = le-trans above-zero (le-of-not-lt (about-number r) least e); to = r .to }
+
+zenith-range : {altitude : Float} → InRange (whole 0) (whole 90) altitude → InRange (whole 0) (whole 90) (solarZenith altitude)
+unfolding solarZenith whole sub le isNan
+zenith-range h =
+    let right : InRange (whole 90) (whole 90) (whole 90) = own-range (record { holds = tt }) in
+    sub-in right h tt
+
+record Quarter (degrees : Float) : Type 0 where
+  sin : About (whole 1) (sine (toRadians degrees))
+  cos : About (whole 1) (cosine (toRadians degrees))
+
+up-to-90 : {degrees : Float} → InRange (whole 0) (whole 90) degrees → Quarter degrees
+unfolding whole neg le
+up-to-90 {degrees} h =
+    let wide : About (whole 1000) degrees = about h tt in
+    record { sin = sine-range (radians-about wide); cos = cosine-range (radians-about wide) }
+
+-- what is known of the sun of an hour
+pub record SunRange (sun : Hour) : Type 0 where
+  pub altitude : InRange (whole 0) (whole 90) (sun .altitude)
+  pub zenith : InRange (whole 0) (whole 90) (sun .zenith)
+  pub hour-angle : UnitRange (sun .«hour_angle»)
+  pub sin-altitude : About (whole 1) (sun .«sin_altitude»)
+  pub cos-zenith : About (whole 1) (sun .«cos_zenith»)
+
+-- ---- an accepted site
+
+module _ (site : Site) (t : T (siteFine site)) where
+  tests : T (within (neg (whole 90)) (whole 90) (site .latitude)) × T (within (neg (whole 180)) (whole 180) (site .longitude)) × T (leZ (negℤ (pos 13)) (site .timezone) && leZ (site .timezone) (pos 14))
+  unfolding siteFine
+  tests =
+      let a = within (neg (whole 90)) (whole 90) (site .latitude) in
+      let b = within (neg (whole 180)) (whole 180) (site .longitude) in
+      let c = leZ (negℤ (pos 13)) (site .timezone) && leZ (site .timezone) (pos 14) in
+      let d = leb (site .«start_day») 365 in
+      let e = within (decimal 25 2) (whole 24) (site .«time_series_step») in
+      let f = leb (site .«leap_year») 1 in
+      let g = leb (site .«direct_beam_conversion») 1 in
+      let p = both-of (a && b && c && d && e && f) g t in
+      let q = both-of (a && b && c && d && e) f (p .0) in
+      let r = both-of (a && b && c && d) e (q .0) in
+      let s = both-of (a && b && c) d (r .0) in
+      let u = both-of (a && b) c (s .0) in
+      let v = both-of a b (u .0) in
+      (v .0, v .1, u .1)
+
+  pub latitude-range : About (whole 90) (site .latitude)
+  latitude-range = let r = within-range (neg (whole 90)) (whole 90) (site .latitude) (tests .0) in record { from = r .from; to = r .to }
+
+  longitude-range : About (whole 180) (site .longitude)
+  longitude-range = let r = within-range (neg (whole 180)) (whole 180) (site .longitude) (tests .1) in record { from = r .from; to = r .to }
+
+  timezone-size : natAbs (site .timezone) ≤ 14
+  timezone-size = let p = both-of (leZ (negℤ (pos 13)) (site .timezone)) (leZ (site .timezone) (pos 14)) (tests .2) in size (site .timezone) (p .0) (p .1)
+    where
+      size : (z : ℤ) → T (leZ (negℤ (pos 13)) z) → T (leZ z (pos 14)) → natAbs z ≤ 14
+      size (pos n) l h = leb→le n 14 h
+      size (negsuc n) l h = let k : n ≤ 12 = leb→le n 12 l in omega arith
+
+  -- ---- the hour angle
+
+  shift-about : About (whole 26) (timeShift (site .timezone) (site .longitude))
+  unfolding timeShift whole neg sub div lt le
+  shift-about =
+      let east : About (whole 12) (site .longitude ⊘ whole 15) = div-about (whole 15) longitude-range tt tt in
+      sub-about (int-about 14 (site .timezone) timezone-size) east tt
+
+  module _ (hour : ℕ) (h : hour < 8784) where
+    day-number : hour / 24 + 1 ≤ 366
+    day-number = omega arith
+
+    abbrev solar : Float
+    solar = solarTime (hour % 24) (equationOfTime (hour / 24 + 1)) (timeShift (site .timezone) (site .longitude))
+
+    hours-in : InRange (whole 1) (whole 24) (whole (hour % 24 + 1))
+    hours-in = record { from = whole-le 1 (hour % 24 + 1) (omega arith); to = whole-le (hour % 24 + 1) 24 (omega arith) }
+
+    solar-in : InRange (neg (decimal 25274 3)) (decimal 50274 3) solar
+    unfolding solarTime whole decimal neg sub div lt le
+    solar-in =
+        let minutes : About (decimal 272 3) (equationOfTime (hour / 24 + 1) ⊘ whole 60) = div-about (whole 60) (equation-about (hour / 24 + 1) day-number) tt tt in
+        let local : InRange (decimal 727 3) (decimal 24272 3) (whole (hour % 24 + 1) ⊖ equationOfTime (hour / 24 + 1) ⊘ whole 60) = sub-in hours-in (as-range minutes) tt in
+        sub-in local (as-range shift-about) tt
+
+    pub hour-angle-about : About (whole 207) (hourAngle solar)
+    unfolding hourAngle whole decimal neg sub mul le isNan
+    hour-angle-about =
+        let noon : InRange (decimal 125 1) (decimal 125 1) (decimal 125 1) = own-range (record { holds = tt }) in
+        let away : InRange (neg (decimal 37775 3)) (decimal 37775 3) (decimal 125 1 ⊖ solar) = sub-in noon solar-in tt in
+        let away-about : About (decimal 37775 3) (decimal 125 1 ⊖ solar) = record { from = away .from; to = away .to } in
+        let angle : About (decimal 5667 1) (whole 15 ⊗ (decimal 125 1 ⊖ solar)) = mul-about (constant (whole 15) (whole 15) tt) away-about tt in
+        wrapped-about angle
+
+    -- ---- the hour's sines and cosines
+
+    pub latitude-unit : UnitRange (sinCosOf (site .latitude))
+    unfolding whole neg le
+    latitude-unit = let wide : About (whole 1000) (site .latitude) = more-about latitude-range tt in unit-range wide
+
+    pub declination-unit : UnitRange (sinCosOf (dayOf (hour / 24 + 1) .declination))
+    unfolding dayOf whole neg le
+    declination-unit = let wide : About (whole 1000) (solarDeclination (orbitDeviation (hour / 24 + 1))) = more-about (declination-about (hour / 24 + 1) day-number) tt in unit-range wide
+
+    pub hour-angle-unit : UnitRange (sinCosOf (hourAngle solar))
+    unfolding whole neg le
+    hour-angle-unit = let wide : About (whole 1000) (hourAngle solar) = more-about hour-angle-about tt in unit-range wide
+
+    -- ---- the altitude
+
+    altitude-sine-about : About (whole 2) (altitudeSine (sinCosOf (site .latitude)) (sinCosOf (dayOf (hour / 24 + 1) .declination)) (cosine (toRadians (hourAngle solar))))
+    unfolding altitudeSine
+    altitude-sine-about = sum-of-products (declination-unit .sin) (latitude-unit .sin) (declination-unit .cos) (latitude-unit .cos) (unfold sinCosOf in hour-angle-unit .cos)
+
+    pub sun-range : SunRange (hourOf site hour)
+    unfolding hourOf dayOf solarAltitude
+    sun-range =
+        let altitude = cut-range (degrees-about (arcsine-range (about-number altitude-sine-about))) in
+        let zenith = zenith-range altitude in
+        record {
+          altitude = altitude;
+          zenith = zenith;
+          hour-angle = hour-angle-unit;
+          sin-altitude = up-to-90 altitude .sin;
+          cos-zenith = up-to-90 zenith .cos;
+        }
