@@ -1,11 +1,11 @@
 -- What a job has that passes the checks before the first step. Assumes nothing.
 use mathlib.Core.Path.{_≡_, sym, ap, subst}
-use mathlib.Core.Bool.{Bool, true, false, _&&_}
+use mathlib.Core.Bool.{Bool, true, false, cond, _&&_}
 use mathlib.Core.List.{List, [], _∷_}
 use Prim.Native.Nat.{ℕ, zero, suc, _*_, _≤_, _<_}
 use native.Mathlib.Omega.{arith}
 use borrow.Author.Tests.{leb-true}
-use lib.Dec.{T}
+use lib.Dec.{T, eqb, ltb→lt}
 use lib.ListN.{length, getD}
 use lib.Ieee.{Float}
 use lib.Ieee.Bits.{is-true}
@@ -16,8 +16,9 @@ use Rattle.doubles.specs.Ranges.{within}
 use Rattle.doubles.proofs.Ranges.{within-range}
 use Rattle.words.specs.Words.{wordCount}
 use Rattle.sun.specs.Site.{siteFine, hoursInYear}
-use Rattle.simulation_time.specs.Steps.{stepCount, timeAt, times, atAll}
-use Rattle.simulation_time.specs.RunChecks.{runAccepted}
+use Rattle.simulation_time.specs.Steps.{runFine, stepCount, timeAt, times, atAll}
+use Rattle.simulation_time.specs.Timestep.{currentHour}
+use Rattle.simulation_time.specs.RunChecks.{hourFine, hoursFine, runAccepted}
 use Rattle.simulation_time.proofs.Times.{times-length, times-at}
 use Rattle.objects.specs.declared.answers.Refusal.{Refusal}
 use Rattle.objects.specs.declared.answers.Refusal.the-variants as refusal
@@ -115,6 +116,23 @@ module _ {job : Job} {results : List ℕ} (p : Passed job results) where
       let a = within (whole 0) (whole 10000) (r .diffuse) in
       let b = within (whole 0) (whole 10000) (r .direct) in
       within-range (whole 0) (whole 10000) (r .diffuse) (and-l a b (and-l (a && b) (within (whole 0) (whole 1) (r .reflectivity)) (reading-fine i h))) .from
+
+  -- every step's hour is one of a leap year's
+  pub hour-below : (i : ℕ) → i < stepCount (job .run) → currentHour (timeAt (job .run) i) < 8784
+  unfolding runAccepted hoursFine hourFine
+  hour-below i h =
+      let hours = hoursInYear (job .site) in
+      let fine : T (atAll (hourFine hours) (times (job .run))) = and-r (runFine (job .run)) (hoursFine hours (job .run)) (p .run-fine) in
+      let at : T (hourFine hours (timeAt (job .run) i)) =
+          subst (λ (time : Float). T (hourFine hours time)) (times-at (job .run) i (whole 0) h) (all-pass (hourFine hours) (times (job .run)) i (whole 0) fine (rw times-length h)) in
+      omega (arith, ltb→lt (currentHour (timeAt (job .run) i)) hours at, longest)
+    where
+      longest : hoursInYear (job .site) ≤ 8784
+      longest = unfold hoursInYear in (go (eqb (job .site .«leap_year») 1))
+        where
+          go : (b : Bool) → cond b 8784 8760 ≤ 8784
+          go true = omega arith
+          go false = omega arith
 
   -- the surface's lengths are in their ranges
   pub surface-accepted : Doubles (job .surface) → AcceptedSurface (job .surface)
