@@ -87,7 +87,7 @@ unfolding quotientTest
 quotient-about t n r b =
     let most = quarter ⊗ odds n in
     let p = both-of ((le (neg (odds n)) (odds n) && le (odds n) (odds n)) && (finite quarter && finite (odds n) && le most most))
-        (lt (whole 0) (evens n) && holdsEnds (neg most) most (evens n) (evens n) (neg quarter) (neg most ⊘ evens n) (most ⊘ evens n) quarter) b in
+    (lt (whole 0) (evens n) && holdsEnds (neg most) most (evens n) (evens n) (neg quarter) (neg most ⊘ evens n) (most ⊘ evens n) quarter) b in
     let q = both-of (le (neg (odds n)) (odds n) && le (odds n) (odds n)) (finite quarter && finite (odds n) && le most most) (p .0) in
     let own = both-of (le (neg (odds n)) (odds n)) (le (odds n) (odds n)) (q .0) in
     let by = both-of (lt (whole 0) (evens n)) (holdsEnds (neg most) most (evens n) (evens n) (neg quarter) (neg most ⊘ evens n) (most ⊘ evens n) quarter) (p .1) in

@@ -122,11 +122,16 @@ fn arcsine_upward(m: f64, series: f64) -> f64
     }
 }
 
-// The arcsine of a number from −1 to 1 by the series of its magnitude; NaN of NaN.
+// The arcsine of a by the series of its magnitude. Beyond ±1 it is that of the end, which is taken only here, where nothing waits for it.
 fn arcsine_by(a: f64, series: f64) -> f64
     ensures { λ r. ⌜ r ≡ arcsineBy a series ⌝ }
 {
-    if a < 0.0 {
+    let right_angle = doubles::PI / 2.0;
+    if a > 1.0 {
+        right_angle
+    } else if a < -1.0 {
+        -right_angle
+    } else if a < 0.0 {
         -arcsine_upward(-a, series)
     } else {
         arcsine_upward(a, series)
@@ -138,25 +143,21 @@ fn arcsine_by(a: f64, series: f64) -> f64
 pub fn asin(a: f64) -> f64
     ensures { λ r. ⌜ r ≡ arcsine a ⌝ }
 {
-    let sine = doubles::clamped(a);
-    let argument = series_argument(magnitude(sine));
+    let argument = series_argument(magnitude(a));
     let series = arcsine_series_both(argument, argument);
-    arcsine_by(sine, series.first)
+    arcsine_by(a, series.first)
 }
 
 // Two arcsines at once, in radians.
 pub fn asin_both(a: f64, b: f64) -> Both
     ensures { λ r. ⌜ (r .first ≡ arcsine a) × (r .second ≡ arcsine b) ⌝ }
 {
-    let first = doubles::clamped(a);
-    let second = doubles::clamped(b);
-    let series = arcsine_series_both(
-        series_argument(magnitude(first)),
-        series_argument(magnitude(second)),
-    );
+    let first = series_argument(magnitude(a));
+    let second = series_argument(magnitude(b));
+    let series = arcsine_series_both(first, second);
     Both {
-        first: arcsine_by(first, series.first),
-        second: arcsine_by(second, series.second),
+        first: arcsine_by(a, series.first),
+        second: arcsine_by(b, series.second),
     }
 }
 

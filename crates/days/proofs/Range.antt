@@ -60,15 +60,15 @@ declination-about n h =
     let b = toRadians (orbitDeviation n) in
     let k = harmonics (deviation-about n h) in
     let first : About (decimal 234 1) (decimal 33281 5 ⊖ decimal 22984 3 ⊗ cosine b) =
-        sub-about (constant (decimal 34 2) (decimal 33281 5) tt) (scaled (decimal 22984 3) (k .cosine-1) tt tt) tt in
+    sub-about (constant (decimal 34 2) (decimal 33281 5) tt) (scaled (decimal 22984 3) (k .cosine-1) tt tt) tt in
     let second : About (decimal 238 1) (decimal 33281 5 ⊖ decimal 22984 3 ⊗ cosine b ⊖ decimal 3499 4 ⊗ cosine (whole 2 ⊗ b)) =
-        sub-about first (scaled (decimal 3499 4) (k .cosine-2) tt tt) tt in
+    sub-about first (scaled (decimal 3499 4) (k .cosine-2) tt tt) tt in
     let third : About (whole 24) (decimal 33281 5 ⊖ decimal 22984 3 ⊗ cosine b ⊖ decimal 3499 4 ⊗ cosine (whole 2 ⊗ b) ⊖ decimal 1398 4 ⊗ cosine (whole 3 ⊗ b)) =
-        sub-about second (scaled (decimal 1398 4) (k .cosine-3) tt tt) tt in
+    sub-about second (scaled (decimal 1398 4) (k .cosine-3) tt tt) tt in
     let fourth : About (decimal 278 1) (decimal 33281 5 ⊖ decimal 22984 3 ⊗ cosine b ⊖ decimal 3499 4 ⊗ cosine (whole 2 ⊗ b) ⊖ decimal 1398 4 ⊗ cosine (whole 3 ⊗ b) ⊕ decimal 37872 4 ⊗ sine b) =
-        add-about third (scaled (decimal 37872 4) (k .sine-1) tt tt) tt in
+    add-about third (scaled (decimal 37872 4) (k .sine-1) tt tt) tt in
     let fifth : About (decimal 279 1) (decimal 33281 5 ⊖ decimal 22984 3 ⊗ cosine b ⊖ decimal 3499 4 ⊗ cosine (whole 2 ⊗ b) ⊖ decimal 1398 4 ⊗ cosine (whole 3 ⊗ b) ⊕ decimal 37872 4 ⊗ sine b ⊕ decimal 3205 5 ⊗ sine (whole 2 ⊗ b)) =
-        add-about fourth (scaled (decimal 3205 5) (k .sine-2) tt tt) tt in
+    add-about fourth (scaled (decimal 3205 5) (k .sine-2) tt tt) tt in
     add-about fifth (scaled (decimal 7187 5) (k .sine-3) tt tt) tt
 
 -- ---- equation of time

@@ -137,7 +137,6 @@ div-about {h} d p z t =
     let r = div-in {l = neg h} {h = h} d (as-range p) z t in
     record { from = r .from; to = r .to }
 
-
 round-turned : (s : Bool) (a c : ℕ) → round binary64 (not s) a c ≡ neg (round binary64 s a c)
 round-turned true a c = rw (round-neg a c, neg-neg (round binary64 false a c)) refl
 round-turned false a c = round-neg a c

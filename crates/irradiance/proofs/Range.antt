@@ -28,7 +28,7 @@ argument-about {l} {d} {t} {o} {w} p q r s u =
     let to-second : About (whole 2) (d .sin ⊗ l .sin ⊗ t .cos ⊖ d .sin ⊗ l .cos ⊗ t .sin ⊗ o .cos) = sub-about first second tt in
     let to-third : About (whole 3) (d .sin ⊗ l .sin ⊗ t .cos ⊖ d .sin ⊗ l .cos ⊗ t .sin ⊗ o .cos ⊕ d .cos ⊗ l .cos ⊗ t .cos ⊗ w .cos) = add-about to-second third tt in
     let to-fourth : About (whole 4) (d .sin ⊗ l .sin ⊗ t .cos ⊖ d .sin ⊗ l .cos ⊗ t .sin ⊗ o .cos ⊕ d .cos ⊗ l .cos ⊗ t .cos ⊗ w .cos ⊕ d .cos ⊗ l .sin ⊗ t .sin ⊗ o .cos ⊗ w .cos) =
-        add-about to-third fourth tt in
+    add-about to-third fourth tt in
     add-about to-fourth fifth tt
 
 -- PI is 180 degrees, rounded as the paper has it

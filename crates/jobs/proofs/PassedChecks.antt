@@ -124,7 +124,7 @@ module _ {job : Job} {results : List ℕ} (p : Passed job results) where
       let hours = hoursInYear (job .site) in
       let fine : T (atAll (hourFine hours) (times (job .run))) = and-r (runFine (job .run)) (hoursFine hours (job .run)) (p .run-fine) in
       let at : T (hourFine hours (timeAt (job .run) i)) =
-          subst (λ (time : Float). T (hourFine hours time)) (times-at (job .run) i (whole 0) h) (all-pass (hourFine hours) (times (job .run)) i (whole 0) fine (rw times-length h)) in
+      subst (λ (time : Float). T (hourFine hours time)) (times-at (job .run) i (whole 0) h) (all-pass (hourFine hours) (times (job .run)) i (whole 0) fine (rw times-length h)) in
       omega (arith, ltb→lt (currentHour (timeAt (job .run) i)) hours at, longest)
     where
       longest : hoursInYear (job .site) ≤ 8784

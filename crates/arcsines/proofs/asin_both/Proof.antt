@@ -2,12 +2,6 @@ use Rattle.arcsines.proofs.ArcsineParts.{arcsine-by}
 use Rattle.arcsines.proofs.asin_both.Statement.{statement}
 use Rattle.arcsines.proofs.asin_both.Tie as tie
 
-clamped-requires : tie.Need-clamped-requires
-clamped-requires c κs = tt
-
-clamped-requires-2 : tie.Need-clamped-requires-2
-clamped-requires-2 c κs = tt
-
 magnitude-requires : tie.Need-magnitude-requires
 magnitude-requires c κs = tt
 
@@ -30,13 +24,12 @@ arcsine-by-requires-2 : tie.Need-arcsine-by-requires-2
 arcsine-by-requires-2 c κs = tt
 
 returns : tie.Need-returns
-returns c =
-    let s = c .before .before in (
-      rw (c .before .arcsine-by .ensures, s .arcsine-series-both .ensures, s .before .before .before .series-argument .ensures, s .before .before .before .before .magnitude .ensures, s .before .before .before .before .before .before .clamped .ensures) (arcsine-by _),
-      rw (c .arcsine-by2 .ensures, s .arcsine-series-both .ensures, s .before .series-argument2 .ensures, s .before .before .magnitude2 .ensures, s .before .before .before .before .before .clamped2 .ensures) (arcsine-by _),
-    )
+returns c = (
+  rw (c .before .arcsine-by .ensures, c .before .before .arcsine-series-both .ensures, c .before .before .before .before .before .series-argument .ensures, c .before .before .before .before .before .before .magnitude .ensures) (arcsine-by _),
+  rw (c .arcsine-by2 .ensures, c .before .before .arcsine-series-both .ensures, c .before .before .before .series-argument2 .ensures, c .before .before .before .before .magnitude2 .ensures) (arcsine-by _),
+)
 
 pub asin-both-spec : {M : Type 1} → statement M
 asin-both-spec =
     tie.close
-    (tie.spec clamped-requires clamped-requires-2 magnitude-requires series-argument-requires magnitude-requires-2 series-argument-requires-2 arcsine-series-both-requires arcsine-by-requires arcsine-by-requires-2 returns)
+    (tie.spec magnitude-requires series-argument-requires magnitude-requires-2 series-argument-requires-2 arcsine-series-both-requires arcsine-by-requires arcsine-by-requires-2 returns)
