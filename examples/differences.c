@@ -82,12 +82,73 @@ static void sun_and_sky(void)
     converted.direct_beam_conversion = 1;
     sun = irradiance(converted, 2309.0, facing(90.0, 90.0, 1.0, 1.0), grazing);
     check(about(sun.direct, 4597031.0), 4, "a beam near the horizon");
-    sun = irradiance(site_at(-8.067087, 8.26, 0), 11.0, facing(15.0, 180.0, 1.0, 1.0), no_light);
-    check(isnan(sun.direct) && isnan(sun.diffuse) && isnan(sun.total), 18, "the sun square on the glass");
-    sun = irradiance(site_at(-7.854071, 10.648195, 0), 1427.0, upright, reading);
-    check(isnan(sun.altitude), 18, "the altitude of a sun overhead");
     sun = irradiance(site_at(51.06, -1.31, 0), 12.0, facing(90.0, 0.0, 1.0, 1.0), no_light);
     check(sun.direct == 0.0 && signbit(sun.direct), 19, "no light that is -0.0");
+}
+
+static int all_numbers(const pilgartze_row *row)
+{
+    return isfinite(row->altitude) && isfinite(row->azimuth) && isfinite(row->direct) && isfinite(row->diffuse) &&
+           isfinite(row->total) && isfinite(row->factor);
+}
+
+/* The altitude's sum of products rounds above 1: the altitude is 90, and the sectors are walked. */
+static void overhead(void)
+{
+    pilgartze_site site = site_at(-21.43550546822772, 24.689999999999987, 0);
+    pilgartze_surface flat = facing(0.0, 316.0, 1.0, 1.0);
+    const pilgartze_run_times noon = {322.0, 323.0, 1.0};
+    pilgartze_answer answer = pilgartze_run_job(&site, &noon, &flat, &weather, &bare, rows, HOURS);
+    check(answer.number == PILGARTZE_REFUSED_NO_SECTOR && answer.step == 0, 18, "the sun overhead, in no sector");
+    answer = pilgartze_run_job(&site, &year, &flat, &weather, &bare, rows, HOURS);
+    check(answer.number == PILGARTZE_REFUSED_NO_SECTOR && answer.step == 322, 18, "a year with that hour");
+    flat.orientation = 136.0;
+    answer = pilgartze_run_job(&site, &noon, &flat, &weather, &bare, rows, HOURS);
+    check(answer.number == 0 && answer.count == 1 && all_numbers(rows), 18, "turned round, outside the beam");
+    check(rows[0].altitude == 90.0 && rows[0].azimuth == 313.4613623615226, 18, "the sun overhead");
+    check(about(rows[0].direct, 117.8412) && rows[0].total == 200.0 && rows[0].factor == 1.0, 18, "its light");
+    flat.orientation = 316.0;
+    site.longitude = 24.69;
+    check(pilgartze_run_job(&site, &year, &flat, &weather, &bare, rows, HOURS).count == HOURS, 18,
+          "the same some bits further east");
+    check(all_numbers(&rows[322]) && rows[322].altitude == 90.0 && rows[322].azimuth == 73.3347932457816, 18,
+          "the sun overhead, in a sector");
+}
+
+/* So it is here, and an awning shades all that there is. */
+static void overhead_and_awning(void)
+{
+    const pilgartze_site site = site_at(-21.4355057, 24.69, 0);
+    const pilgartze_surface roof = facing(30.0, 180.0, 1.0, 1.0);
+    const pilgartze_window_object awning = pilgartze_overhang(0.5, 0.0);
+    const pilgartze_surface upright = facing(90.0, 180.0, 1.0, 1.0);
+    pilgartze_shading shading = {&free_sector, 1, NULL, 1};
+    pilgartze_breakdown sun;
+    pilgartze_row row;
+    shading.window = &awning;
+    check(pilgartze_step_at(&site, 322.0, &roof, &reading, &shading, &row) == 0, 18, "a roof with an awning");
+    check(row.altitude == 90.0 && row.azimuth == 73.3347932457816, 18, "the sun over the roof");
+    check(about(row.direct, 592.81296) && row.factor == 0.0, 18, "the shade of the awning");
+    sun = irradiance(site_at(-7.854071, 10.648195, 0), 1427.0, upright, reading);
+    check(sun.altitude == 90.0 && sun.azimuth == -1247745161.0944161, 18, "an azimuth that is far beyond 180");
+}
+
+/* The incidence's sum rounds above 1: the angle is 0, and all of the beam comes to the glass. */
+static void square(void)
+{
+    const pilgartze_site site = site_at(-8.067087, 8.26, 0);
+    const pilgartze_surface glass = facing(15.0, 180.0, 1.0, 1.0);
+    const pilgartze_run_times day = {0.0, 24.0, 1.0};
+    const pilgartze_reading no_light = {-0.0, 0.0, 0.2};
+    pilgartze_breakdown sun = irradiance(site, 11.0, glass, reading);
+    pilgartze_answer answer;
+    check(sun.direct == reading.direct + sun.circumsolar, 18, "all of the beam on the glass");
+    check(about(sun.direct, 696.63772) && about(sun.diffuse, 15.129055) && about(sun.total, 711.76678), 18,
+          "the sun square on the glass");
+    sun = irradiance(site, 11.0, glass, no_light);
+    check(sun.direct == 0.0 && sun.diffuse == 0.0 && sun.total == 0.0, 18, "the same with no light");
+    answer = pilgartze_run_job(&site, &day, &glass, &weather, &bare, rows, HOURS);
+    check(answer.number == 0 && about(answer.sum, 1207.448), 18, "the sum of such a day");
 }
 
 static void clocks(void)
@@ -190,14 +251,10 @@ static void shaded_light(void)
 {
     const pilgartze_site site = site_at(51.06, -1.31, 0);
     const pilgartze_surface upright = facing(90.0, 180.0, 1.0, 1.2);
-    const pilgartze_run_times day = {0.0, 24.0, 1.0};
-    const pilgartze_surface square = facing(15.0, 180.0, 1.0, 1.0);
-    const pilgartze_site overhead = site_at(-8.067087, 8.26, 0);
     pilgartze_row with, without;
     check(pilgartze_step_at(&site, 4116.0, &upright, &reading, &walled, &with) == 0, 29, "a step behind a wall");
     check(pilgartze_step_at(&site, 4116.0, &upright, &reading, &bare, &without) == 0, 29, "the same without it");
     check(with.factor == 0.0 && with.diffuse == without.diffuse && with.total == without.total, 29, "diffuse light");
-    check(isnan(pilgartze_run_job(&overhead, &day, &square, &weather, &bare, rows, HOURS).sum), 18, "a NaN sum");
 }
 
 int main(void)
@@ -211,6 +268,9 @@ int main(void)
     walled_sector = free_sector;
     pilgartze_add_object(&walled_sector, pilgartze_distant_obstacle(100.0, 10.0));
     sun_and_sky();
+    overhead();
+    overhead_and_awning();
+    square();
     clocks();
     midnight();
     beam();

@@ -46,6 +46,9 @@ static const char *wrong_answer(enum call call, const job *of, const pilgartze_a
     if (answer->step != 0) {
         return "accepted, and the step is not 0";
     }
+    if (answer->sum != answer->sum) {
+        return "accepted, and the sum or factor is NaN";
+    }
     if (call == RUN && answer->count != step_count(&of->run)) {
         return "accepted, and the count is not that of the steps";
     }
@@ -54,15 +57,15 @@ static const char *wrong_answer(enum call call, const job *of, const pilgartze_a
 
 /* ---- What is stored ------------------------------------------------------------------------------------------- */
 
-/* A NaN is stored in one way only. */
+/* Every word is a number. */
 static const char *wrong_words(const uint8_t *results, size_t length)
 {
     size_t at;
     for (at = 0; at < length; at += 8) {
         double value;
         memcpy(&value, results + at, sizeof value);
-        if (value != value && bits_of(value) != UINT64_C(0x7FF8000000000000)) {
-            return "a NaN of other bits";
+        if (value != value) {
+            return "a NaN is stored";
         }
     }
     return NULL;
@@ -70,9 +73,11 @@ static const char *wrong_words(const uint8_t *results, size_t length)
 
 static const char *wrong_row(soak *in, enum call call, const job *of, const pilgartze_row *row)
 {
-    const int nan = row->total != row->total || row->altitude != row->altitude;
-    in->nan_rows += nan ? 1 : 0;
-    in->shaded += row->factor < 1.0 ? 1 : 0;
+    const int overhead = row->altitude == 90.0;
+    const int shaded = row->factor < 1.0;
+    in->overhead += overhead ? 1 : 0;
+    in->overhead_shaded += overhead && shaded ? 1 : 0;
+    in->shaded += shaded ? 1 : 0;
     if (!(row->factor >= 0.0 && row->factor <= 1.0)) {
         return "a factor not from 0 to 1";
     }
@@ -220,13 +225,29 @@ static void compare_row(soak *in, const job *single, const pilgartze_row *row)
     }
 }
 
+/* Some row of a run; the first with altitude exactly 90 as often as any, where there is one. */
+static size_t some_row(source *from, const uint8_t *results, size_t rows)
+{
+    const size_t any = random_below(from, rows);
+    const int overhead = one_in(from, 2);
+    size_t i;
+    for (i = 0; i < rows && overhead; i++) {
+        pilgartze_row row;
+        memcpy(&row, results + i * sizeof row, sizeof row);
+        if (row.altitude == 90.0) {
+            return i;
+        }
+    }
+    return any;
+}
+
 /* A run's results are still on the first desk. A step that it was refused at is refused by itself too. */
 void try_step_of_run(soak *in, source *from, const job *of)
 {
     const pilgartze_answer run = tried(in, &in->first, RUN, of, 1, 0);
     const size_t rows = stored_by(RUN, &run) / sizeof(pilgartze_row);
     job single = *of;
-    size_t step = run.number == 0 && rows > 0 ? random_below(from, rows) : (size_t)run.step;
+    size_t step = run.number == 0 && rows > 0 ? some_row(from, in->first.at.results, rows) : (size_t)run.step;
     pilgartze_row row;
     if (run.number != 0 ? run.number < PILGARTZE_REFUSED_GAP : rows == 0) {
         return;
@@ -243,6 +264,7 @@ void try_step_of_run(soak *in, source *from, const job *of)
             failed(in, "not refused as the run is", STEP, &single, &answer);
         }
         sun_of_step(in, &single);
+        in->overhead_refused += single.altitude == 90.0 ? 1 : 0;
         wrong = wrong_walk(in, RUN, &single, single.altitude, single.azimuth, run.number);
         if (wrong != NULL) {
             failed(in, wrong, RUN, &single, &run);

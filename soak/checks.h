@@ -20,12 +20,17 @@ typedef struct soak {
     desk first, second;
     uint64_t seen[CALLS][PILGARTZE_REFUSED_LINE];
     uint64_t walks[CALLS][NO_SECTOR][PILGARTZE_MOST_SECTORS]; /* inside the beam, by place */
-    uint64_t late;     /* runs refused past step 0 */
-    uint64_t nan_rows; /* rows with a NaN */
-    uint64_t shaded;   /* rows with a factor below 1 */
-    uint64_t steps;    /* steps of a run that were called by themselves */
-    uint64_t shared;   /* runs that were lent one list for all series */
-    uint64_t threads;  /* calls that two threads made at once */
+    uint64_t sound;            /* sound jobs */
+    uint64_t aimed;            /* of these, with the sun square on the glass or overhead at a step */
+    uint64_t square;           /* of these, with it square on the glass */
+    uint64_t late;             /* runs refused past step 0 */
+    uint64_t overhead;         /* rows with altitude exactly 90 */
+    uint64_t overhead_shaded;  /* of these, with a factor below 1 */
+    uint64_t overhead_refused; /* steps with that altitude at which a run was refused */
+    uint64_t shaded;           /* rows with a factor below 1 */
+    uint64_t steps;            /* steps of a run that were called by themselves */
+    uint64_t shared;           /* runs that were lent one list for all series */
+    uint64_t threads;          /* calls that two threads made at once */
 } soak;
 
 /* Ends the program, after it has told what does not hold of which call of which job. */

@@ -39,12 +39,21 @@ double step_time(const pilgartze_run_times *run, size_t step);
 size_t series_index(const pilgartze_site *site, double time);
 pilgartze_reading reading_at(const job *of, size_t index);
 
-/* A job with all in range and, for the most part, accepted; now and then of a whole year where those are wanted. */
+/* A job with all in range and, for the most part, accepted; now and then of a whole year where those are wanted. Every
+ * other one is aimed. */
 void sound_job(source *from, job *made, int years);
-/* A sound job with some of it spoilt, or anything at all. */
-void any_job(source *from, job *made, int years);
+/* A sound job, one with some of it spoilt, or anything at all; gives whether it is sound. */
+int any_job(source *from, job *made, int years);
 /* Another site and surface for the same lists. */
 void other_numbers(source *from, job *made);
+
+/* Moves the site or turns the surface: at the single step the sun is then overhead or square on the glass, for the most
+ * part. */
+void aim(source *from, job *made);
+/* Whether at the single step all of a beam comes to the glass: the cosine of incidence is exactly 1. */
+int sun_square(const job *of);
+/* Whether the altitude there is exactly 90. */
+int sun_overhead(const job *of);
 
 /* Spoils one part. */
 void spoil(source *from, job *made);

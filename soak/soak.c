@@ -40,11 +40,23 @@ static int read_options(options *into, int count, char **words)
     return word == count;
 }
 
+/* What came of the aim, by the calls themselves. */
+static void count_sound(soak *in, const job *made)
+{
+    const int has_steps = step_count(&made->run) > 0;
+    const int square = has_steps && sun_square(made);
+    in->sound += 1;
+    in->aimed += square || (has_steps && sun_overhead(made)) ? 1 : 0;
+    in->square += square ? 1 : 0;
+}
+
 static void one_turn(soak *in, job *made)
 {
     source from = source_of(in->seed, in->turn);
     watched_turn(in->seed, in->turn);
-    any_job(&from, made, !in->on_the_heap);
+    if (any_job(&from, made, !in->on_the_heap)) {
+        count_sound(in, made);
+    }
     try_calls(in, &from, made);
     if (one_in(&from, 2)) {
         try_step_of_run(in, &from, made);
@@ -97,23 +109,46 @@ static int tell_seen(const soak *in)
     return unseen;
 }
 
+static void tell_aimed(const soak *in)
+{
+    const uint64_t share = in->sound == 0 ? 0 : 100 * in->aimed / in->sound;
+    printf("%llu sound jobs, %llu of them (%llu %%) with the sun square on the glass or overhead at a step: %llu with "
+           "all of a beam on the glass there, the others with altitude exactly 90\n",
+           (unsigned long long)in->sound, (unsigned long long)in->aimed, (unsigned long long)share,
+           (unsigned long long)in->square);
+    printf("altitude exactly 90: %llu rows, %llu of them with shade, and %llu steps at which a run was refused\n",
+           (unsigned long long)in->overhead, (unsigned long long)in->overhead_shaded,
+           (unsigned long long)in->overhead_refused);
+}
+
+/* A third of the sound jobs must have been aimed well, and the sun overhead must have been shaded and refused. */
+static int too_seldom_aimed(const soak *in)
+{
+    const int seldom = 3 * in->aimed < in->sound || in->square == 0 || in->overhead == 0;
+    if (seldom || in->overhead_shaded == 0 || in->overhead_refused == 0) {
+        printf("soak: the sun was square on the glass or overhead too seldom\n");
+        return 1;
+    }
+    return 0;
+}
+
 static int told(const soak *in, const options *by)
 {
     const int unseen = tell_seen(in) + tell_walks(in);
     printf("%llu jobs of seed %llu; %llu runs refused past step 0, %llu steps of a run called by themselves, %llu rows "
-           "with NaN, %llu with shade, %llu runs with one list for all series, %llu calls by two threads at once\n",
+           "with shade, %llu runs with one list for all series, %llu calls by two threads at once\n",
            (unsigned long long)(in->turn - by->from), (unsigned long long)in->seed, (unsigned long long)in->late,
-           (unsigned long long)in->steps, (unsigned long long)in->nan_rows, (unsigned long long)in->shaded,
-           (unsigned long long)in->shared, (unsigned long long)in->threads);
+           (unsigned long long)in->steps, (unsigned long long)in->shaded, (unsigned long long)in->shared,
+           (unsigned long long)in->threads);
+    tell_aimed(in);
     if (by->jobs == 1) {
         return 0;
     }
-    if (unseen > 0 || in->late == 0 || in->steps == 0 || in->shaded == 0 || in->threads == 0 || in->shared == 0 ||
-        (in->nan_rows == 0 && !in->on_the_heap)) {
+    if (unseen > 0 || in->late == 0 || in->steps == 0 || in->shaded == 0 || in->threads == 0 || in->shared == 0) {
         printf("soak: something was never seen, numbers and walks: %d\n", unseen);
         return 1;
     }
-    return 0;
+    return too_seldom_aimed(in);
 }
 
 int main(int count, char **words)

@@ -249,4 +249,7 @@ void sound_job(source *from, job *made, int years)
     made->results[STEP] = sizeof(pilgartze_row) + (one_in(from, 2) ? random_below(from, 100) : 0);
     made->results[IRRADIANCE] = sizeof(pilgartze_breakdown) + (one_in(from, 2) ? random_below(from, 100) : 0);
     made->results[FACTOR] = 0;
+    if (one_in(from, 2)) {
+        aim(from, made);
+    }
 }

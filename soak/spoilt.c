@@ -1,7 +1,6 @@
 /* Jobs with something out of range, or anything at all. */
 #include "job.h"
 
-#include <math.h>
 #include <stddef.h>
 #include <stdio.h>
 
@@ -81,36 +80,6 @@ static void spoil_times(source *from, job *made)
     made->time = time;
     made->run.start = time - made->run.step * (double)random_below(from, 3);
     made->run.end = time;
-}
-
-/* The part of a beam at normal incidence that comes to a surface so turned, at the single step. */
-static double part_of_beam(const job *made, double tilt, double orientation)
-{
-    const pilgartze_surface surface = {tilt, orientation, 0.0, 1.0, 1.0};
-    const pilgartze_reading beam = {0.0, 1000.0, 0.0};
-    pilgartze_site site = made->site;
-    pilgartze_breakdown there;
-    site.direct_beam_conversion = 0;
-    return pilgartze_irradiance_at(&site, made->time, &surface, &beam, &there) == 0 ? there.direct / 1000.0 : 0.0;
-}
-
-static double some_bits_beside(source *from, double x)
-{
-    return double_of(bits_of(x) + random_below(from, 9) - 4);
-}
-
-/* Turns the surface square to the sun: the cosine of incidence is then about 1, and if rounding makes it more than that
- * the results are NaN. (The azimuth that is stored is the sun's direction only about noon.) */
-static void face_the_sun(source *from, job *made)
-{
-    const double up = part_of_beam(made, 0.0, 0.0);
-    const double south = part_of_beam(made, 90.0, 180.0) - part_of_beam(made, 90.0, 0.0);
-    const double east = part_of_beam(made, 90.0, 90.0) - part_of_beam(made, 90.0, 270.0);
-    const double degrees = 180.0 / 3.14159265358979323846;
-    if (up > 0.0 && up < 1.0) {
-        made->surface.tilt = some_bits_beside(from, acos(up) * degrees);
-        made->surface.orientation = some_bits_beside(from, 180.0 - atan2(east, south) * degrees);
-    }
 }
 
 /* ---- Lists ---------------------------------------------------------------------------------------------------- */
@@ -223,7 +192,7 @@ static void reveal_put_in(source *from, job *made)
 void spoil(source *from, job *made)
 {
     static void (*const ways[])(source *, job *) = {
-        spoil_double, spoil_double,  spoil_double, spoil_double, spoil_whole_number, spoil_times,   face_the_sun,
+        spoil_double, spoil_double,  spoil_double, spoil_double, spoil_whole_number, spoil_times,   aim,
         spoil_length, spoil_results, spoil_bytes,  spoil_word,   spoil_bound,        reveal_put_in,
     };
     ways[random_below(from, COUNT(ways))](from, made);
@@ -264,17 +233,20 @@ void scramble(source *from, job *made, size_t part)
     scramble_lists(from, made);
 }
 
-void any_job(source *from, job *made, int years)
+int any_job(source *from, job *made, int years)
 {
     size_t times = one_in(from, 3) ? 0 : one_in(from, 4) ? random_below(from, 6) : 1;
+    const int scrambled = one_in(from, 16);
+    const int sound = times == 0 && !scrambled;
     sound_job(from, made, years);
-    if (one_in(from, 16)) {
+    if (scrambled) {
         scramble(from, made, random_below(from, 5));
     }
     while (times > 0) {
         spoil(from, made);
         times -= 1;
     }
+    return sound;
 }
 
 /* ---- Telling -------------------------------------------------------------------------------------------------- */

@@ -137,28 +137,46 @@ static void wrong_stores(const pilgartze_answer *answer, RESULTS_LIST)
     }
 }
 
-static double sum_from_the_last(const uint8_t *results, size_t rows)
+static double sum_of(const uint8_t *results, size_t rows, int from_the_last)
 {
     double sum = 0.0;
-    while (rows > 0) {
+    size_t i;
+    for (i = 0; i < rows; i++) {
         pilgartze_row row;
-        rows -= 1;
-        memcpy(&row, results + ROW * rows, sizeof row);
+        memcpy(&row, results + ROW * (from_the_last ? rows - 1 - i : i), sizeof row);
         sum += row.factor * row.direct;
     }
     return sum;
 }
 
+static double nan_double(void)
+{
+    const uint64_t bits = UINT64_C(0x7FF8000000000000);
+    double nan;
+    memcpy(&nan, &bits, sizeof nan);
+    return nan;
+}
+
+/* The altitude is exactly 90. */
+static void wrong_overhead(pilgartze_row *row)
+{
+    if (flaw("nan_for_the_sun_overhead")) {
+        row->altitude = nan_double();
+    }
+    if (flaw("factor_1_for_the_sun_overhead")) {
+        row->factor = 1.0;
+    }
+}
+
 static void wrong_rows(uint8_t *results, size_t rows)
 {
-    const uint64_t nan = UINT64_C(0xFFF8000000000000);
     const uint64_t above = UINT64_C(0x3FF0000000000001);
     size_t i;
     for (i = 0; i < rows; i++) {
         pilgartze_row row;
         memcpy(&row, results + ROW * i, sizeof row);
-        if (flaw("stores_another_nan") && row.direct != row.direct) {
-            memcpy(&row.direct, &nan, sizeof nan);
+        if (row.altitude == 90.0) {
+            wrong_overhead(&row);
         }
         if (flaw("factor_above_one") && row.factor == 1.0) {
             memcpy(&row.factor, &above, sizeof above);
@@ -167,11 +185,19 @@ static void wrong_rows(uint8_t *results, size_t rows)
     }
 }
 
+static double wrong_sum(double sum, const uint8_t *results, size_t rows)
+{
+    if (flaw("sum_from_the_last") || flaw("factor_1_for_the_sun_overhead")) {
+        return sum_of(results, rows, flaw("sum_from_the_last"));
+    }
+    return flaw("nan_sum") ? nan_double() : sum;
+}
+
 static pilgartze_answer wrong_answer(pilgartze_answer answer, uint8_t *results)
 {
     if (answer.number == 0) {
         wrong_rows(results, (size_t)answer.count);
-        answer.sum = flaw("sum_from_the_last") ? sum_from_the_last(results, (size_t)answer.count) : answer.sum;
+        answer.sum = wrong_sum(answer.sum, results, (size_t)answer.count);
         answer.count -= flaw("one_step_less") && answer.count > 0 ? 1 : 0;
         return answer;
     }
@@ -195,6 +221,41 @@ static size_t left_out(int first, size_t length)
 static size_t walked(int first, int last, size_t length)
 {
     return last && length == SECTOR * PILGARTZE_MOST_SECTORS ? length - SECTOR : length - left_out(first, length);
+}
+
+/* What the sound library has for one step, without shade. */
+static pilgartze_breakdown sound_breakdown(SITE_NUMBERS, double time, SURFACE_NUMBERS, READINGS)
+{
+    pilgartze_breakdown there;
+    uint8_t bytes[sizeof there] = {0};
+    sound_irradiance(SITE, time, SURFACE, READING, bytes, sizeof bytes);
+    memcpy(&there, bytes, sizeof there);
+    return there;
+}
+
+/* Whether all of a beam comes to the surface. */
+static int whole_beam(SITE_NUMBERS, double time, SURFACE_NUMBERS)
+{
+    const double diffuse = 0.0, direct = 1024.0, reflectivity = 0.0;
+    direct_beam_conversion = 0;
+    return sound_breakdown(SITE, time, SURFACE, READING).direct == direct;
+}
+
+/* The row of a step as it would be outside the beam. */
+static void store_unshaded(const pilgartze_breakdown *there, uint8_t *results)
+{
+    const double factor = 1.0;
+    memcpy(results, there, offsetof(pilgartze_row, factor));
+    memcpy(results + offsetof(pilgartze_row, factor), &factor, sizeof factor);
+}
+
+static void store_nan_irradiance(uint8_t *results)
+{
+    const double nan = nan_double();
+    size_t at;
+    for (at = offsetof(pilgartze_breakdown, direct); at <= offsetof(pilgartze_breakdown, total); at += sizeof nan) {
+        memcpy(results + at, &nan, sizeof nan);
+    }
 }
 
 #define SHORT(length) (flaw("lengths_of_32_bits") ? (uint32_t)(length) : (length))
@@ -242,6 +303,13 @@ uint64_t pilgartze_step(SITE_NUMBERS, double time, SURFACE_NUMBERS, READINGS, OB
     if (flaw("step_stores_though_refused") && number == PILGARTZE_REFUSED_NO_SECTOR) {
         results[0] ^= 1;
     }
+    if (flaw("step_overhead_not_walked") && number >= PILGARTZE_REFUSED_GAP) {
+        const pilgartze_breakdown there = sound_breakdown(SITE, time, SURFACE, READING);
+        if (there.altitude == 90.0) {
+            store_unshaded(&there, results);
+            return 0;
+        }
+    }
     if (flaw("step_has_its_own_refusal") && number == PILGARTZE_REFUSED_TURNED) {
         return PILGARTZE_REFUSED_GAP;
     }
@@ -253,6 +321,9 @@ uint64_t pilgartze_irradiance(SITE_NUMBERS, double time, SURFACE_NUMBERS, READIN
     const uint64_t number = sound_irradiance(SITE, time, SURFACE, READING, RESULTS);
     if (flaw("irradiance_stores_ten_words") && number == 0 && results_length >= 80) {
         memset(results + 72, 0, 8);
+    }
+    if (flaw("nan_for_the_sun_square") && number == 0 && whole_beam(SITE, time, SURFACE)) {
+        store_nan_irradiance(results);
     }
     return flaw("irradiance_gives_number_4") && number == PILGARTZE_REFUSED_SURFACE ? 4 : number;
 }
