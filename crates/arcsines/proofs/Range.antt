@@ -2,10 +2,7 @@
 -- both are numbers; and what they are beyond ±1 and of NaN. Assumes nothing.
 use mathlib.Core.Path.{_≡_, refl}
 use mathlib.Core.Bool.{Bool, true, false, cond, _&&_}
-use Prim.Native.Nat.{ℕ, zero, suc, _+_, _-_, _*_, _^_, _<_}
-use native.Mathlib.Nat.{lt-irrefl}
-use native.Mathlib.Omega.{arith}
-use native.Mathlib.Decide.{decLe}
+use Prim.Native.Nat.{ℕ, suc, _+_, _-_, _*_, _^_, _<_}
 use lib.Dec.{T}
 use lib.Ieee.{Float, nan, add, sub, mul, div, neg, lt, le, isNan}
 use lib.Ieee.Scale.{finite}
@@ -17,7 +14,7 @@ use Rattle.doubles.proofs.Order.{le-refl, le-trans, lt→le, left-number, le-of
 use Rattle.doubles.proofs.Bounds.{zero-number, one-number, mul-number, mul-nonneg}
 use Rattle.doubles.proofs.Ranges.{Between, both-of}
 use Rattle.doubles.proofs.Clamping.{clamp-above, clamp-below, clamp-range}
-use Rattle.doubles.proofs.Intervals.{holdsEnds, in-number, own-range, between-range, widen, add-in, sub-in, about, as-range, about-number, neg-about, mul-about, div-about, horner-in}
+use Rattle.doubles.proofs.Intervals.{holdsEnds, in-number, own-range, between-range, widen, add-in, sub-in, about, as-range, about-number, neg-about, mul-about, div-about, tests, tested, horner-in}
 use Rattle.arcsines.specs.Arcsine.{arcsineStep, arcsineSeries, halfPi, complement, upToHalf, halfAngleSine, upwardBy, arcsineUpward, oddly, arcsine, arccosine}
 use Rattle.arcsines.proofs.Computed.{steps}
 use Rattle.arcsines.proofs.Inner.{half, quarter, half-angle-in}
@@ -55,7 +52,7 @@ odds n = whole ((2 * n - 1) ^ 2)
 abbrev evens : ℕ → Float
 evens n = whole (2 * n * (2 * n + 1))
 
--- what the checker computes of them for one n, and for n = 1 up to count: 0.25 times their quotient is at most 0.25
+-- what the checker computes of them: 0.25 times their quotient is at most 0.25
 unfoldable quotientTest : ℕ → Bool
 unfolding whole decimal neg mul div lt le
 quotientTest n =
@@ -64,23 +61,9 @@ quotientTest n =
     && (finite quarter && finite (odds n) && le most most)
     && (lt (whole 0) (evens n) && holdsEnds (neg most) most (evens n) (evens n) (neg quarter) (neg most ⊘ evens n) (most ⊘ evens n) quarter)
 
-unfoldable quotientTests : ℕ → Bool
-quotientTests zero = true
-quotientTests (suc n) = quotientTest (suc n) && quotientTests n
-
-all-tested : T (quotientTests 24)
-unfolding quotientTests quotientTest
+all-tested : T (tests quotientTest 24)
+unfolding tests quotientTest
 all-tested = tt
-
-tested : (n : ℕ) → T (quotientTests n) → (k : ℕ) → k < n → T (quotientTest (suc k))
-unfolding quotientTests
-tested zero t k l = absurd (omega arith)
-tested (suc n) t k l =
-    let s = both-of (quotientTest (suc n)) (quotientTests n) t in
-    elim (decLe (suc k) n) [ yes h ↦ tested n (s .1) k h | no h ↦ last (omega arith) (s .0) ]
-  where
-    last : k ≡ n → T (quotientTest (suc n)) → T (quotientTest (suc k))
-    last e t = rw e t
 
 quotient-about : (t : Float) (n : ℕ) → About quarter t → T (quotientTest n) → About quarter ((t ⊗ odds n) ⊘ evens n)
 unfolding quotientTest
@@ -101,7 +84,7 @@ threeHalves = decimal 15 1
 step-in : (t : Float) → About quarter t → (k : ℕ) → k < 24 → (h : Float) → InRange half threeHalves h → InRange half threeHalves (arcsineStep t (suc k) h)
 unfolding arcsineStep whole decimal neg add mul le
 step-in t r k l h s =
-    let q : About quarter ((t ⊗ odds (suc k)) ⊘ evens (suc k)) = quotient-about t (suc k) r (tested 24 all-tested k l) in
+    let q : About quarter ((t ⊗ odds (suc k)) ⊘ evens (suc k)) = quotient-about t (suc k) r (tested quotientTest 24 all-tested k l) in
     let b : About threeHalves h = about s tt in
     let m : About half (((t ⊗ odds (suc k)) ⊘ evens (suc k)) ⊗ h) = mul-about q b tt in
     add-in (own-range one-number) (as-range m) tt

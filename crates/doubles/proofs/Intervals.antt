@@ -2,20 +2,22 @@
 -- law is a test of the ends, which the checker computes where they are constants. Assumes nothing.
 use mathlib.Core.Path.{_≡_, refl}
 use mathlib.Core.Bool.{Bool, true, false, not, cond, _&&_}
-use Prim.Native.Nat.{ℕ, zero, suc, _*_, _≤_, _<_}
-use native.Mathlib.Nat.{zero-lt-suc}
+use Prim.Native.Nat.{ℕ, zero, suc, _+_, _*_, _≤_, _<_}
+use native.Mathlib.Nat.{mul-pos, mul-le-mul-left, zero-lt-suc}
+use native.Mathlib.Decide.{decLe}
 use lib.IntN.{ℤ, pos, negsuc, natAbs}
 use native.Mathlib.Omega.{arith}
 use lib.Dec.{T}
 use lib.Ieee.{Float, nan, inf, fin, binary64, up, down, round, mul, neg, lt, le, ofInt}
 use lib.Ieee.Order.{round-mono}
+use lib.Ieee.Positive.{den, den-pos, positive}
 use lib.Ieee.Scale.{finite}
 use Rattle.doubles.specs.Arithmetic.{_⊕_, _⊖_, _⊗_, _⊘_, whole}
 use Rattle.doubles.specs.Series.{horner}
 use Rattle.doubles.specs.Order.{_≼_, _≺_, InRange, About, Number, Finite}
-use Rattle.doubles.proofs.Order.{le-refl, le-trans, lt→le, left-number, le-of-not-lt, neg-finite, neg-le, neg-neg}
-use Rattle.doubles.proofs.Rounding.{round-neg}
-use Rattle.doubles.proofs.Monotone.{add-mono, sub-mono, mul-mono, div-mono}
+use Rattle.doubles.proofs.Order.{positivePart, negativePart, leftSide, rightSide, le→cross, le-refl, le-trans, lt→le, lt-le-trans, left-number, le-of-not-lt, neg-finite, neg-le, neg-neg}
+use Rattle.doubles.proofs.Rounding.{round-neg, rounded-mono, div-rounds}
+use Rattle.doubles.proofs.Monotone.{add-mono, sub-mono, no-negative-part, mul-mono, positive-part, positive-of, div-mono}
 use Rattle.doubles.proofs.Bounds.{add-number, sub-number, mul-number, div-number, positive-nonzero, mul-nonneg, zero-number}
 use Rattle.doubles.proofs.Differences.{between-finite}
 use Rattle.doubles.proofs.Ranges.{Between, finite-between, both-of}
@@ -223,6 +225,78 @@ whole-about c n h =
 pub int-about : (c : ℕ) (z : ℤ) → natAbs z ≤ c → About (whole c) (ofInt binary64 z)
 int-about c (pos n) h = unfold whole in whole-about c n h
 int-about c (negsuc n) h = unfold ofInt in rw (round-neg (suc n) 1) (unfold whole in neg-about (whole-about c (suc n) h))
+
+-- ---- products and quotients of what is not negative
+
+pub mul-in : {l h a b c d x y : Float} → InRange a b x → InRange c d y → T (le (whole 0) a && le (whole 0) c) → T (holdsEnds a b c d l (a ⊗ c) (b ⊗ d) h) → InRange l h (x ⊗ y)
+mul-in {l} {h} {a} {b} {c} {d} p q z t =
+    let e = ends a b c d l (a ⊗ c) (b ⊗ d) h t in
+    let s = both-of (le (whole 0) a) (le (whole 0) c) z in
+    let zero-a : whole 0 ≼ a = record { holds = s .0 } in
+    let zero-c : whole 0 ≼ c = record { holds = s .1 } in
+    let n = mul-number (in-finite (e .a-finite) (e .b-finite) p) (in-finite (e .c-finite) (e .d-finite) q) in
+    record {
+      from = le-trans (e .below) (mul-mono zero-a zero-c (p .from) (q .from) (mul-number (e .a-finite) (e .c-finite)) n);
+      to = le-trans (mul-mono (le-trans zero-a (p .from)) (le-trans zero-c (q .from)) (p .to) (q .to) n (mul-number (e .b-finite) (e .d-finite))) (e .above);
+    }
+
+above-zero : (y : Float) → T (finite y) → whole 0 ≺ y → T (positive y)
+above-zero nan f p = absurd f
+above-zero (inf s) f p = absurd f
+above-zero (fin s m e) f p = positive-of s m e (p .holds)
+
+-- by a larger divisor the quotient is no larger
+div-larger : (x y z : Float) → T (finite x) → T (finite y) → T (finite z) → whole 0 ≼ x → whole 0 ≺ y → y ≼ z → x ⊘ z ≼ x ⊘ y
+div-larger x y z f g k h p l =
+    let nx = no-negative-part x f h in
+    let ny = no-negative-part y g (lt→le p) in
+    let nz = no-negative-part z k (le-trans (lt→le p) l) in
+    let py = above-zero y g p in
+    let pz = above-zero z k (lt-le-trans p l) in
+    rounded-mono (x ⊘ z) (x ⊘ y)
+    (positivePart x * den z) (negativePart x * den z) (positivePart z * den x)
+    (positivePart x * den y) (negativePart x * den y) (positivePart y * den x)
+    (mul-pos (positive-part z pz) (den-pos x)) (mul-pos (positive-part y py) (den-pos x))
+    (div-rounds x z f pz) (div-rounds x y f py)
+    (rw nx (larger (positivePart x) (den x) (positivePart y) (den y) (positivePart z) (den z) (cross (le→cross {x = y} {y = z} (record { holds = g }) (record { holds = k }) l) ny nz)))
+  where
+    cross : leftSide y z ≤ rightSide y z → negativePart y ≡ 0 → negativePart z ≡ 0 → positivePart y * den z ≤ positivePart z * den y
+    cross c ny nz = omega (arith, rw (ny, nz) at c)
+
+    larger : (a b u v c d : ℕ) → u * d ≤ c * v → a * d * (u * b) + 0 * v * (c * b) ≤ a * v * (c * b) + 0 * d * (u * b)
+    larger a b u v c d h = omega (arith, mul-le-mul-left (a * b) h)
+
+pub div-by-in : {l h a b c d x y : Float} → InRange a b x → InRange c d y → T (le (whole 0) a && lt (whole 0) c) → T (holdsEnds a b c d l (a ⊘ d) (b ⊘ c) h) → InRange l h (x ⊘ y)
+div-by-in {l} {h} {a} {b} {c} {d} {x} {y} p q z t =
+    let e = ends a b c d l (a ⊘ d) (b ⊘ c) h t in
+    let s = both-of (le (whole 0) a) (lt (whole 0) c) z in
+    let zero-a : whole 0 ≼ a = record { holds = s .0 } in
+    let zero-c : whole 0 ≺ c = record { holds = s .1 } in
+    let zero-y = lt-le-trans zero-c (q .from) in
+    let zero-d = lt-le-trans zero-y (q .to) in
+    let fx = in-finite (e .a-finite) (e .b-finite) p in
+    let fy = in-finite (e .c-finite) (e .d-finite) q in
+    let n = div-number fx fy (positive-nonzero zero-y) in
+    record {
+      from = le-trans (e .below) (le-trans (div-larger a y d (e .a-finite .holds) (fy .holds) (e .d-finite .holds) zero-a zero-y (q .to)) (div-mono zero-y (p .from) (div-number (e .a-finite) fy (positive-nonzero zero-y)) n));
+      to = le-trans (le-trans (div-mono zero-y (p .to) n (div-number (e .b-finite) fy (positive-nonzero zero-y))) (div-larger b c y (e .b-finite .holds) (e .c-finite .holds) (fy .holds) (le-trans (le-trans zero-a (p .from)) (p .to)) zero-c (q .from))) (e .above);
+    }
+
+-- ---- a test for each step of a series, from 1 up to a count
+
+unfoldable pub tests : (ℕ → Bool) → ℕ → Bool
+tests test zero = true
+tests test (suc n) = test (suc n) && tests test n
+
+pub tested : (test : ℕ → Bool) (n : ℕ) → T (tests test n) → (k : ℕ) → k < n → T (test (suc k))
+unfolding tests
+tested test zero t k l = absurd (omega arith)
+tested test (suc n) t k l =
+    let s = both-of (test (suc n)) (tests test n) t in
+    elim (decLe (suc k) n) [ yes h ↦ tested test n (s .1) k h | no h ↦ last (omega arith) (s .0) ]
+  where
+    last : k ≡ n → T (test (suc n)) → T (test (suc k))
+    last e t = rw e t
 
 -- ---- Horner's scheme: a range that every step keeps
 
