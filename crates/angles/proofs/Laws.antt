@@ -131,7 +131,7 @@ of-range at small a h =
     rw h (clamp-range (small-number 195 (at (quadrant (quarterTurns a)) (sineSeries r) (cosineSeries r))
     (small (quadrant (quarterTurns a)) 195 (sineSeries r) (cosineSeries r) (sine-series-small r s) (cosine-series-small r s))))
 
-is-angle : {a : Float} → About (whole 64) a → isAngle a ≡ true
+pub is-angle : {a : Float} → About (whole 64) a → isAngle a ≡ true
 unfolding isAngle
 is-angle {a} h = simp (is-true (le (neg (whole 64)) a) (h .from .holds), is-true (le a (whole 64)) (h .to .holds))
 

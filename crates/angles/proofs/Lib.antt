@@ -3,3 +3,4 @@ pub mod Turns
 pub mod Reduction
 pub mod Computed
 pub mod Laws
+pub mod FirstQuarter

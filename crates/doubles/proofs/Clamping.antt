@@ -6,8 +6,8 @@ use lib.Ieee.{Float, neg, lt, le}
 use lib.Ieee.Bits.{is-true}
 use Rattle.doubles.specs.Arithmetic.{whole}
 use Rattle.doubles.specs.Functions.{clamp}
-use Rattle.doubles.specs.Order.{_≼_, _≺_, About, Number}
-use Rattle.doubles.proofs.Order.{le-refl, le-trans, left-number, lt→le, le-of-not-lt, not-below}
+use Rattle.doubles.specs.Order.{_≼_, _≺_, InRange, About, Number}
+use Rattle.doubles.proofs.Order.{le-refl, le-trans, left-number, right-number, lt→le, lt-excludes, le-of-not-lt, not-below}
 use Rattle.doubles.proofs.Bounds.{one-number}
 
 ends : neg (whole 1) ≼ whole 1
@@ -34,3 +34,13 @@ clamp-range {x} n = go (lt x (neg (whole 1))) (lt (whole 1) x) refl refl
     go true c p q = record { from = le-refl (left-number ends); to = ends }
     go false true p q = record { from = ends; to = le-refl one-number }
     go false false p q = record { from = le-of-not-lt n (left-number ends) p; to = le-of-not-lt one-number n q }
+
+-- from a bound of its own up to 1
+pub clamp-in : {l x : Float} → neg (whole 1) ≼ l → l ≼ whole 1 → l ≼ x → InRange l (whole 1) (clamp x)
+unfolding clamp
+clamp-in {l} {x} low high h = go (lt x (neg (whole 1))) (lt (whole 1) x) refl refl
+  where
+    go : (b c : Bool) → lt x (neg (whole 1)) ≡ b → lt (whole 1) x ≡ c → InRange l (whole 1) (cond b (neg (whole 1)) (cond c (whole 1) x))
+    go true c p q = absurd (lt-excludes (record { holds = rw p tt }) (le-trans low h))
+    go false true p q = record { from = high; to = le-refl one-number }
+    go false false p q = record { from = h; to = le-of-not-lt one-number (right-number h) q }

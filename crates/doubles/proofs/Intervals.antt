@@ -1,6 +1,6 @@
 -- Interval arithmetic: where a sum, a difference, a product or a quotient lies, by where its operands lie. The last argument of each
 -- law is a test of the ends, which the checker computes where they are constants. Assumes nothing.
-use mathlib.Core.Path.{_≡_, refl}
+use mathlib.Core.Path.{_≡_, refl, ap, _∙_}
 use mathlib.Core.Bool.{Bool, true, false, not, cond, _&&_}
 use Prim.Native.Nat.{ℕ, zero, suc, _+_, _*_, _≤_, _<_}
 use native.Mathlib.Nat.{mul-pos, mul-le-mul-left, zero-lt-suc}
@@ -143,7 +143,7 @@ round-turned : (s : Bool) (a c : ℕ) → round binary64 (not s) a c ≡ neg (ro
 round-turned true a c = rw (round-neg a c, neg-neg (round binary64 false a c)) refl
 round-turned false a c = round-neg a c
 
-mul-turned : (x y : Float) → T (finite x) → T (finite y) → (neg x ⊗ y ≡ neg (x ⊗ y)) × (x ⊗ neg y ≡ neg (x ⊗ y))
+pub mul-turned : (x y : Float) → T (finite x) → T (finite y) → (neg x ⊗ y ≡ neg (x ⊗ y)) × (x ⊗ neg y ≡ neg (x ⊗ y))
 unfolding mul neg
 mul-turned nan y f g = absurd f
 mul-turned (inf s) y f g = absurd f
@@ -159,6 +159,10 @@ mul-turned (fin s m e) (fin t n d) f g = go s t
     go true false = (turned true, turned true)
     go false true = (turned true, turned true)
     go false false = (turned false, turned false)
+
+-- a square is that of the opposite
+pub square-turned : (x : Float) → T (finite x) → neg x ⊗ neg x ≡ x ⊗ x
+square-turned x f = mul-turned x (neg x) f (neg-finite (record { holds = f }) .holds) .0 ∙ ap neg (mul-turned x x f f .1) ∙ neg-neg (x ⊗ x)
 
 minus-zero : whole 0 ≼ neg (whole 0)
 unfolding whole neg le
