@@ -10,10 +10,10 @@ use Rattle.doubles.specs.Arithmetic.{_⊕_, _⊖_, _⊗_, _⊘_, decimal, whole
 use Rattle.doubles.specs.Functions.{clamp, pi}
 use Rattle.doubles.specs.Series.{horner}
 use Rattle.doubles.specs.Order.{_≼_, _≺_, InRange, About, Number}
-use Rattle.doubles.proofs.Order.{le-refl, le-trans, lt→le, left-number, le-of-not-lt, lt-of-not-le, neg-le, neg-neg}
-use Rattle.doubles.proofs.Bounds.{zero-number, one-number, mul-number, mul-nonneg}
+use Rattle.doubles.proofs.Order.{le-refl, le-trans, lt→le, left-number, le-of-not-lt, lt-of-not-le, not-below, neg-le, neg-neg}
+use Rattle.doubles.proofs.Bounds.{zero-number, one-number, zero-le-one, mul-number, mul-nonneg}
 use Rattle.doubles.proofs.Ranges.{Between, both-of}
-use Rattle.doubles.proofs.Clamping.{clamp-above, clamp-below, clamp-range}
+use Rattle.doubles.proofs.Clamping.{clamp-above, clamp-below, clamp-range, clamp-in}
 use Rattle.doubles.proofs.Intervals.{holdsEnds, in-number, own-range, between-range, widen, add-in, sub-in, about, as-range, about-number, neg-about, mul-about, div-about, tests, tested, horner-in}
 use Rattle.arcsines.specs.Arcsine.{arcsineStep, arcsineSeries, halfPi, complement, upToHalf, halfAngleSine, upwardBy, arcsineUpward, oddly, arcsine, arccosine}
 use Rattle.arcsines.proofs.Computed.{steps}
@@ -152,6 +152,10 @@ minus-zero : whole 0 ≼ neg (whole 0)
 unfolding whole neg le
 minus-zero = record { holds = tt }
 
+minus-one-below : neg (whole 1) ≼ whole 0
+unfolding whole neg le
+minus-one-below = record { holds = tt }
+
 -- of any number from −PI/2 to PI/2
 pub arcsine-range : {a : Float} → Number a → About halfPi (arcsine a)
 unfolding arcsine
@@ -165,6 +169,13 @@ arcsine-range {a} n = go (lt (clamp a) (whole 0)) refl
         let below : clamp a ≼ whole 0 = lt→le (record { holds = rw e tt }) in
         neg-about (upward-about (le-trans minus-zero (neg-le below)) (rw (neg-neg (whole 1)) at (neg-le (r .from))))
     go false e = upward-about (le-of-not-lt (about-number r) zero-number e) (r .to)
+
+-- of one not below 0 from 0 on
+pub arcsine-up : {a : Float} → whole 0 ≼ a → InRange (whole 0) halfPi (arcsine a)
+unfolding arcsine
+arcsine-up {a} h =
+    let r = clamp-in minus-one-below zero-le-one h in
+    rw (not-below (r .from)) (between-range (upward-in (r .from) (r .to)))
 
 -- and from 0 to PI
 pub arccosine-range : {a : Float} → Number a → InRange (whole 0) pi (arccosine a)

@@ -7,8 +7,8 @@ use native.Mathlib.Nat.{mul-pos, mul-le-mul-left, zero-lt-suc}
 use native.Mathlib.Decide.{decLe}
 use lib.IntN.{ℤ, pos, negsuc, natAbs}
 use native.Mathlib.Omega.{arith}
-use lib.Dec.{T}
-use lib.Ieee.{Float, nan, inf, fin, binary64, up, down, round, mul, neg, lt, le, ofInt}
+use lib.Dec.{T, eqb}
+use lib.Ieee.{Float, nan, inf, fin, binary64, up, down, unlike, round, mul, div, neg, lt, le, ofInt}
 use lib.Ieee.Order.{round-mono}
 use lib.Ieee.Positive.{den, den-pos, positive}
 use lib.Ieee.Scale.{finite}
@@ -172,6 +172,12 @@ zero-minus : neg (whole 0) ≼ whole 0
 unfolding whole neg le
 zero-minus = record { holds = tt }
 
+-- a number about zero, or its opposite, is not negative
+turn : {c x : Float} → About c x → (b : Bool) → lt x (whole 0) ≡ b → Between c (cond b (neg x) x)
+turn {c} {x} r true e =
+    record { low = le-trans minus-zero (neg-le (lt→le {x = x} {y = whole 0} (record { holds = rw e tt }))); high = rw (neg-neg c) at (neg-le (r .from)) }
+turn r false e = record { low = le-of-not-lt (about-number r) zero-number e; high = r .to }
+
 module _ {a b h : Float} (fa : Finite a) (fb : Finite b) (top : a ⊗ b ≼ h) where
   mul-up : {x y : Float} → Between a x → Between b y → About h (x ⊗ y)
   mul-up p q =
@@ -179,12 +185,6 @@ module _ {a b h : Float} (fa : Finite a) (fb : Finite b) (top : a ⊗ b ≼ h) w
       let low = mul-nonneg (p .low) (q .low) n in
       let high = le-trans (mul-mono (p .low) (q .low) (p .high) (q .high) n (mul-number fa fb)) top in
       record { from = le-trans (neg-le (le-trans low high)) (le-trans zero-minus low); to = high }
-
-  -- a number about zero, or its opposite, is not negative
-  turn : {c x : Float} → About c x → (b : Bool) → lt x (whole 0) ≡ b → Between c (cond b (neg x) x)
-  turn {c} {x} r true e =
-      record { low = le-trans minus-zero (neg-le (lt→le {x = x} {y = whole 0} (record { holds = rw e tt }))); high = rw (neg-neg c) at (neg-le (r .from)) }
-  turn r false e = record { low = le-of-not-lt (about-number r) zero-number e; high = r .to }
 
   mul-by : {x y : Float} → Between a x → About b y → About h (x ⊗ y)
   mul-by {x} {y} p q = go (lt y (whole 0)) (turn q (lt y (whole 0)) refl)
@@ -285,6 +285,48 @@ div-by-in {l} {h} {a} {b} {c} {d} {x} {y} p q z t =
       from = le-trans (e .below) (le-trans (div-larger a y d (e .a-finite .holds) (fy .holds) (e .d-finite .holds) zero-a zero-y (q .to)) (div-mono zero-y (p .from) (div-number (e .a-finite) fy (positive-nonzero zero-y)) n));
       to = le-trans (le-trans (div-mono zero-y (p .to) n (div-number (e .b-finite) fy (positive-nonzero zero-y))) (div-larger b c y (e .b-finite .holds) (e .c-finite .holds) (fy .holds) (le-trans (le-trans zero-a (p .from)) (p .to)) zero-c (q .from))) (e .above);
     }
+
+-- by a divisor above zero, of what lies about zero
+div-turned : (x y : Float) → T (finite x) → T (finite y) → neg x ⊘ y ≡ neg (x ⊘ y)
+unfolding div neg
+div-turned nan y f g = absurd f
+div-turned (inf s) y f g = absurd f
+div-turned (fin s m e) nan f g = absurd g
+div-turned (fin s m e) (inf t) f g = absurd g
+div-turned (fin s m e) (fin t n d) f g = go s t (eqb n 0) (eqb m 0)
+  where
+    turned : (s : Bool) → round binary64 (not s) (m * up e * down d) (n * up d * down e) ≡ neg (round binary64 s (m * up e * down d) (n * up d * down e))
+    turned s = round-turned s (m * up e * down d) (n * up d * down e)
+
+    quotient : Bool → Bool → Bool → Bool → Float
+    quotient s t b c = cond b (cond c nan (inf (unlike s t))) (round binary64 (unlike s t) (m * up e * down d) (n * up d * down e))
+
+    go : (s t b c : Bool) → quotient (not s) t b c ≡ neg (quotient s t b c)
+    go s t true true = refl
+    go true true true false = refl
+    go true false true false = refl
+    go false true true false = refl
+    go false false true false = refl
+    go true true false c = turned false
+    go true false false c = turned true
+    go false true false c = turned true
+    go false false false c = turned false
+
+pub div-by-about : {h a c d x y : Float} → About a x → InRange c d y → T (le (whole 0) a && lt (whole 0) c) → T (holdsEnds (whole 0) a c d (neg h) (whole 0 ⊘ d) (a ⊘ c) h) → About h (x ⊘ y)
+div-by-about {h} {a} {c} {d} {x} {y} p q z t = go (lt x (whole 0)) (turn p (lt x (whole 0)) refl)
+  where
+    e : Ends (whole 0) a c d (neg h) (whole 0 ⊘ d) (a ⊘ c) h
+    e = ends (whole 0) a c d (neg h) (whole 0 ⊘ d) (a ⊘ c) h t
+
+    positive-start : T (le (whole 0) (whole 0) && lt (whole 0) c)
+    positive-start = unfold whole le in both-of (le (whole 0) a) (lt (whole 0) c) z .1
+
+    by : {w : Float} → Between a w → About h (w ⊘ y)
+    by b = let r = div-by-in {l = neg h} {h = h} (between-range b) q positive-start t in record { from = r .from; to = r .to }
+
+    go : (s : Bool) → Between a (cond s (neg x) x) → About h (x ⊘ y)
+    go true b = rw (neg-neg (x ⊘ y)) at (neg-about (rw (div-turned x y (about-finite (e .b-finite) p .holds) (in-finite (e .c-finite) (e .d-finite) q .holds)) at (by b)))
+    go false b = by b
 
 -- ---- a test for each step of a series, from 1 up to a count
 
