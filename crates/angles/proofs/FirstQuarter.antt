@@ -270,15 +270,18 @@ cosine-in {x} r = elim (place r) [ inl p ↦ near p | inr p ↦ far p ]
 -- ---- the sine is not below 0, and above it where the angle is
 
 -- from `out` to 1, for an angle from `low` on: the tests say that `low` is not below 0 and that `out` is at most 0.4 · low, and at most 0.4
-pub sine-in : (low out : Float) {x : Float} → T (le (whole 0) low && le quarterTurn quarterTurn)
+pub sine-in : (low out : Float) {x : Float} → T (le (whole 0) low)
     → T (holdsEnds low (whole 1) (whole 0) (whole 0) low (low ⊖ whole 0) (whole 1 ⊖ whole 0) (whole 1))
     → T (holdsEnds (decimal 4 1) (whole 1) low (whole 1) out (decimal 4 1 ⊗ low) (whole 1 ⊗ whole 1) (whole 1))
     → T (le (neg (whole 1)) out && le out (decimal 4 1))
     → InRange low quarterTurn x → InRange out (whole 1) (sine x)
 sine-in low out {x} start same product bounds q = elim (place r) [ inl p ↦ near p | inr p ↦ far p ]
   where
+    low-up : whole 0 ≼ low
+    low-up = record { holds = start }
+
     r : InRange (whole 0) quarterTurn x
-    r = widen q start
+    r = record { from = le-trans low-up (q .from); to = q .to }
 
     out-low : neg (whole 1) ≼ out
     out-low = record { holds = both-of (le (neg (whole 1)) out) (le out (decimal 4 1)) bounds .0 }
@@ -290,13 +293,13 @@ sine-in low out {x} start same product bounds q = elim (place r) [ inl p ↦ nea
     out-one = le-trans out-sum (record { holds = unfold whole decimal le in tt })
 
     zeros : T (le (whole 0) (decimal 4 1) && le (whole 0) low)
-    zeros = both-and (le (whole 0) (decimal 4 1)) (le (whole 0) low) (unfold whole decimal le in tt) (both-of (le (whole 0) low) (le quarterTurn quarterTurn) start .0)
+    zeros = both-and (le (whole 0) (decimal 4 1)) (le (whole 0) low) (unfold whole decimal le in tt) start
 
     near : Place x 0 (whole 0) (whole 1) → InRange out (whole 1) (sine x)
     near p =
         let y = remainder x (whole 0) in
         let rest : InRange low (whole 1) y = rest-near low same (record { from = q .from; to = p .range .to }) in
-        let up : InRange (whole 0) (whole 1) y = record { from = le-trans (record { holds = both-of (le (whole 0) low) (le quarterTurn quarterTurn) start .0 }) (rest .from); to = rest .to } in
+        let up : InRange (whole 0) (whole 1) y = record { from = le-trans low-up (rest .from); to = rest .to } in
         let s : InRange out (whole 1) (sineSum (y ⊗ y) ⊗ y) = mul-in (sine-sum-in (square-near up)) rest zeros product in
         rw (sine-near r p) (unfold sineSeries in clamp-in out-low out-one (s .from))
 

@@ -10,7 +10,7 @@ use Rattle.doubles.proofs.Intervals.{about, about-number, add-about, sub-about,
 use Rattle.angles.specs.declared.SinCos.{SinCos}
 use Rattle.arcsines.specs.Arcsine.{arccosine}
 use Rattle.arcsines.proofs.Range.{arccosine-range}
-use Rattle.sun.proofs.Range.{UnitRange}
+use Rattle.sun.proofs.Units.{UnitRange}
 use Rattle.irradiance.specs.Surface.{incidenceArgument, incidenceAngle}
 
 unit-product : {x y : Float} → About (whole 1) x → About (whole 1) y → About (whole 1) (x ⊗ y)

@@ -12,7 +12,8 @@ use Rattle.orientation.specs.Orientation.{orientation180}
 use Rattle.sun.specs.declared.site.Site.{Site}
 use Rattle.sun.specs.Site.{siteFine}
 use Rattle.sun.specs.Hour.{sinCosOf, hourOf}
-use Rattle.sun.proofs.Range.{UnitRange, unit-range, latitude-unit, declination-unit, sun-range}
+use Rattle.sun.proofs.Units.{UnitRange, unit-range}
+use Rattle.sun.proofs.Range.{latitude-unit, declination-unit, sun-range}
 use Rattle.irradiance.specs.Surface.{incidenceAngle}
 use Rattle.irradiance.proofs.Range.{incidence-range}
 use Rattle.simulation_time.specs.Timestep.{currentHour}

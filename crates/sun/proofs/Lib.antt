@@ -1,2 +1,4 @@
 pub mod HourParts
+pub mod Units
+pub mod ByAltitude
 pub mod Range

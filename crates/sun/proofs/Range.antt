@@ -1,8 +1,9 @@
 -- Where the sun's angles lie, for every accepted site and every hour of either year: the hour angle within 207 degrees, the altitude from
--- 0 to 90, and every sine and cosine of the hour from −1 to 1. So none of them is NaN. Assumes nothing.
+-- 0 to 90, every sine and cosine from −1 to 1; azimuth and air mass are finite. So none of them is NaN. Assumes nothing.
 use mathlib.Core.Path.{_≡_, refl}
+use mathlib.Core.Logic.{inl, inr}
 use mathlib.Core.Bool.{Bool, true, false, cond, _&&_}
-use Prim.Native.Nat.{ℕ, suc, _+_, _/_, _%_, _≤_, _<_}
+use Prim.Native.Nat.{ℕ, suc, _+_, _/_, _%_, _^_, _≤_, _<_}
 use native.Mathlib.Omega.{arith}
 use lib.Dec.{T, leb, leb→le}
 use lib.IntN.{ℤ, pos, negsuc, negℤ, natAbs}
@@ -27,21 +28,9 @@ use Rattle.orientation.specs.Orientation.{wrappedOnce}
 use Rattle.sun.specs.declared.site.Site.{Site}
 use Rattle.sun.specs.declared.hour.Hour.{Hour}
 use Rattle.sun.specs.Site.{siteFine}
-use Rattle.sun.specs.Hour.{sinCosOf, timeShift, solarTime, hourAngle, altitudeSine, isNight, cutAltitude, solarAltitude, solarZenith, hourOf}
-
--- ---- the sine and the cosine of an angle in degrees
-
-pub record UnitRange (x : SinCos) : Type 0 where
-  pub sin : About (whole 1) (x .sin)
-  pub cos : About (whole 1) (x .cos)
-
-pub radians-about : {degrees : Float} → About (whole 1000) degrees → About (whole 64) (toRadians degrees)
-unfolding toRadians whole decimal neg mul div le
-radians-about h = mul-about h (constant (decimal 175 4) (pi ⊘ whole 180) tt) tt
-
-pub unit-range : {degrees : Float} → About (whole 1000) degrees → UnitRange (sinCosOf degrees)
-unfolding sinCosOf
-unit-range h = record { sin = sine-range (radians-about h); cos = cosine-range (radians-about h) }
+use Rattle.sun.specs.Hour.{sinCosOf, timeShift, solarTime, hourAngle, altitudeSine, isNight, cutAltitude, solarAltitude, solarZenith, solarAzimuth, hourOf}
+use Rattle.sun.proofs.Units.{UnitRange, radians-about, unit-range}
+use Rattle.sun.proofs.ByAltitude.{Altitude, altitude-in, sine-up, sine-above, farAzimuth, azimuth-about, air-mass-in}
 
 -- ---- an angle shifted by 360 once
 
@@ -95,19 +84,17 @@ degrees-about : {x : Float} → About halfPi x → About (whole 90) (toDegrees x
 unfolding toDegrees halfPi whole decimal neg mul div le
 degrees-about h = mul-about h (constant (whole 180 ⊘ pi) (whole 180 ⊘ pi) tt) tt
 
-cut-range : {x : Float} → About (whole 90) x → InRange (whole 0) (whole 90) (cutAltitude x)
+-- night's is 0, and day's at least 0.0001
+cut-altitude : {x : Float} → About (whole 90) x → Altitude (cutAltitude x)
 unfolding cutAltitude isNight
-cut-range {x} r = go (lt x (decimal 1 4)) refl
+cut-altitude {x} r = go (lt x (decimal 1 4)) refl
   where
     least : Number (decimal 1 4)
     least = record { holds = unfold decimal isNan in tt }
 
-    above-zero : whole 0 ≼ decimal 1 4
-    above-zero = record { holds = unfold whole decimal le in tt }
-
-    go : (b : Bool) → lt x (decimal 1 4) ≡ b → InRange (whole 0) (whole 90) (cond b (whole 0) x)
-    go true e = record { from = le-refl zero-number; to = record { holds = unfold whole le in tt } }
-    go false e = record { from = le-trans above-zero (le-of-not-lt (about-number r) least e); to = r .to }
+    go : (b : Bool) → lt x (decimal 1 4) ≡ b → Altitude (cond b (whole 0) x)
+    go true e = inl refl
+    go false e = inr (record { from = le-of-not-lt (about-number r) least e; to = r .to })
 
 zenith-range : {altitude : Float} → InRange (whole 0) (whole 90) altitude → InRange (whole 0) (whole 90) (solarZenith altitude)
 unfolding solarZenith whole sub le isNan
@@ -115,23 +102,23 @@ zenith-range h =
     let right : InRange (whole 90) (whole 90) (whole 90) = own-range (record { holds = tt }) in
     sub-in right h tt
 
-record Quarter (degrees : Float) : Type 0 where
-  sin : About (whole 1) (sine (toRadians degrees))
-  cos : About (whole 1) (cosine (toRadians degrees))
-
-up-to-90 : {degrees : Float} → InRange (whole 0) (whole 90) degrees → Quarter degrees
+cos-zenith-about : {zenith : Float} → InRange (whole 0) (whole 90) zenith → About (whole 1) (cosine (toRadians zenith))
 unfolding whole neg le
-up-to-90 {degrees} h =
-    let wide : About (whole 1000) degrees = about h tt in
-    record { sin = sine-range (radians-about wide); cos = cosine-range (radians-about wide) }
+cos-zenith-about {zenith} h =
+    let wide : About (whole 1000) zenith = about h tt in
+    cosine-range (radians-about wide)
 
--- what is known of the sun of an hour
+-- What is known of the sun of an hour. Its azimuth may lie far beyond ±180, where it stands overhead; a sine of its altitude that is above 0
+-- is not too small to divide by.
 pub record SunRange (sun : Hour) : Type 0 where
   pub altitude : InRange (whole 0) (whole 90) (sun .altitude)
+  pub azimuth : About farAzimuth (sun .azimuth)
   pub zenith : InRange (whole 0) (whole 90) (sun .zenith)
   pub hour-angle : UnitRange (sun .«hour_angle»)
-  pub sin-altitude : About (whole 1) (sun .«sin_altitude»)
+  pub sin-altitude : InRange (whole 0) (whole 1) (sun .«sin_altitude»)
+  pub sin-above : whole 0 ≺ sun .«sin_altitude» → decimal 6 7 ≼ sun .«sin_altitude»
   pub cos-zenith : About (whole 1) (sun .«cos_zenith»)
+  pub air-mass : InRange (whole 0) (whole (10 ^ 6)) (sun .«air_mass»)
 
 -- ---- an accepted site
 
@@ -221,15 +208,25 @@ module _ (site : Site) (t : T (siteFine site)) where
     unfolding altitudeSine
     altitude-sine-about = sum-of-products (declination-unit .sin) (latitude-unit .sin) (declination-unit .cos) (latitude-unit .cos) (unfold sinCosOf in hour-angle-unit .cos)
 
+    supplement-unit : UnitRange (sinCosOf (whole 180 ⊖ hourAngle solar))
+    unfolding whole neg sub le
+    supplement-unit =
+        let wide : About (whole 1000) (whole 180 ⊖ hourAngle solar) = sub-about (constant (whole 180) (whole 180) tt) hour-angle-about tt in
+        unit-range wide
+
     pub sun-range : SunRange (hourOf site hour)
-    unfolding hourOf dayOf solarAltitude
+    unfolding hourOf dayOf solarAltitude solarAzimuth
     sun-range =
-        let altitude = cut-range (degrees-about (arcsine-range (about-number altitude-sine-about))) in
+        let known = cut-altitude (degrees-about (arcsine-range (about-number altitude-sine-about))) in
+        let altitude = altitude-in known in
         let zenith = zenith-range altitude in
         record {
           altitude = altitude;
+          azimuth = azimuth-about (sinCosOf (site .latitude)) declination-unit supplement-unit altitude;
           zenith = zenith;
           hour-angle = hour-angle-unit;
-          sin-altitude = up-to-90 altitude .sin;
-          cos-zenith = up-to-90 zenith .cos;
+          sin-altitude = sine-up altitude;
+          sin-above = sine-above known;
+          cos-zenith = cos-zenith-about zenith;
+          air-mass = air-mass-in altitude;
         }
