@@ -1,4 +1,5 @@
--- Where a day's values lie, for day numbers up to 366: the declination within 28 degrees, the equation of time within 16.3 minutes.
+-- Where a day's values lie, for day numbers up to 366: the declination within 28 degrees, the equation of time within 16.3 minutes,
+-- the extra-terrestrial radiation from 1300 to 1420 W/m².
 -- Every angle on the way is far within the 64 radians that a sine takes. Assumes nothing.
 use mathlib.Core.Path.{_≡_, refl}
 use mathlib.Core.Bool.{Bool, true, false, cond, _&&_}
@@ -7,15 +8,16 @@ use native.Mathlib.Nat.{lt-irrefl}
 use native.Mathlib.Omega.{arith}
 use lib.IntN.{pos, negsuc, natAbs}
 use lib.Dec.{T, leb, ltb, ltb→lt, nltb→le, nleb→lt}
-use lib.Ieee.{Float, nan, neg, binary64, ofInt, minus, add, sub, mul, div, lt, le}
+use lib.Ieee.{Float, nan, neg, binary64, ofInt, minus, add, sub, mul, div, lt, le, isNan}
 use lib.Ieee.Scale.{finite}
 use Rattle.doubles.specs.Arithmetic.{_⊕_, _⊖_, _⊗_, _⊘_, decimal, whole}
 use Rattle.doubles.specs.Functions.{pi, toRadians}
-use Rattle.doubles.specs.Order.{About}
-use Rattle.doubles.proofs.Intervals.{constant, whole-about, int-about, more-about, add-about, sub-about, mul-about}
+use Rattle.doubles.specs.Order.{InRange, About}
+use Rattle.doubles.proofs.Bounds.{one-number}
+use Rattle.doubles.proofs.Intervals.{own-range, add-in, mul-in, as-range, constant, whole-about, int-about, more-about, add-about, sub-about, mul-about}
 use Rattle.angles.specs.Sine.{sine, cosine}
 use Rattle.angles.proofs.Laws.{sine-range, cosine-range}
-use Rattle.days.specs.Day.{orbitDeviation, solarDeclination, daysFrom, equationOfTime}
+use Rattle.days.specs.Day.{orbitDeviation, solarDeclination, daysFrom, equationOfTime, extraTerrestrialRadiation}
 
 -- ---- declination
 
@@ -130,3 +132,14 @@ module _ (n : ℕ) (h : n ≤ 366) where
       go false false false true f p q r = fourth-range
       go false false false false true p q r = fifth-range (nltb→le n 336 (rw q tt))
       go false false false false false p q r = absurd (lt-irrefl n (omega (arith, nltb→le n 367 (rw r tt))))
+
+-- ---- extra-terrestrial radiation
+
+pub radiation-in : (n : ℕ) → n ≤ 366 → InRange (whole 1300) (whole 1420) (extraTerrestrialRadiation (orbitDeviation n))
+unfolding extraTerrestrialRadiation whole decimal neg add mul le isNan
+radiation-in n h =
+    let c = harmonics (deviation-about n h) .cosine-1 in
+    let swing : About (decimal 33 3) (decimal 33 3 ⊗ cosine (toRadians (orbitDeviation n))) = scaled (decimal 33 3) c tt tt in
+    let ratio : InRange (decimal 96 2) (decimal 1034 3) (whole 1 ⊕ decimal 33 3 ⊗ cosine (toRadians (orbitDeviation n))) = add-in (own-range one-number) (as-range swing) tt in
+    let constant-in : InRange (whole 1367) (whole 1367) (whole 1367) = own-range (record { holds = tt }) in
+    mul-in constant-in ratio tt tt
