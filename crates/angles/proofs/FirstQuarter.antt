@@ -1,8 +1,8 @@
 -- From 0 to a quarter turn, PI/2 as a double: a cosine is above 0, and a sine not below 0 and above it where its angle is. Assumes nothing.
-use mathlib.Core.Path.{_≡_, refl, sym, ap, _∙_}
+use mathlib.Core.Path.{_≡_, refl, ap, _∙_}
 use mathlib.Core.Logic.{_⊎_, inl, inr}
-use mathlib.Core.Bool.{Bool, true, false, cond, _&&_}
-use Prim.Native.Nat.{ℕ, zero, suc, _+_, _-_, _*_, _%_, _≤_, _<_}
+use mathlib.Core.Bool.{Bool, true, false, _&&_}
+use Prim.Native.Nat.{ℕ, zero, suc, _+_, _-_, _*_, _≤_, _<_}
 use native.Mathlib.Nat.{lt-irrefl}
 use native.Mathlib.Omega.{arith}
 use lib.Dec.{T}
@@ -10,15 +10,14 @@ use lib.Ieee.{Float, neg, add, sub, mul, div, lt, le, isNan, toUnsigned}
 use lib.Ieee.Bits.{is-true}
 use Rattle.doubles.specs.Arithmetic.{_⊕_, _⊖_, _⊗_, _⊘_, decimal, whole, bits}
 use Rattle.doubles.specs.Functions.{clamp}
-use Rattle.doubles.specs.Series.{horner}
 use Rattle.doubles.specs.Order.{_≼_, _≺_, InRange, About, Number, Finite}
-use Rattle.doubles.proofs.Order.{le-refl, le-trans, lt→le, lt-le-trans, left-number, right-number, le-of-not-lt, lt-of-not-le, neg-le, neg-neg}
+use Rattle.doubles.proofs.Order.{le-trans, lt→le, lt-le-trans, le-of-not-lt, neg-le, neg-neg}
 use Rattle.doubles.proofs.Bounds.{one-number}
 use Rattle.doubles.proofs.Casts.{cast-mono}
 use Rattle.doubles.proofs.Clamping.{clamp-in}
 use Rattle.doubles.proofs.Intervals.{holdsEnds, in-number, in-finite, own-range, mul-turned, square-turned, widen, add-in, sub-in, mul-in, div-in, about, tests, tested, horner-in}
 use Rattle.doubles.proofs.Ranges.{both-of}
-use Rattle.angles.specs.Sine.{isAngle, quarterTurns, quadrant, remainder, sineStep, cosineStep, sineSum, cosineSum, sineSeries, cosineSeries, sineAt, cosineAt, ofAngle, sine, cosine}
+use Rattle.angles.specs.Sine.{isAngle, quarterTurns, remainder, sineStep, cosineStep, sineSum, cosineSum, sineSeries, cosineSeries, sineAt, cosineAt, sine, cosine}
 use Rattle.angles.proofs.Turns.{floor-up, quadrant-up}
 use Rattle.angles.proofs.Reduction.{unfloored, unfloored-small, unfloored-fits}
 use Rattle.angles.proofs.Laws.{is-angle}

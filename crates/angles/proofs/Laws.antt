@@ -1,6 +1,6 @@
 -- Laws for those who use the functions: a sine or a cosine of an angle lies from −1 to 1, and is NaN just where there is no angle.
 use mathlib.Core.Path.{_≡_, refl}
-use mathlib.Core.Bool.{Bool, true, false, cond}
+use mathlib.Core.Bool.{Bool, true, false}
 use Prim.Native.Nat.{ℕ, zero, suc, _+_, _-_, _*_, _^_, _≤_, _<_}
 use native.Mathlib.Nat.{le-trans, mul-pos, mul-le-mul, zero-lt-suc}
 use native.Mathlib.Omega.{arith}
@@ -8,7 +8,7 @@ use lib.Dec.{T, lit≤}
 use lib.Ieee.Bits.{is-true}
 use lib.Ieee.{Float, nan, fin, binary64, neg, lt, le, eq, ofInt, toUnsigned, isNan, fits}
 use Rattle.doubles.specs.Arithmetic.{_⊖_, _⊗_, _⊘_, whole, bits}
-use Rattle.doubles.specs.Functions.{clamp, floorOf}
+use Rattle.doubles.specs.Functions.{floorOf}
 use Rattle.doubles.specs.Order.{About, Number}
 use Rattle.doubles.proofs.Clamping.{clamp-range}
 use Rattle.doubles.specs.Series.{horner}

@@ -6,16 +6,16 @@ use Prim.Native.Nat.{ℕ, suc, _+_, _-_, _*_, _^_, _<_}
 use lib.Dec.{T}
 use lib.Ieee.{Float, nan, add, sub, mul, div, neg, lt, le, isNan}
 use lib.Ieee.Scale.{finite}
-use Rattle.doubles.specs.Arithmetic.{_⊕_, _⊖_, _⊗_, _⊘_, decimal, whole}
+use Rattle.doubles.specs.Arithmetic.{_⊖_, _⊗_, _⊘_, decimal, whole}
 use Rattle.doubles.specs.Functions.{clamp, pi}
 use Rattle.doubles.specs.Series.{horner}
 use Rattle.doubles.specs.Order.{_≼_, _≺_, InRange, About, Number}
-use Rattle.doubles.proofs.Order.{le-refl, le-trans, lt→le, left-number, le-of-not-lt, lt-of-not-le, not-below, neg-le, neg-neg}
-use Rattle.doubles.proofs.Bounds.{zero-number, one-number, zero-le-one, mul-number, mul-nonneg}
+use Rattle.doubles.proofs.Order.{le-trans, lt→le, left-number, le-of-not-lt, lt-of-not-le, not-below, neg-le, neg-neg}
+use Rattle.doubles.proofs.Bounds.{zero-number, one-number, zero-le-one, mul-nonneg}
 use Rattle.doubles.proofs.Ranges.{Between, both-of}
 use Rattle.doubles.proofs.Clamping.{clamp-above, clamp-below, clamp-range, clamp-in}
 use Rattle.doubles.proofs.Intervals.{holdsEnds, in-number, own-range, between-range, widen, add-in, sub-in, about, as-range, about-number, neg-about, mul-about, div-about, tests, tested, horner-in}
-use Rattle.arcsines.specs.Arcsine.{arcsineStep, arcsineSeries, halfPi, complement, upToHalf, halfAngleSine, upwardBy, arcsineUpward, oddly, arcsine, arccosine}
+use Rattle.arcsines.specs.Arcsine.{arcsineStep, arcsineSeries, halfPi, complement, halfAngleSine, arcsineUpward, arcsine, arccosine}
 use Rattle.arcsines.proofs.Computed.{steps}
 use Rattle.arcsines.proofs.Inner.{half, quarter, half-angle-in}
 

@@ -8,7 +8,7 @@ use native.Mathlib.Nat.{lt-irrefl}
 use native.Mathlib.Omega.{arith}
 use lib.IntN.{pos, negsuc, natAbs}
 use lib.Dec.{T, leb, ltb, ltb→lt, nltb→le, nleb→lt}
-use lib.Ieee.{Float, nan, neg, binary64, ofInt, minus, add, sub, mul, div, lt, le, isNan}
+use lib.Ieee.{Float, nan, neg, minus, add, sub, mul, div, lt, le, isNan}
 use lib.Ieee.Scale.{finite}
 use Rattle.doubles.specs.Arithmetic.{_⊕_, _⊖_, _⊗_, _⊘_, decimal, whole}
 use Rattle.doubles.specs.Functions.{pi, toRadians}

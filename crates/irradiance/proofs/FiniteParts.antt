@@ -2,28 +2,25 @@
 -- ranges. (The bound is far from any value that is met; it says that nothing overflows and nothing is NaN.) Assumes nothing.
 use mathlib.Core.Path.{_≡_, refl}
 use mathlib.Core.Bool.{Bool, true, false, cond, _&&_}
-use mathlib.Core.List.{List, []}
-use Prim.Native.Nat.{ℕ, zero, suc, _+_, _-_, _*_, _^_, _≤_, _<_}
+use mathlib.Core.List.{[]}
+use Prim.Native.Nat.{ℕ, zero, suc, _-_, _*_, _^_, _<_}
 use native.Mathlib.Omega.{arith}
 use lib.Dec.{T}
 use lib.ListN.{getD}
 use lib.Ieee.{Float, nan, neg, add, sub, mul, div, lt, le, isNan}
 use Rattle.doubles.specs.Arithmetic.{_⊕_, _⊖_, _⊗_, _⊘_, decimal, whole, bits}
 use Rattle.doubles.specs.Functions.{maxOf2, pi}
-use Rattle.doubles.specs.Order.{_≼_, _≺_, InRange, About, Number}
-use Rattle.doubles.proofs.Order.{le-refl, le-trans, lt→le, le-of-not-lt}
+use Rattle.doubles.specs.Order.{_≼_, _≺_, InRange, About}
+use Rattle.doubles.proofs.Order.{le-refl, le-trans, le-of-not-lt}
 use Rattle.doubles.proofs.Bounds.{zero-number, one-number, zero-le-one}
 use Rattle.doubles.proofs.Folds.{max-left}
 use Rattle.doubles.proofs.MinMax.{max-least}
-use Rattle.doubles.proofs.Ranges.{both-of}
-use Rattle.doubles.proofs.Intervals.{in-number, own-range, widen, add-in, sub-in, mul-in, div-in, div-by-in, about, as-range, about-number, more-about, add-about, sub-about, mul-about, div-about, constant, tests, tested}
+use Rattle.doubles.proofs.Intervals.{in-number, own-range, widen, add-in, sub-in, mul-in, div-by-in, about, as-range, about-number, more-about, add-about, sub-about, mul-about, div-about, constant, tests, tested}
 use Rattle.angles.specs.declared.SinCos.{SinCos}
 use Rattle.sun.specs.declared.hour.Hour.{Hour}
 use Rattle.angles.proofs.Laws.{cosine-range}
 use Rattle.sun.proofs.Units.{UnitRange, radians-about}
 use Rattle.sun.proofs.Range.{SunRange}
-use Rattle.irradiance.specs.declared.sky.Sky.{Sky}
-use Rattle.irradiance.specs.declared.surface.Incidence.{Incidence}
 use Rattle.irradiance.specs.declared.parts.Irradiance.{Irradiance}
 use Rattle.irradiance.specs.Table.{coefficients, coefficientsAt, tableRow}
 use Rattle.irradiance.specs.Sky.{directBeam, clearness, skyBrightness, brightnessOf, brightnessIn, brightness, cutBrightness, circumsolarBrightness, horizontalBrightness, skyOf}
@@ -140,7 +137,7 @@ ratio-in {c} {z} p q =
     let number-85 = in-number cosine-85-in in
     let seen : InRange (whole 0) (whole 1) (maxOf2 (whole 0) c) = record { from = max-left zero-number (about-number p); to = max-least zero-le-one (p .to) } in
     let flat : InRange (decimal 87 3) (whole 1) (maxOf2 (cosineOfDegrees (whole 85)) z) =
-        record { from = le-trans (cosine-85-in .from) (max-left number-85 (about-number q)); to = max-least (cosine-85-in .to) (q .to) } in
+    record { from = le-trans (cosine-85-in .from) (max-left number-85 (about-number q)); to = max-least (cosine-85-in .to) (q .to) } in
     quotient seen flat
   where
     quotient : {x y : Float} → InRange (whole 0) (whole 1) x → InRange (decimal 87 3) (whole 1) y → InRange (whole 0) (whole 12) (x ⊘ y)

@@ -1,6 +1,5 @@
 -- Where the angle of incidence lies: from 0 to 180 degrees, whatever the sines and cosines from −1 to 1 are that it comes of. So it is
 -- never NaN. Assumes nothing.
-use lib.Dec.{T}
 use lib.Ieee.{Float, neg, add, sub, mul, div, le}
 use Rattle.doubles.specs.Arithmetic.{_⊕_, _⊖_, _⊗_, _⊘_, whole}
 use Rattle.doubles.specs.Functions.{toDegrees, pi}
@@ -8,7 +7,6 @@ use Rattle.doubles.specs.Order.{_≼_, InRange, About}
 use Rattle.doubles.proofs.Bounds.{mul-nonneg}
 use Rattle.doubles.proofs.Intervals.{about, about-number, add-about, sub-about, mul-about, constant}
 use Rattle.angles.specs.declared.SinCos.{SinCos}
-use Rattle.arcsines.specs.Arcsine.{arccosine}
 use Rattle.arcsines.proofs.Range.{arccosine-range}
 use Rattle.sun.proofs.Units.{UnitRange}
 use Rattle.irradiance.specs.Surface.{incidenceArgument, incidenceAngle}

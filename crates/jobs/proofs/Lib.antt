@@ -1,11 +1,11 @@
 -- `TwoJobs` has the claim on two jobs compared. `RunLaws` says what a run leaves, `RowStores` how a row is read back, `StepRows` what a
 -- step's row has, `PassedChecks` what an accepted job has, `ObjectLists` what the words of two jobs' lists say of their records, `Sums`
--- that sums keep the order. `EveryHour` says that every hour's angles are numbers.
+-- that sums keep the order. `EveryHour` says that every hour's values are numbers.
 pub mod RowStores
 pub mod StepRows
 pub mod PassedChecks
 pub mod RunLaws
 pub mod Sums
 pub mod ObjectLists
-pub mod TwoJobs
 pub mod EveryHour
+pub mod TwoJobs

@@ -11,9 +11,9 @@ use lib.Ieee.{Float}
 use lib.Ieee.Bits.{is-true}
 use lib.Ieee.Fits.{and-l, and-r}
 use Rattle.doubles.specs.Arithmetic.{whole}
-use Rattle.doubles.specs.Order.{_≼_}
+use Rattle.doubles.specs.Order.{InRange}
 use Rattle.doubles.specs.Ranges.{within}
-use Rattle.doubles.proofs.Ranges.{within-range}
+use Rattle.doubles.proofs.Ranges.{both-of, within-range}
 use Rattle.words.specs.Words.{wordCount}
 use Rattle.sun.specs.Site.{siteFine, hoursInYear}
 use Rattle.simulation_time.specs.Steps.{runFine, stepCount, timeAt, times, atAll}
@@ -28,6 +28,7 @@ use Rattle.objects.specs.Records.{windowObjectsOf}
 use Rattle.shading_laws.specs.Premises.{AcceptedSurface, AcceptedNear}
 use Rattle.object_checks.proofs.Accepted.{height-range, width-range}
 use Rattle.object_checks.proofs.AcceptedWindow.{window-in-range}
+use Rattle.weather.specs.declared.Reading.{Reading}
 use Rattle.weather.specs.Weather.{readingFine}
 use Rattle.jobs.specs.declared.answers.Checked.{Checked}
 use Rattle.jobs.specs.declared.answers.Checked.the-variants.{Steps, Refused}
@@ -97,6 +98,26 @@ all-pass test [] i d t h = absurd (omega arith)
 all-pass test (x ∷ xs) zero d t h = and-l (test x) (atAll test xs) t
 all-pass test (x ∷ xs) (suc i) d t h = all-pass test xs i d (and-r (test x) (atAll test xs) t) (omega arith)
 
+-- the values of an accepted reading
+pub record ReadingRange (r : Reading) : Type 0 where
+  pub diffuse : InRange (whole 0) (whole 10000) (r .diffuse)
+  pub direct : InRange (whole 0) (whole 10000) (r .direct)
+  pub reflectivity : InRange (whole 0) (whole 1) (r .reflectivity)
+
+pub accepted-reading : (r : Reading) → T (readingFine r) → ReadingRange r
+unfolding readingFine
+accepted-reading r t =
+    let a = within (whole 0) (whole 10000) (r .diffuse) in
+    let b = within (whole 0) (whole 10000) (r .direct) in
+    let c = within (whole 0) (whole 1) (r .reflectivity) in
+    let p = both-of (a && b) c t in
+    let q = both-of a b (p .0) in
+    record {
+      diffuse = within-range (whole 0) (whole 10000) (r .diffuse) (q .0);
+      direct = within-range (whole 0) (whole 10000) (r .direct) (q .1);
+      reflectivity = within-range (whole 0) (whole 1) (r .reflectivity) (p .1);
+    }
+
 module _ {job : Job} {results : List ℕ} (p : Passed job results) where
   -- there is room for every row
   pub room : 6 * stepCount (job .run) ≤ wordCount results
@@ -108,14 +129,9 @@ module _ {job : Job} {results : List ℕ} (p : Passed job results) where
       subst (λ (time : Float). T (readingFine (readingAt job time))) (times-at (job .run) i (whole 0) h)
       (all-pass (λ (time : Float). readingFine (readingAt job time)) (times (job .run)) i (whole 0) (p .readings-fine) (rw times-length h))
 
-  -- no diffuse value that a step uses is negative
-  pub diffuse-nonneg : (i : ℕ) → i < stepCount (job .run) → whole 0 ≼ readingAt job (timeAt (job .run) i) .diffuse
-  unfolding readingFine
-  diffuse-nonneg i h =
-      let r = readingAt job (timeAt (job .run) i) in
-      let a = within (whole 0) (whole 10000) (r .diffuse) in
-      let b = within (whole 0) (whole 10000) (r .direct) in
-      within-range (whole 0) (whole 10000) (r .diffuse) (and-l a b (and-l (a && b) (within (whole 0) (whole 1) (r .reflectivity)) (reading-fine i h))) .from
+  -- the values that a step uses are in their ranges
+  pub reading-range : (i : ℕ) → i < stepCount (job .run) → ReadingRange (readingAt job (timeAt (job .run) i))
+  reading-range i h = accepted-reading (readingAt job (timeAt (job .run) i)) (reading-fine i h)
 
   -- every step's hour is one of a leap year's
   pub hour-below : (i : ℕ) → i < stepCount (job .run) → currentHour (timeAt (job .run) i) < 8784

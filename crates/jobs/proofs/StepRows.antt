@@ -1,5 +1,5 @@
--- What a step's row has: its six doubles are those of the sun, the irradiance and the factor, and all are doubles of binary64. Its
--- direct value, where it is a number, is not negative. Assumes nothing.
+-- What a step's row has: its six doubles are those of the sun, the irradiance and the factor, and all are doubles of binary64.
+-- Assumes nothing.
 use mathlib.Core.Path.{_≡_, refl, sym, ap, _∙_, subst}
 use mathlib.Core.Bool.{Bool, true, false, cond, _&&_}
 use lib.Dec.{T}
@@ -7,14 +7,13 @@ use lib.Ieee.{Float, binary64, lt, le, fits}
 use lib.Ieee.Fits.{neg-fits, add-fits, sub-fits, mul-fits}
 use Rattle.doubles.specs.Arithmetic.{_⊕_, _⊘_, whole}
 use Rattle.doubles.specs.Functions.{toDegrees, pi}
-use Rattle.doubles.specs.Order.{_≼_, Number, Fits}
+use Rattle.doubles.specs.Order.{Fits}
 use Rattle.angles.specs.declared.SinCos.{SinCos}
 use Rattle.sun.specs.declared.site.Site.{Site}
 use Rattle.sun.specs.declared.hour.Hour.{Hour}
 use Rattle.sun.specs.Hour.{isNight, cutAltitude, solarAltitude, azimuthBranch, azimuthFrom, solarAzimuth, hourOf}
 use Rattle.irradiance.specs.declared.parts.Irradiance.{Irradiance}
 use Rattle.irradiance.specs.Parts.{irradianceOf}
-use Rattle.irradiance.proofs.NotNegative.{direct-not-negative}
 use Rattle.objects.specs.declared.answers.Refusal.{Refusal}
 use Rattle.objects.specs.declared.surface.Surface.{Surface}
 use Rattle.objects.specs.declared.answers.FactorAnswer.{FactorAnswer}
@@ -135,11 +134,6 @@ module _ (site : Site) (time : Float) where
     unfolding irradianceAt irradianceOf
     total-fits = record { holds = add-fits binary64 _ _ }
 
-    -- where it is a number, it is not negative
-    direct-nonneg : whole 0 ≼ reading .diffuse → Number (irradianceAt site surface time reading .direct) → whole 0 ≼ irradianceAt site surface time reading .direct
-    unfolding irradianceAt
-    direct-nonneg = direct-not-negative _ _ _ _ _ _ _ _ _ _ _
-
 -- every row that a step gives
 module _ {job : Job} {time : Float} {row : Row} (r : StepRow job time row) where
   pub row-fits : RowFits row
@@ -152,9 +146,3 @@ module _ {job : Job} {time : Float} {row : Row} (r : StepRow job time row) where
     total = subst Fits (sym (r .total)) (total-fits (job .site) time (job .surface) (readingAt job time));
     factor = answer-fits (job .surface) (sunAt (job .site) time .altitude) (sunAt (job .site) time .azimuth) (sectorsOf (job .sectors)) (windowObjectsOf (job .window)) (row .factor) (r .factor);
   }
-
-  -- the direct value is not negative, where the diffuse reading is not
-  pub row-direct-nonneg : whole 0 ≼ readingAt job time .diffuse → Number (row .direct) → whole 0 ≼ row .direct
-  row-direct-nonneg h n =
-      subst (λ (x : Float). whole 0 ≼ x) (sym (r .direct))
-      (direct-nonneg (job .site) time (job .surface) (readingAt job time) h (subst Number (r .direct) n))

@@ -5,8 +5,9 @@ use mathlib.Core.List.{List, []}
 use Prim.Native.Nat.{ℕ, zero, suc, _<_}
 use lib.Ieee.{Float}
 use Rattle.doubles.specs.Arithmetic.{_⊕_, _⊗_, whole}
-use Rattle.doubles.specs.Order.{_≼_, Finite}
-use Rattle.doubles.proofs.Order.{finite-number}
+use Rattle.doubles.specs.Order.{_≼_, InRange, Finite, Fits}
+use Rattle.doubles.proofs.Intervals.{in-finite}
+use Rattle.irradiance.proofs.FiniteParts.{mostIrradiance}
 use Rattle.words.specs.Words.{doubleAt}
 use Rattle.sun.specs.declared.site.Site.{Site}
 use Rattle.simulation_time.specs.Steps.{stepCount, timeAt}
@@ -25,9 +26,10 @@ use Rattle.weather.specs.Weather.{readSeries}
 use Rattle.jobs.specs.Job.{Job, indexAt, readingAt}
 use Rattle.jobs.specs.Step.{sunAt, irradianceAt, shadingAt}
 use Rattle.jobs.specs.Run.{Ran, withRow, countFor, sumFor}
-use Rattle.jobs.specs.Comparison.{factorAt, directAt, countOf, sumOf, unshadedSum, SameSeries, Alike, BoundedAlike, HoldsAll, SameObjects, NoObjects, NoNan, Doubles, FiniteDirect, Lawful, NoLarger, Compared, TwoJobsCompared}
-use Rattle.jobs.proofs.StepRows.{StepRow, step-row, row-fits, row-direct-nonneg}
-use Rattle.jobs.proofs.PassedChecks.{diffuse-nonneg, surface-accepted, near-accepted}
+use Rattle.jobs.specs.Comparison.{factorAt, directAt, countOf, sumOf, unshadedSum, SameSeries, Alike, BoundedAlike, HoldsAll, SameObjects, NoObjects, NoNan, Doubles, Lawful, NoLarger, Compared, TwoJobsCompared}
+use Rattle.jobs.proofs.StepRows.{StepRow, step-row, row-fits}
+use Rattle.jobs.proofs.PassedChecks.{surface-accepted, near-accepted}
+use Rattle.jobs.proofs.EveryHour.{step-irradiance}
 use Rattle.jobs.proofs.RunLaws.{rowAt, sumTo, done, AcceptedRun, accepted-run, done-rows}
 use Rattle.doubles.proofs.Exact.{one-times}
 use Rattle.jobs.proofs.Sums.{total, total-same, total-nonneg, total-mono, Part, Amount, part-nonneg, part-mono, part-le}
@@ -80,6 +82,10 @@ module _ {job : Job} {results : List ℕ} (a : AcceptedRun job results) where
 
 -- ---- one run
 
+irradiance-finite : {x : Float} → InRange (whole 0) mostIrradiance x → Finite x
+unfolding whole
+irradiance-finite r = in-finite (record { holds = tt }) (record { holds = tt }) r
+
 module _ {job : Job} {results : List ℕ} (a : AcceptedRun job results) (d : Doubles (job .surface)) (n : NoNan job) where
   part : (i : ℕ) → i < stepCount (job .run) → Part (rowAt job i .factor)
   part i h = record {
@@ -96,14 +102,11 @@ module _ {job : Job} {results : List ℕ} (a : AcceptedRun job results) (d : Dou
       (subst (λ (ws : List WindowShadingObject). shadingFactor (job .surface) (sun .altitude) (sun .azimuth) (sectorsOf (job .sectors)) ws ≡ Factor (rowAt job i .factor))
       (no-window (job .window) (o .at-window)) (factor-answer a i h))
 
-  amount : FiniteDirect (done job results) → (i : ℕ) → i < stepCount (job .run) → Amount (rowAt job i .direct)
-  amount f i h =
-      let finite : Finite (rowAt job i .direct) = subst Finite (direct-is a i h) (f i (rw (count-is a) h)) in
-      record {
-        finite = finite;
-        low = row-direct-nonneg (row-of a i h) (diffuse-nonneg (a .checks) i h) (finite-number finite);
-        fits = row-fits (row-of a i h) .direct;
-      }
+  -- its direct value is finite and not negative
+  amount : (i : ℕ) → i < stepCount (job .run) → Amount (rowAt job i .direct)
+  amount i h =
+      let range = step-irradiance (a .checks) i h .direct in
+      subst Amount (sym (row-of a i h .direct)) (record { finite = irradiance-finite range; low = range .from; fits = subst Fits (row-of a i h .direct) (row-fits (row-of a i h) .direct) })
 
   -- the unshaded sum is that of the rows' direct values
   unshaded-done : unshadedSum (done job results) (stepCount (job .run)) ≡ total (λ (i : ℕ). rowAt job i .direct) (stepCount (job .run))
@@ -111,13 +114,13 @@ module _ {job : Job} {results : List ℕ} (a : AcceptedRun job results) (d : Dou
       unshaded-is (done job results) (stepCount (job .run))
       ∙ total-same (directAt (done job results)) (λ (i : ℕ). rowAt job i .direct) (stepCount (job .run)) (direct-is a)
 
-  shaded-nonneg : FiniteDirect (done job results) → (i : ℕ) → i < stepCount (job .run) → whole 0 ≼ shaded job i
+  shaded-nonneg : (i : ℕ) → i < stepCount (job .run) → whole 0 ≼ shaded job i
   unfolding shaded
-  shaded-nonneg f i h = part-nonneg (part i h) (amount f i h)
+  shaded-nonneg i h = part-nonneg (part i h) (amount i h)
 
-  shaded-le : FiniteDirect (done job results) → (i : ℕ) → i < stepCount (job .run) → shaded job i ≼ rowAt job i .direct
+  shaded-le : (i : ℕ) → i < stepCount (job .run) → shaded job i ≼ rowAt job i .direct
   unfolding shaded
-  shaded-le f i h = part-le (part i h) (amount f i h)
+  shaded-le i h = part-le (part i h) (amount i h)
 
   shaded-one : NoObjects job → (i : ℕ) → i < stepCount (job .run) → shaded job i ≡ rowAt job i .direct
   unfolding shaded
@@ -132,8 +135,9 @@ module _ {job : Job} {results : List ℕ} (a : AcceptedRun job results) (d : Dou
         factor-from = λ i h. rw (factor-is a i h) (part i h .low);
         factor-to = λ i h. rw (factor-is a i h) (part i h .high);
         factor-one = λ o i h. factor-is a i h ∙ one o i h;
-        sum-from = λ f. rw (sum-done a) (total-nonneg (shaded job) n (shaded-nonneg f));
-        sum-to = λ f. rw (sum-done a, unshaded-done) (total-mono (shaded job) (λ (i : ℕ). rowAt job i .direct) n (shaded-nonneg f) (shaded-le f));
+        direct-finite = λ i h. rw (direct-is a i h) (amount i h .finite);
+        sum-from = rw (sum-done a) (total-nonneg (shaded job) n shaded-nonneg);
+        sum-to = rw (sum-done a, unshaded-done) (total-mono (shaded job) (λ (i : ℕ). rowAt job i .direct) n shaded-nonneg shaded-le);
         sum-unshaded = λ o. sum-done a ∙ total-same (shaded job) (λ (i : ℕ). rowAt job i .direct) n (shaded-one o) ∙ sym unshaded-done;
       }
 
@@ -209,17 +213,17 @@ module _ {j k : Job} {r s : List ℕ} (l : Alike j k) (a : AcceptedRun j r) (b :
       of-first : {i : ℕ} → i < stepCount (k .run) → i < stepCount (j .run)
       of-first h = rw counts-alike h
 
-      shaded-more : FiniteDirect (done k s) → (i : ℕ) → i < stepCount (k .run) → shaded k i ≼ shaded j i
+      shaded-more : (i : ℕ) → i < stepCount (k .run) → shaded k i ≼ shaded j i
       unfolding shaded
-      shaded-more f i h =
-          rw (directs-alike i (of-first h)) (part-mono (part a d n i (of-first h)) (part b second-doubles m i h) (amount b second-doubles m f i h) (factors-more o i (of-first h)))
+      shaded-more i h =
+          rw (directs-alike i (of-first h)) (part-mono (part a d n i (of-first h)) (part b second-doubles m i h) (amount b second-doubles m i h) (factors-more o i (of-first h)))
 
       -- more objects: nowhere larger
       no-larger : NoLarger (done k s) (done j r)
       unfolding countOf countFor done
       no-larger = record {
         factors = λ i h. rw (factor-is b i h, factor-is a i (of-first h)) (factors-more o i (of-first h));
-        sums = λ f. rw (sum-done a, sum-done b, counts-alike) (total-mono (shaded k) (shaded j) (stepCount (k .run)) (shaded-nonneg b second-doubles m f) (shaded-more f));
+        sums = rw (sum-done a, sum-done b, counts-alike) (total-mono (shaded k) (shaded j) (stepCount (k .run)) (shaded-nonneg b second-doubles m) shaded-more);
       }
 
 -- alike and bounded alike, the other way round

@@ -2,7 +2,7 @@
 -- their sums. It speaks of what the runs leave: doubles in the results lists, and the answers.
 use mathlib.Core.Path.{_≡_}
 use mathlib.Core.List.{List, [], _∷_}
-use Prim.Native.Nat.{ℕ, zero, suc, _+_, _*_, _/_, _<_}
+use Prim.Native.Nat.{ℕ, zero, suc, _+_, _*_, _<_}
 use lib.Ieee.{Float}
 use Rattle.doubles.specs.Arithmetic.{_⊕_, whole}
 use Rattle.doubles.specs.Order.{_≼_, _≈_, Finite, Fits}
@@ -102,27 +102,25 @@ pub record Doubles (surface : Surface) : Type 0 where
   pub height-fits : Fits (surface .height)
   pub width-fits : Fits (surface .width)
 
--- every direct value is finite
-abbrev pub FiniteDirect : Ran → Type 0
-FiniteDirect left = (i : ℕ) → i < countOf left → Finite (directAt left i)
-
 -- ---- the claim
 
 -- Of each run: it has the iterator's steps; every factor lies from 0 to 1, and the sum from 0 to that of the direct values; with no
--- objects every factor is 1 and the sum is that sum, bit for bit.
+-- objects every factor is 1 and the sum is that sum, bit for bit. (The specification asks for the laws of sums where every direct value is
+-- finite: they all are.)
 pub record Lawful (job : Job) (left : Ran) : Type 0 where
   pub count : countOf left ≡ stepCount (job .run)
   pub factor-from : (i : ℕ) → i < countOf left → whole 0 ≼ factorAt left i
   pub factor-to : (i : ℕ) → i < countOf left → factorAt left i ≼ whole 1
   pub factor-one : NoObjects job → (i : ℕ) → i < countOf left → factorAt left i ≡ whole 1
-  pub sum-from : FiniteDirect left → whole 0 ≼ sumOf left
-  pub sum-to : FiniteDirect left → sumOf left ≼ unshadedSum left (countOf left)
+  pub direct-finite : (i : ℕ) → i < countOf left → Finite (directAt left i)
+  pub sum-from : whole 0 ≼ sumOf left
+  pub sum-to : sumOf left ≼ unshadedSum left (countOf left)
   pub sum-unshaded : NoObjects job → sumOf left ≡ unshadedSum left (countOf left)
 
--- one run nowhere larger than another: no factor is, nor, where every direct value is finite, the sum
+-- one run nowhere larger than another: no factor is, nor the sum
 pub record NoLarger (a b : Ran) : Type 0 where
   pub factors : (i : ℕ) → i < countOf a → factorAt a i ≼ factorAt b i
-  pub sums : FiniteDirect a → sumOf a ≼ sumOf b
+  pub sums : sumOf a ≼ sumOf b
 
 -- Of both: as many steps and the same direct values; the same objects, in any order and number, give the same factors and the same
 -- sum, bit for bit; more objects never give a larger factor or sum, whichever of the two has them.

@@ -1,18 +1,17 @@
 -- Where the power lies: of a number from 3 to 14 from 10⁻⁵ to 1000, so that it is never NaN, 0 or infinite there. Assumes nothing.
 use mathlib.Core.Path.{_≡_, refl}
 use mathlib.Core.Bool.{Bool, true, false, cond, _&&_}
-use Prim.Native.Nat.{ℕ, zero, suc, _+_, _*_, _^_, _<_}
+use Prim.Native.Nat.{ℕ, suc, _+_, _*_, _^_, _<_}
 use lib.Dec.{T}
-use lib.Ieee.{Float, nan, neg, add, sub, mul, div, lt, le, isNan}
+use lib.Ieee.{Float, neg, add, sub, mul, div, lt, le, isNan}
 use lib.Ieee.Bits.{is-true}
-use lib.Ieee.Scale.{finite}
 use Rattle.doubles.specs.Arithmetic.{_⊕_, _⊖_, _⊗_, _⊘_, decimal, whole, bits}
 use Rattle.doubles.specs.Series.{horner}
-use Rattle.doubles.specs.Order.{_≼_, InRange, About, Number}
+use Rattle.doubles.specs.Order.{InRange, About, Number}
 use Rattle.doubles.proofs.Order.{lt→le, le-of-not-lt}
 use Rattle.doubles.proofs.Bounds.{one-number}
 use Rattle.doubles.proofs.Ranges.{both-of}
-use Rattle.doubles.proofs.Intervals.{holdsEnds, in-number, own-range, widen, add-in, sub-in, mul-in, div-in, about, as-range, more-about, add-about, mul-about, div-about, div-by-about, constant, tests, tested, horner-in}
+use Rattle.doubles.proofs.Intervals.{holdsEnds, in-number, own-range, widen, add-in, sub-in, mul-in, div-in, about, as-range, add-about, mul-about, div-about, div-by-about, constant, tests, tested, horner-in}
 use Rattle.powers.specs.Power.{logarithmStep, logarithmOf, exponentialStep, square, powerOf, powerBy, powMinus1253}
 
 -- ---- the logarithm's series: every bracket lies within 1.1

@@ -4,16 +4,15 @@ use mathlib.Core.Path.{_≡_, refl}
 use mathlib.Core.Logic.{_⊎_, inl, inr}
 use mathlib.Core.Bool.{Bool, true, false, cond, _&&_}
 use Prim.Native.Nat.{_*_, _^_}
-use lib.Dec.{T}
 use lib.Ieee.{Float, neg, add, sub, mul, div, lt, le, isNan}
 use Rattle.doubles.specs.Arithmetic.{_⊕_, _⊖_, _⊗_, _⊘_, decimal, whole, bits}
 use Rattle.doubles.specs.Functions.{toRadians, toDegrees, pi}
 use Rattle.doubles.specs.Order.{_≼_, _≺_, InRange, About, Number}
-use Rattle.doubles.proofs.Order.{le-refl, le-trans, lt→le, lt-excludes, le-of-not-lt, lt-of-not-le}
+use Rattle.doubles.proofs.Order.{lt→le, lt-excludes, lt-of-not-le}
 use Rattle.doubles.proofs.Bounds.{zero-number, one-number}
-use Rattle.doubles.proofs.Intervals.{in-number, own-range, widen, add-in, sub-in, mul-in, div-by-in, about, about-number, neg-about, more-about, add-about, sub-about, mul-about, div-by-about, constant}
+use Rattle.doubles.proofs.Intervals.{in-number, own-range, widen, add-in, mul-in, div-by-in, about-number, neg-about, more-about, add-about, sub-about, mul-about, div-by-about, constant}
 use Rattle.angles.specs.declared.SinCos.{SinCos}
-use Rattle.angles.specs.Sine.{sine, cosine}
+use Rattle.angles.specs.Sine.{sine}
 use Rattle.angles.proofs.Computed.{steps}
 use Rattle.angles.proofs.FirstQuarter.{quarterTurn, sine-in, cosine-in}
 use Rattle.arcsines.specs.Arcsine.{halfPi, arcsine}

@@ -3,24 +3,22 @@
 use mathlib.Core.Path.{_≡_, refl}
 use mathlib.Core.Logic.{inl, inr}
 use mathlib.Core.Bool.{Bool, true, false, cond, _&&_}
-use Prim.Native.Nat.{ℕ, suc, _+_, _/_, _%_, _^_, _≤_, _<_}
+use Prim.Native.Nat.{ℕ, _+_, _/_, _%_, _^_, _≤_, _<_}
 use native.Mathlib.Omega.{arith}
 use lib.Dec.{T, leb, leb→le}
 use lib.IntN.{ℤ, pos, negsuc, negℤ, natAbs}
 use lib.Signed.{leZ}
-use lib.Ieee.{Float, neg, binary64, ofInt, add, sub, mul, div, lt, le, isNan}
+use lib.Ieee.{Float, neg, add, sub, mul, div, lt, le, isNan}
 use Rattle.doubles.specs.Arithmetic.{_⊕_, _⊖_, _⊗_, _⊘_, decimal, whole}
 use Rattle.doubles.specs.Functions.{toRadians, toDegrees, pi}
 use Rattle.doubles.specs.Order.{_≼_, _≺_, InRange, About, Number}
 use Rattle.doubles.specs.Ranges.{within}
-use Rattle.doubles.proofs.Order.{le-refl, lt→le, le-of-not-lt, le-trans}
-use Rattle.doubles.proofs.Bounds.{zero-number}
+use Rattle.doubles.proofs.Order.{lt→le, le-of-not-lt}
 use Rattle.doubles.proofs.Ranges.{both-of, within-range}
-use Rattle.doubles.proofs.Intervals.{in-number, own-range, widen, add-in, sub-in, about, as-range, about-number, more-about, add-about, sub-about, mul-about, div-about, constant, whole-le, int-about}
-use Rattle.angles.specs.declared.SinCos.{SinCos}
+use Rattle.doubles.proofs.Intervals.{own-range, add-in, sub-in, about, as-range, about-number, more-about, add-about, sub-about, mul-about, div-about, constant, whole-le, int-about}
 use Rattle.angles.specs.Sine.{sine, cosine}
-use Rattle.angles.proofs.Laws.{sine-range, cosine-range}
-use Rattle.arcsines.specs.Arcsine.{halfPi, arcsine}
+use Rattle.angles.proofs.Laws.{cosine-range}
+use Rattle.arcsines.specs.Arcsine.{halfPi}
 use Rattle.arcsines.proofs.Range.{arcsine-range}
 use Rattle.days.specs.Day.{orbitDeviation, solarDeclination, equationOfTime, dayOf}
 use Rattle.days.proofs.Range.{declination-about, equation-about}

@@ -1,7 +1,7 @@
 -- The claim on two jobs compared is about something: three jobs of two steps, at noon and one on the first of January. `bare` has no
 -- objects; `built` has a distant obstacle, a distant overhang and an overhang at the window; `mixed` has these in another order and
 -- some twice, and its sector starts at −0.0. All premises are met, computed by the checker from the definitions.
-use mathlib.Core.Path.{_≡_, refl, sym, _∙_, subst}
+use mathlib.Core.Path.{_≡_, refl, sym, subst}
 use mathlib.Core.Logic.{inl, inr}
 use mathlib.Core.Bool.{Bool, true, false, not, _&&_}
 use mathlib.Core.List.{List, [], _∷_, _++_, List·Memᴰ, List·Memᴰ·head, List·Memᴰ·tail, List·Memᴰ·not-nil, List·Memᴰ·cases-cons}
@@ -14,19 +14,15 @@ use lib.Ieee.{Float, add, sub, mul, div, neg, lt, le, eq, ne, isNan, fits, toUns
 use lib.Ieee.Fits.{and-l, and-r}
 use Rattle.doubles.specs.Arithmetic.{_⊕_, whole, decimal, bits}
 use Rattle.doubles.specs.Functions.{clamp, floorOf, cubeOf, toRadians, toDegrees, minOf2, maxOf2, floatMin, floatMax, largestOf}
-use Rattle.doubles.specs.Order.{_≼_, _≈_, Number, Finite}
+use Rattle.doubles.specs.Order.{_≼_, _≈_, Number}
 use Rattle.doubles.specs.Ranges.{within, aboveZero}
 use Rattle.angles.specs.Sine.{isAngle, quarterTurns, quadrant, remainder, sineSum, cosineSum, sineSeries, cosineSeries, sineAt, cosineAt, sine, cosine, tangent}
-use Rattle.arcsines.specs.Arcsine.{arcsineSeries, halfPi, arcsineUpward, arcsine, arccosine}
+use Rattle.arcsines.specs.Arcsine.{arcsineSeries, halfPi, arcsineUpward, arcsine}
 use Rattle.powers.specs.Power.{logarithmOf, powerOf, powerBy, powMinus1253}
 use Rattle.words.specs.Words.{number, wordCount, wordAt, doubleAt}
 use Rattle.days.specs.Day.{orbitDeviation, solarDeclination, equationOfTime, extraTerrestrialRadiation, dayOf}
 use Rattle.sun.specs.Hour.{sinCosOf, timeShift, solarTime, hourAngle, altitudeSine, cutAltitude, solarAltitude, solarZenith, azimuthDenominator, solarAzimuth, airMass, hourOf}
 use Rattle.sun.specs.Site.{siteFine, hoursInYear}
-use Rattle.irradiance.specs.Surface.{incidenceArgument, incidenceAngle, cosineOfDegrees, aOverB, incidenceBy, incidenceOf}
-use Rattle.irradiance.specs.Table.{limits, firstAbove, tableRow, coefficients, coefficientsAt}
-use Rattle.irradiance.specs.Sky.{directBeam, altitudeTerm, clearness, skyBrightness, brightnessOf, brightnessIn, brightness, cutBrightness, circumsolarBrightness, horizontalBrightness, skyOf}
-use Rattle.irradiance.specs.Parts.{directIrradiance, skyIrradiance, circumsolarIrradiance, horizontalIrradiance, groundReflection, irradianceOf}
 use Rattle.orientation.specs.Orientation.{orientation180, wrappedOnce}
 use Rattle.simulation_time.specs.Steps.{runFine, goesOn, stepsFrom, stepCount, timeAt, timesFrom, times, atAll}
 use Rattle.simulation_time.specs.Timestep.{currentHour, seriesIndex}
@@ -48,15 +44,14 @@ use Rattle.shading.specs.Factor.{extents, sunOn, nearObstacleHeight, obstacleEx
 use Rattle.shading_laws.specs.Premises.{AllNumbers, NoNanExtent, Holds}
 use Rattle.jobs.specs.declared.answers.Checked.the-variants as check
 use Rattle.weather.specs.Weather.{inSeries, readSeries, readingFine}
-use Rattle.jobs.specs.Job.{Job, indexAt, readingAt}
+use Rattle.jobs.specs.Job.{Job}
 use Rattle.jobs.specs.JobChecks.{indicesFine, readingsFine, resultsFine, tried, checked}
-use Rattle.jobs.specs.Step.{sunAt, irradianceAt, shadingAt, rowWith, stepWith, stepAt}
-use Rattle.jobs.specs.Run.{numberFor, countFor, onRow, runFrom, runChecked, runOf}
-use Rattle.jobs.specs.Comparison.{countOf, sumOf, SameSeries, Alike, triple, sectorObjects, windowObject, windowObjects, HoldsAll, SameObjects, NoNan, Doubles, FiniteDirect, IsAccepted, Comparable}
+use Rattle.jobs.specs.Step.{sunAt, shadingAt, rowWith, stepWith, stepAt}
+use Rattle.jobs.specs.Run.{numberFor, onRow, runFrom, runChecked, runOf}
+use Rattle.jobs.specs.Comparison.{sumOf, SameSeries, Alike, triple, sectorObjects, windowObject, windowObjects, HoldsAll, SameObjects, NoNan, Doubles, IsAccepted, Comparable}
 use Rattle.segments.proofs.SameWalks.{found-has}
 use Rattle.shading_laws.proofs.Members.{extents-into}
-use Rattle.jobs.proofs.RunLaws.{done, accepted-run}
-use Rattle.jobs.proofs.TwoJobs.{direct-is, row-of, two-jobs-compared}
+use Rattle.jobs.proofs.TwoJobs.{two-jobs-compared}
 
 -- ---- the jobs
 
@@ -160,12 +155,6 @@ unfolding sun within90 outsideSolarBeam obstacleHeight overhangHeight windowOver
     kindNumber ofKind sunOn obstacleExtents overhangExtents windowOverhangExtents rightFinExtents leftFinExtents overhangShade sunlitBetween sunlitHeight sunlitWidth sunlitPart leastOf
     reductionFactor hasReveal counted factorIn shadingFactor shadingAt
 shade = 0
-
-sky : ℕ
-unfolding sun arccosine incidenceArgument incidenceAngle cosineOfDegrees aOverB incidenceBy incidenceOf directBeam altitudeTerm clearness skyBrightness limits firstAbove tableRow coefficients coefficientsAt
-    brightnessOf brightnessIn brightness cutBrightness circumsolarBrightness horizontalBrightness skyOf directIrradiance skyIrradiance circumsolarIrradiance horizontalIrradiance
-    groundReflection irradianceOf irradianceAt indexAt readingAt readSeries seriesIndex
-sky = 0
 
 -- ---- they are accepted
 
@@ -374,31 +363,11 @@ same = record {
   };
 }
 
--- ---- every direct value is finite
-
-directThen : Job → ℕ → Float
-directThen job i = let time = timeAt (job .run) i in irradianceAt (job .site) (job .surface) time (readingAt job time) .direct
-
-finite-direct : (job : Job) → IsAccepted (runOf job room) → stepCount (job .run) ≡ 2 → Finite (directThen job 0) → Finite (directThen job 1) → FiniteDirect (runOf job room)
-unfolding countOf countFor done directThen
-finite-direct job a c f g =
-    let run = accepted-run job room a in
-    subst FiniteDirect (sym (run .comes-to)) (λ i h. subst Finite (sym (direct-is run i h ∙ row-of run i h .direct)) (each i (omega (arith, c))))
-  where
-    each : (i : ℕ) → i < 2 → Finite (directThen job i)
-    each zero h = f
-    each (suc zero) h = g
-    each (suc (suc i)) h = absurd (omega arith)
-
-built-finite : FiniteDirect (runOf built room)
-unfolding checks sky directThen
-built-finite = finite-direct built built-accepted refl (record { holds = tt }) (record { holds = tt })
-
 -- ---- so the claim speaks of them
 
 -- the objects make no factor and no sum larger
 no-larger : sumOf (runOf built room) ≼ sumOf (runOf bare room)
-no-larger = two-jobs-compared bare built room room bare-built .second-more more .sums built-finite
+no-larger = two-jobs-compared bare built room room bare-built .second-more more .sums
 
 -- their order and number is all one
 same-sum : sumOf (runOf built room) ≡ sumOf (runOf mixed room)
