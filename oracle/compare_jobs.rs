@@ -94,12 +94,13 @@ fn run(arguments: &Arguments) -> Outcome {
         .jobs
         .unwrap_or((settings.count * 3).div_ceil(1000));
     println!("seed {}, {jobs} random jobs", settings.seed);
-    let (edges, walks) = (jobs::edges::edges(), jobs::edges::walks());
+    let (edges, walks) = (jobs::edges::all(), jobs::edges::walks());
     let plan = Plan {
         edges: &edges,
         walks: &walks,
         jobs,
         years: YEARS,
+        aimed: Plan::aimed_for(edges.len() + walks.len() + YEARS),
         compared: true,
         laws: &LAWS,
     };
