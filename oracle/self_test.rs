@@ -396,6 +396,10 @@ fn rules(settings: &Settings) -> Outcome {
     must(
         settings.report("NaN", With::PlainForm, only_nan).is_err(),
         "a comparison of NaN alone must be an error",
+    )?;
+    must(
+        irradiance::nan_is_told(settings),
+        "a NaN in an hour in range must be an error",
     )
 }
 

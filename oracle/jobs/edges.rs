@@ -402,10 +402,34 @@ pub fn walks() -> Vec<Job> {
     jobs
 }
 
+/// A bad reading at the first step, and a series that ends before the last: the series is told, as 5
+/// is tried of all steps before 6. Each list with each.
+fn bad_reading_then_short_series() -> Vec<Job> {
+    let mut maker = Maker::new(Random::new(1, "bad reading, short series"));
+    let mut jobs = vec![];
+    for plain in plain_jobs(&mut maker) {
+        for lists in 0..9 {
+            let (bad, short) = (lists % 3, lists / 3);
+            let mut job = plain.clone();
+            (job.site.series_step, job.site.start_day) = (1.0, 10);
+            job.times = [245.0, 250.0, 1.0];
+            maker.fit(&mut job);
+            let steps = steps_of(&job.site, &job.times);
+            let (first, last) = (steps[0].index, steps[steps.len() - 1].index);
+            let at = 8 * first;
+            job.series[bad][at..at + 8].copy_from_slice(&f64::NAN.to_le_bytes());
+            job.series[short].truncate(8 * last);
+            jobs.push(job);
+        }
+    }
+    jobs
+}
+
 /// All that are tried one by one.
 pub fn all() -> Vec<Job> {
     let mut jobs = edges();
     jobs.extend(under_the_sun());
+    jobs.extend(bad_reading_then_short_series());
     jobs
 }
 

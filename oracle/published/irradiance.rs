@@ -545,6 +545,15 @@ impl Met {
     }
 }
 
+/// Whether a NaN in the answer of an input in range is told, for the self-test.
+pub fn nan_is_told(settings: &Settings) -> bool {
+    let input = SQUARE.doubles();
+    let mut answer = hour_by(rust::hour, input);
+    answer.diffuse = f64::NAN;
+    let met = Met::default().with(&input, true, (&answer, Beyond::default()));
+    matches!(met.report(settings), Err(words) if words.starts_with("hour: NaN"))
+}
+
 /// The answer of a function behind the C interface.
 fn hour_by(function: HourCall, input: [f64; 10]) -> ProbeHour {
     let [latitude, longitude, zone, hour, conversion, tilt, orientation, d, b, r] = input;
