@@ -4,8 +4,8 @@
 //!     compare_jobs [--seed N] [--count N] [--jobs N]   compares; stops at the first difference
 //!     compare_jobs --self-test [--seed N]              shows that the comparison can fail
 //!
-//! A count of 1,000,000 means 3,000 random jobs, beside those at the edges and some whole years, and
-//! 5,000,000 calls of the factor.
+//! A count of 1,000,000 means 3,000 random jobs, beside those at the edges, short ones aimed at the
+//! sun and some whole years, and 5,000,000 calls of the factor.
 //!
 //! Exit status: 0 no difference; 1 a difference, or a comparison of nothing; 2 bad usage; 3 an
 //! access outside a buffer. `oracle/run` builds this program and runs it both ways.
@@ -94,12 +94,13 @@ fn run(arguments: &Arguments) -> Outcome {
         .jobs
         .unwrap_or((settings.count * 3).div_ceil(1000));
     println!("seed {}, {jobs} random jobs", settings.seed);
-    let (edges, walks) = (jobs::edges::edges(), jobs::edges::walks());
+    let (edges, walks) = (jobs::edges::all(), jobs::edges::walks());
     let plan = Plan {
         edges: &edges,
         walks: &walks,
         jobs,
         years: YEARS,
+        aimed: Plan::aimed_for(edges.len() + walks.len() + YEARS),
         compared: true,
         laws: &LAWS,
     };

@@ -4,6 +4,7 @@ use crate::comparison::{compare, Outcome, Settings, With};
 use crate::probes::{OneDouble, Probes, TwoDoubles};
 use crate::random::{chief_edges, edges, power_of_two, ulps_from, Random};
 use crate::stand_ins;
+use std::cell::Cell;
 
 /// Where a function's useful inputs lie.
 #[derive(Clone, Copy)]
@@ -15,6 +16,8 @@ enum Useful {
     Squares,
     /// A double whose root lies next to the half between two doubles: the hardest to round.
     RootHalves,
+    /// 1 or −1, or one of their neighbours, as a sum of products rounds to.
+    AboutOne,
 }
 use Useful::*;
 
@@ -31,6 +34,10 @@ impl Useful {
             Squares => {
                 let root = random.any_size();
                 ulps_from(root * root, random.below(5) as i64 - 2)
+            }
+            AboutOne => {
+                let one = [1.0, -1.0][random.below(2)];
+                ulps_from(one, random.below(33) as i64 - 16)
             }
             RootHalves => {
                 let (square, j) = next_to_a_half(random);
@@ -165,7 +172,13 @@ fn each_of_one(probes: &Probes) -> Vec<(&'static str, Vec<Useful>, fn(f64) -> f6
     let cubes = vec![Between(0.0, 1.6), Between(-10.0, 10.0)];
     let degrees = vec![Between(0.0, 360.0), Between(-360.0, 360.0)];
     let turns = TURNS.to_vec();
-    let ratios = vec![Between(-1.0, 1.0), Between(0.49, 0.51), Between(0.999, 1.0)];
+    let ratios = vec![
+        Between(-1.0, 1.0),
+        Between(0.49, 0.51),
+        Between(0.999, 1.001),
+        Between(-1.001, -0.999),
+        AboutOne,
+    ];
     let roots = vec![Between(0.0, 1.0), Between(0.0, 0.25), Squares, RootHalves];
     let powers = vec![
         Between(3.0, 14.0),
@@ -200,16 +213,61 @@ fn each_of_one(probes: &Probes) -> Vec<(&'static str, Vec<Useful>, fn(f64) -> f6
     ]
 }
 
+/// How many of the arguments compared lay where an arcsine takes them as 1, as −1, and not at all.
+#[derive(Clone, Copy, Default)]
+struct Ends {
+    above: u64,
+    below: u64,
+    infinite: u64,
+    nan: u64,
+}
+
+impl Ends {
+    fn note(ends: &Cell<Ends>, x: f64) {
+        let mut met = ends.get();
+        met.above += (x > 1.0) as u64;
+        met.below += (x < -1.0) as u64;
+        met.infinite += x.is_infinite() as u64;
+        met.nan += x.is_nan() as u64;
+        ends.set(met);
+    }
+
+    /// Prints them for an arcsine and an arccosine; none of a kind is an error.
+    fn report(self, settings: &Settings, name: &str) -> Outcome {
+        let counts = [
+            ("above 1", self.above),
+            ("below -1", self.below),
+            ("infinite", self.infinite),
+            ("NaN", self.nan),
+        ];
+        for (what, count) in counts {
+            if count == 0 {
+                return Err(format!("{name}: no argument was {what}"));
+            }
+            settings.detail(&format!("{name}, argument {what}"), count);
+        }
+        Ok(())
+    }
+}
+
 fn of_one(settings: &Settings, probes: &Probes, edges: &[f64]) -> Outcome {
     for (name, useful, rust, rattle) in each_of_one(probes) {
         let mut random = settings.random(name);
+        let ends = Cell::new(Ends::default());
         let inputs = doubles(&mut random, edges, &useful, settings.count).map(|x| [x]);
-        let tally = compare(name, inputs, |[x]| [rust(x)], |[x]| [unsafe { rattle(x) }])?;
+        let right = |[x]: [f64; 1]| {
+            Ends::note(&ends, x);
+            [rust(x)]
+        };
+        let tally = compare(name, inputs, right, |[x]| [unsafe { rattle(x) }])?;
         let with = match name == WHOLE_NUMBER_ROOT {
             true => With::PlainForm,
             false => With::StandIn,
         };
         settings.report(name, with, tally)?;
+        if name == "asin" || name == "acos" {
+            ends.get().report(settings, name)?;
+        }
     }
     Ok(())
 }

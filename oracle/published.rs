@@ -11,6 +11,8 @@ use std::sync::{Arc, OnceLock};
 include!(env!("ORACLE_PUBLISHED_ITEMS"));
 
 // The paths are written out, so that the benchmark can have this module too, from its own folder.
+#[path = "published/beyond.rs"]
+pub mod beyond;
 #[path = "published/conditions.rs"]
 pub mod conditions;
 #[path = "published/interface.rs"]

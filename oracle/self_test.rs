@@ -215,9 +215,51 @@ extern "C" fn arcsine_with_half_above(a: f64) -> f64 {
 extern "C" fn arcsine_without_minus_zero(a: f64) -> f64 {
     stand_ins::asin(a) + 0.0
 }
-extern "C" fn arccosine_clamped(a: f64) -> f64 {
-    if a > 1.0 && a < 1.0000001 {
-        0.0
+extern "C" fn arcsine_nan_above_1(a: f64) -> f64 {
+    if a > 1.0 {
+        f64::NAN
+    } else {
+        stand_ins::asin(a)
+    }
+}
+extern "C" fn arcsine_nan_below_minus_1(a: f64) -> f64 {
+    if a < -1.0 {
+        f64::NAN
+    } else {
+        stand_ins::asin(a)
+    }
+}
+extern "C" fn arcsine_of_minus_1_on_both_sides(a: f64) -> f64 {
+    stand_ins::asin(if a > 1.0 { -1.0 } else { a })
+}
+extern "C" fn arcsine_of_a_nan_as_of_1(a: f64) -> f64 {
+    stand_ins::asin(if a.is_nan() { 1.0 } else { a })
+}
+extern "C" fn arcsine_nan_at_infinity(a: f64) -> f64 {
+    if a.is_infinite() {
+        f64::NAN
+    } else {
+        stand_ins::asin(a)
+    }
+}
+extern "C" fn arccosine_nan_beyond_1(a: f64) -> f64 {
+    if a.abs() > 1.0 {
+        f64::NAN
+    } else {
+        stand_ins::acos(a)
+    }
+}
+extern "C" fn arccosine_clamped_nearby_alone(a: f64) -> f64 {
+    // what rounding can do to a sum is put right, and nothing further off
+    if a.abs() > 1.0000001 {
+        f64::NAN
+    } else {
+        stand_ins::acos(a)
+    }
+}
+extern "C" fn arccosine_minus_zero_above_1(a: f64) -> f64 {
+    if a > 1.0 {
+        -0.0
     } else {
         stand_ins::acos(a)
     }
@@ -284,7 +326,14 @@ fn numbers_and_words() -> Vec<Wrong> {
         tan: tangent_one_step_off,
         asin: arcsine_with_half_above,
         asin: arcsine_without_minus_zero,
-        acos: arccosine_clamped,
+        asin: arcsine_nan_above_1,
+        asin: arcsine_nan_below_minus_1,
+        asin: arcsine_of_minus_1_on_both_sides,
+        asin: arcsine_of_a_nan_as_of_1,
+        asin: arcsine_nan_at_infinity,
+        acos: arccosine_nan_beyond_1,
+        acos: arccosine_clamped_nearby_alone,
+        acos: arccosine_minus_zero_above_1,
         pow_minus_1_253: power_with_a_moved_bound,
         word_count: count_with_part_words,
         word_at: word_highest_first,
@@ -347,6 +396,10 @@ fn rules(settings: &Settings) -> Outcome {
     must(
         settings.report("NaN", With::PlainForm, only_nan).is_err(),
         "a comparison of NaN alone must be an error",
+    )?;
+    must(
+        irradiance::nan_is_told(settings),
+        "a NaN in an hour in range must be an error",
     )
 }
 

@@ -4,6 +4,7 @@
 //! comparison compute by the same formulas. Each operation is one operation on doubles, rounded
 //! once, in the order of the text; Rust neither reorders them nor contracts a multiply and an add.
 
+use std::cell::Cell;
 use std::f64::consts::PI;
 
 // ---------------------------------------------------------------------------------------------
@@ -149,7 +150,7 @@ pub fn tan(a: f64) -> f64 {
     sine / cosine
 }
 
-/// "Results clamp to −1..1."
+/// "Results clamp to −1..1", and so does what an arcsine is asked of.
 fn clamp(x: f64) -> f64 {
     if x < -1.0 {
         -1.0
@@ -169,11 +170,13 @@ fn whole(n: i32) -> f64 {
 // Arcsine, arccosine, root
 // ---------------------------------------------------------------------------------------------
 
-/// "NaN beyond ±1 and for NaN; odd for a below 0." −0.0 is not below 0, and a·h keeps its sign.
+/// "Any number above 1 as 1 and below −1 as −1; NaN remains NaN" (request No. 5); "odd for a below
+/// 0." −0.0 is not below 0, and a·h keeps its sign.
 pub fn asin(a: f64) -> f64 {
-    if !(-1.0 <= a && a <= 1.0) {
+    if a.is_nan() {
         return f64::NAN;
     }
+    let a = clamp(a);
     if a < 0.0 {
         return -asin(-a);
     }
@@ -190,7 +193,7 @@ pub fn asin(a: f64) -> f64 {
     }
 }
 
-/// "Arccosine is PI/2 − arcsine."
+/// "Arccosine is PI/2 − arcsine": of any number above 1 it is 0, of any below −1 it is PI.
 pub fn acos(a: f64) -> f64 {
     PI / 2.0 - asin(a)
 }
@@ -273,6 +276,40 @@ pub fn pow_minus_1_253_scaled(u: f64, m: i32) -> f64 {
 }
 
 // ---------------------------------------------------------------------------------------------
+// What the published Rust asks of them beyond ±1
+// ---------------------------------------------------------------------------------------------
+
+/// Whether an arcsine and an arccosine were asked of a number above 1, and of one below −1.
+#[derive(Clone, Copy, Default)]
+pub struct Beyond {
+    pub arcsine_above: bool,
+    pub arcsine_below: bool,
+    pub arccosine_above: bool,
+    pub arccosine_below: bool,
+}
+
+thread_local! {
+    static BEYOND: Cell<Beyond> = Cell::default();
+}
+
+/// What a call gives, and what the published Rust asked beyond ±1 in the course of it.
+pub fn beyond_in<T>(call: impl FnOnce() -> T) -> (T, Beyond) {
+    let before = BEYOND.take();
+    let answer = call();
+    (answer, BEYOND.replace(before))
+}
+
+/// Notes an argument beyond ±1; there are few of them.
+#[cold]
+fn note(note: fn(&mut Beyond)) {
+    BEYOND.with(|cell| {
+        let mut beyond = cell.get();
+        note(&mut beyond);
+        cell.set(beyond);
+    });
+}
+
+// ---------------------------------------------------------------------------------------------
 // The names under which the published Rust calls them
 // ---------------------------------------------------------------------------------------------
 
@@ -303,9 +340,19 @@ impl StandIns for f64 {
         tan(self)
     }
     fn stand_in_asin(self) -> f64 {
+        if self > 1.0 {
+            note(|beyond| beyond.arcsine_above = true);
+        } else if self < -1.0 {
+            note(|beyond| beyond.arcsine_below = true);
+        }
         asin(self)
     }
     fn stand_in_acos(self) -> f64 {
+        if self > 1.0 {
+            note(|beyond| beyond.arccosine_above = true);
+        } else if self < -1.0 {
+            note(|beyond| beyond.arccosine_below = true);
+        }
         acos(self)
     }
     fn stand_in_floor(self) -> f64 {

@@ -12,8 +12,41 @@ const MOST_WORDS: usize = 36_000;
 /// No list is longer than this.
 pub const MOST_BYTES: usize = 8 * ROW * MOST_WORDS;
 
+/// How jobs are aimed at the sun of one of their steps.
+#[derive(Clone, Copy, PartialEq)]
+pub enum Aims {
+    /// One in eight, square on the glass, overhead or about another bound.
+    Seldom,
+    /// This one, square on the glass or overhead, for the most part with a sum above 1.
+    Squarely,
+    /// This one, square on its back or under the site, for the most part with a sum below −1.
+    FromBehind,
+}
+
+/// A job's hour at which the sun is, and what of the job has to stay for it.
+#[derive(Clone, Copy, PartialEq)]
+struct Target {
+    aims: Aims,
+    hour: u32,
+    /// Latitude, longitude, tilt, orientation.
+    bits: [u64; 4],
+}
+
+impl Target {
+    fn of(aims: Aims, site: &JobSite, surface: &Surface, hour: u32) -> Target {
+        let doubles = [site.latitude, site.longitude, surface[0], surface[1]];
+        Target {
+            aims,
+            hour,
+            bits: doubles.map(f64::to_bits),
+        }
+    }
+}
+
 pub struct Maker {
     pub random: Random,
+    pub aims: Aims,
+    target: Option<Target>,
     judge: Judge,
     /// Words of any kind, few of them readings, for entries that no step uses.
     junk: Vec<u8>,
@@ -57,6 +90,8 @@ impl Maker {
         let judge = Judge::new();
         Maker {
             random,
+            aims: Aims::Seldom,
+            target: None,
             judge,
             junk,
         }
@@ -277,7 +312,10 @@ impl Maker {
         let steps = steps_of(&site, &times);
         let sun = self.sun_of(&site, &steps);
         let mut numbers = self.any_numbers(sun);
-        if !steps.is_empty() && self.random.below(8) == 0 {
+        self.target = None;
+        if self.aims != Aims::Seldom {
+            self.aim_squarely(&mut site, &mut numbers, &steps);
+        } else if !steps.is_empty() && self.random.below(8) == 0 {
             let hour = steps[self.random.below(steps.len())].hour.min(8783);
             let surface = (&mut numbers[2..]).try_into().unwrap();
             aim(&mut self.random, &mut site, surface, hour);
@@ -296,10 +334,76 @@ impl Maker {
         job
     }
 
+    /// One of the steps, for the most part one with a high sun.
+    fn sunny_step(&mut self, site: &JobSite, steps: &[Step]) -> Option<Step> {
+        let mut best: Option<(f64, Step)> = None;
+        for _ in 0..3 {
+            let step = *steps.get(self.random.below(steps.len().max(1)))?;
+            let (altitude, _) = self.sun_of(site, &[step]);
+            if best.is_none_or(|(highest, _)| altitude > highest) {
+                best = Some((altitude, step));
+            }
+        }
+        best.map(|(_, step)| step)
+    }
+
+    /// Aims at the sun of one of the steps, and has the objects aimed by that sun too.
+    fn aim_squarely(&mut self, site: &mut JobSite, numbers: &mut Numbers, steps: &[Step]) {
+        let Some(step) = self.sunny_step(site, steps) else {
+            return;
+        };
+        let hour = step.hour.min(8783);
+        let mut surface: Surface = numbers[2..].try_into().unwrap();
+        let from_behind = self.aims == Aims::FromBehind;
+        if !aim_squarely(&mut self.random, site, &mut surface, hour, from_behind) {
+            return;
+        }
+        let sun = self.judge.hour(site, &surface, hour, [0.0; 3]);
+        numbers[..2].copy_from_slice(&sun[..2]);
+        numbers[2..].copy_from_slice(&surface);
+        self.target = Some(Target::of(self.aims, site, &surface, hour));
+    }
+
+    /// Where the last job made was aimed, if that is this job and its aim is as it was.
+    fn target_of(&self, job: &Job) -> Option<Target> {
+        let target = self.target?;
+        let same = Target::of(target.aims, &job.site, &job.surface, target.hour) == target;
+        let steps = steps_if_any(&job.site, &job.times);
+        let there = steps.iter().any(|step| step.hour == target.hour);
+        (same && there).then_some(target)
+    }
+
+    /// The hour at which the sun is square on the glass of the last job made, or overhead.
+    pub fn aimed_hour(&self, job: &Job) -> Option<u32> {
+        let target = self.target_of(job)?;
+        (target.aims == Aims::Squarely).then_some(target.hour)
+    }
+
+    /// A short job in range that is aimed so.
+    pub fn aimed_job(&mut self, aims: Aims, most_steps: usize) -> Job {
+        self.aims = aims;
+        self.aimed(|maker, site| {
+            let hours = if site.leap_year == 1 { 8784 } else { 8760 };
+            let start = maker.random.below(hours - most_steps) as f64;
+            let length = 1 + maker.random.below(most_steps);
+            [start, start + length as f64, 1.0]
+        })
+    }
+
     pub fn sound_job(&mut self) -> Job {
-        let site = self.any_site();
-        let times = self.any_times(site.leap_year);
-        self.job_at(site, times)
+        self.aimed(|maker, site| maker.any_times(site.leap_year))
+    }
+
+    /// A job with such times, as often as it takes until it is aimed where it has to be.
+    fn aimed(&mut self, times: impl Fn(&mut Maker, &JobSite) -> Times) -> Job {
+        loop {
+            let site = self.any_site();
+            let times = times(self, &site);
+            let job = self.job_at(site, times);
+            if self.aims == Aims::Seldom || self.target.is_some() {
+                return job;
+            }
+        }
     }
 
     /// A job of a whole year; the first two in quarter hours.
@@ -554,7 +658,7 @@ impl Maker {
     }
 
     /// The call of one of a job's steps, where it has any, for the most part with room for all of
-    /// its doubles.
+    /// its doubles. Of a job that is aimed it is the step that it is aimed at.
     pub fn single_of(&mut self, job: &Job, doubles: usize) -> Single {
         let mut single = self.sound_single_of(job, doubles);
         self.single_damaged(&mut single, doubles);
@@ -564,7 +668,11 @@ impl Maker {
     /// The same with room for all of them.
     pub fn sound_single_of(&mut self, job: &Job, doubles: usize) -> Single {
         let steps = steps_if_any(&job.site, &job.times);
-        let step = steps.get(self.random.below(steps.len().max(1)));
+        let aimed = self.target_of(job).map(|target| target.hour);
+        let step = match steps.iter().find(|step| Some(step.hour) == aimed) {
+            Some(step) => Some(step),
+            None => steps.get(self.random.below(steps.len().max(1))),
+        };
         let readings = self.readings_of(job, step);
         let time = step.map_or(job.times[0], |step| step.time);
         let more = match self.random.below(4) {

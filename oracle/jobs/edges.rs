@@ -1,6 +1,6 @@
 //! Jobs at the edges, one by one.
 
-use super::cases::Maker;
+use super::cases::{Aims, Maker};
 use crate::published::jobs::*;
 use crate::published::shading::{
     Numbers, MOST_SECTORS, MOST_WINDOW_OBJECTS, ORIENTATION, SECTOR_WORDS, WINDOW_WORDS,
@@ -296,9 +296,9 @@ fn minus_zero_products(jobs: &mut Vec<Job>, job: &Job) {
     jobs.push(other);
 }
 
-/// The sun square on the glass, where direct is NaN, and overhead, where the altitude is; among
-/// other steps, and by itself.
-fn nan_rows(jobs: &mut Vec<Job>, job: &Job, maker: &mut Maker) {
+/// The sun square on the glass, where the incidence's sum is above 1, and overhead, where the
+/// altitude's is; among other steps, and by itself.
+fn square_and_overhead(jobs: &mut Vec<Job>, job: &Job, maker: &mut Maker) {
     for (latitude, longitude, hour) in [(-8.067087, 8.26, 11.0), (-7.854071, 10.648195, 1427.0)] {
         for (before, after) in [(0.0, 1.0), (2.0, 1.0), (1.0, 3.0)] {
             let mut other = job.clone();
@@ -315,6 +315,43 @@ fn nan_rows(jobs: &mut Vec<Job>, job: &Job, maker: &mut Maker) {
             jobs.push(other);
         }
     }
+}
+
+/// Sites and hours at which the altitude's sum is above 1, one of them with an azimuth above 180: so
+/// that the sectors are walked along where the surface faces that way, and no sector, a gap or a
+/// turned sector is told; by itself and after other steps. Then hours with a sum below −1. Not part
+/// of `edges`, whose jobs are those from which the answers that are kept are chosen.
+pub fn under_the_sun() -> Vec<Job> {
+    let mut maker = Maker::new(Random::new(1, "jobs under the sun"));
+    let plain = plain_jobs(&mut maker).swap_remove(0);
+    let sites = [
+        (0xC035_6F7D_494F_4469, 0x4038_B0A3_D70A_3D6D, 322.0),
+        ((-7.854071f64).to_bits(), 10.648195f64.to_bits(), 1427.0),
+    ];
+    let lists: [&[(f64, f64)]; 4] = [
+        &[(0.0, 360.0)],
+        &[(0.0, 180.0), (180.0, 360.0)],
+        &[(0.0, 100.0), (120.0, 360.0)],
+        &[(300.0, 200.0)],
+    ];
+    let mut jobs = vec![];
+    for (latitude, longitude, hour) in sites {
+        for orientation in (0..=36).map(|tenth| 10.0 * tenth as f64 - 4.0 * (tenth % 2) as f64) {
+            for (bounds, before) in lists.into_iter().zip([0.0, 1.0, 0.0, 2.0]) {
+                let mut job = plain.clone();
+                job.site.latitude = f64::from_bits(latitude);
+                job.site.longitude = f64::from_bits(longitude);
+                (job.site.timezone, job.site.start_day) = (0, 0);
+                job.surface[..2].copy_from_slice(&[0.0, orientation]);
+                job.times = [hour - before, hour + 1.0, 1.0];
+                job.sectors = sectors_of(bounds);
+                maker.fit(&mut job);
+                jobs.push(job);
+            }
+        }
+    }
+    jobs.extend((0..100).map(|_| maker.aimed_job(Aims::FromBehind, 1)));
+    jobs
 }
 
 /// The job with one of its steps alone, the sun square on the surface but for the altitude.
@@ -365,6 +402,37 @@ pub fn walks() -> Vec<Job> {
     jobs
 }
 
+/// A bad reading at the first step, and a series that ends before the last: the series is told, as 5
+/// is tried of all steps before 6. Each list with each.
+fn bad_reading_then_short_series() -> Vec<Job> {
+    let mut maker = Maker::new(Random::new(1, "bad reading, short series"));
+    let mut jobs = vec![];
+    for plain in plain_jobs(&mut maker) {
+        for lists in 0..9 {
+            let (bad, short) = (lists % 3, lists / 3);
+            let mut job = plain.clone();
+            (job.site.series_step, job.site.start_day) = (1.0, 10);
+            job.times = [245.0, 250.0, 1.0];
+            maker.fit(&mut job);
+            let steps = steps_of(&job.site, &job.times);
+            let (first, last) = (steps[0].index, steps[steps.len() - 1].index);
+            let at = 8 * first;
+            job.series[bad][at..at + 8].copy_from_slice(&f64::NAN.to_le_bytes());
+            job.series[short].truncate(8 * last);
+            jobs.push(job);
+        }
+    }
+    jobs
+}
+
+/// All that are tried one by one.
+pub fn all() -> Vec<Job> {
+    let mut jobs = edges();
+    jobs.extend(under_the_sun());
+    jobs.extend(bad_reading_then_short_series());
+    jobs
+}
+
 pub fn edges() -> Vec<Job> {
     let mut maker = Maker::new(Random::new(1, "edge jobs"));
     let mut jobs = vec![];
@@ -379,7 +447,7 @@ pub fn edges() -> Vec<Job> {
         step_counts(&mut jobs, job, &mut maker);
         indexes(&mut jobs, job, &mut maker);
         minus_zero_products(&mut jobs, job);
-        nan_rows(&mut jobs, job, &mut maker);
+        square_and_overhead(&mut jobs, job, &mut maker);
     }
     jobs
 }

@@ -4,7 +4,7 @@
 use super::lent::{Left, Lent};
 use crate::comparison::{same, shown, Outcome, Settings};
 use crate::published::jobs::*;
-use crate::published::shading::{Numbers, ALTITUDE};
+use crate::published::shading::{outside_beam, Numbers};
 use crate::random::Random;
 use crate::shading::call::{Call, Scene};
 use crate::shading::laws::{extents_are_numbers, Law, LAWS};
@@ -49,16 +49,11 @@ impl Rows {
     }
 }
 
-/// At most, where both are numbers; a NaN direct value makes both sums NaN.
-fn at_most(a: f64, b: f64) -> bool {
-    a <= b || (a.is_nan() && b.is_nan())
-}
-
 fn sums_hold(law: Law, sum: f64, other: f64, unshaded: f64) -> bool {
     match law {
-        Law::Range => at_most(0.0, sum) && at_most(sum, unshaded) || unshaded.is_nan(),
+        Law::Range => 0.0 <= sum && sum <= unshaded,
         Law::Reordered | Law::Repeated => same(sum, other),
-        Law::Enlarged => at_most(other, sum),
+        Law::Enlarged => other <= sum,
         Law::Emptied => same(other, unshaded),
     }
 }
@@ -71,17 +66,14 @@ fn numbers(job: &Job, row: &[f64; ROW]) -> Numbers {
     numbers
 }
 
-/// A NaN altitude is outside the beam, where nothing has an extent.
+/// Outside the beam, as under an azimuth far beyond ±180, nothing has an extent.
 fn no_nan_extent(numbers: &Numbers) -> bool {
-    numbers[ALTITUDE].is_nan() || extents_are_numbers(numbers)
+    extents_are_numbers(numbers) || outside_beam(numbers)
 }
 
 /// The job with other objects; further ones are aimed by the sun of one of the rows.
 fn changed(law: Law, random: &mut Random, job: &Job, rows: &Rows) -> Job {
-    let mut sun = numbers(job, &rows.0[random.below(rows.0.len())]);
-    if sun[ALTITUDE].is_nan() {
-        sun[ALTITUDE] = 0.0;
-    }
+    let sun = numbers(job, &rows.0[random.below(rows.0.len())]);
     let mut scene = Scene::of(&Call {
         numbers: sun,
         sectors: job.sectors.clone(),

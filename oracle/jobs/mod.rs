@@ -9,12 +9,15 @@ pub mod self_test;
 pub mod wrong;
 
 use crate::comparison::{same, shown, Outcome, Settings, Tally, With};
+use crate::published::beyond::{Aimed, Sums};
 use crate::published::jobs::*;
+use crate::published::walk::End;
 use crate::shading::call::Call;
 use crate::shading::laws::Law;
 use crate::shading::smaller;
 use crate::shading::walks::Walks;
-use cases::{Maker, MOST_BYTES};
+use crate::stand_ins::Beyond;
+use cases::{Aims, Maker, MOST_BYTES};
 use laws::{try_laws, Pairs};
 use lent::{Left, Lent, Library};
 
@@ -24,16 +27,29 @@ pub struct Plan<'a> {
     pub edges: &'a [Job],
     /// Jobs of one step, which is called by itself too.
     pub walks: &'a [Job],
-    /// Random jobs.
+    /// Random jobs; nine in twenty are aimed at the sun, so that a third is left when some of them,
+    /// and of their single steps, are damaged.
     pub jobs: usize,
     pub years: usize,
+    /// Short random jobs that are all aimed at the sun.
+    pub aimed: usize,
     /// Whether answers are compared; else the laws are tried alone.
     pub compared: bool,
     pub laws: &'a [Law],
 }
 
-/// Among so many random jobs one is also judged by the published record of the whole job.
+/// Among so many random jobs, and short ones, one is also judged by the published record of the whole
+/// job.
 const BY_NEW: usize = 50;
+const SHORT_BY_NEW: usize = 200;
+
+impl Plan<'_> {
+    /// So many short jobs at the sun that at least a third of all are aimed there: somewhat more
+    /// than one for every two that are not random.
+    pub fn aimed_for(fixed: usize) -> usize {
+        fixed * 3 / 5
+    }
+}
 
 // --- Telling ---
 
@@ -204,6 +220,16 @@ fn smaller_jobs(job: &Job) -> Vec<Job> {
     all
 }
 
+/// The rows that the judge left, up to the one that is refused.
+fn rows_are_numbers(job: &Job, right: &Left<RunAnswer>) -> Outcome {
+    let rows = match right.answer.number {
+        0 => right.answer.count,
+        _ => right.answer.step,
+    };
+    let doubles = doubles_of(&right.results[..8 * ROW * rows as usize]);
+    must_be_numbers("run", &doubles, || shown_job(job))
+}
+
 /// The judge's rows held to those by the published record of the whole job.
 fn by_new(job: &Job, right: &Left<RunAnswer>) -> Outcome {
     let rows = doubles_of(&right.results);
@@ -233,6 +259,17 @@ fn by_new(job: &Job, right: &Left<RunAnswer>) -> Outcome {
     }
 }
 
+/// Of what is in range no double is NaN: not one in an accepted row.
+fn must_be_numbers(call: &str, doubles: &[f64], shown: impl Fn() -> String) -> Outcome {
+    match doubles.iter().any(|x| x.is_nan()) {
+        true => Err(format!(
+            "{call}: NaN in a row that is accepted\n{}",
+            shown()
+        )),
+        false => Ok(()),
+    }
+}
+
 // --- Counting ---
 
 /// The specification's words for its numbers.
@@ -251,9 +288,58 @@ const WORDS: [&str; 12] = [
     "reveal",
 ];
 
+/// Sums beyond ±1 in the steps of one kind of call, how many calls were aimed at them, and how many
+/// walks under an altitude's sum above 1 ended at a sector and at none.
+#[derive(Default)]
+struct Sunward {
+    sums: Sums,
+    aimed: Aimed,
+    found: u64,
+    no_sector: u64,
+}
+
+impl Sunward {
+    /// Notes the judge's last call, which was aimed at that hour's sun, if at any.
+    fn note(&mut self, judge: &Judge, aimed: Option<u32>) {
+        let mut there = Beyond::default();
+        for &(hour, beyond) in &judge.sums {
+            self.sums.note(beyond);
+            if Some(hour) == aimed {
+                there = beyond;
+            }
+        }
+        self.aimed.note(aimed.is_some(), there);
+        for walked in &judge.overhead {
+            self.found += (walked.end == End::Match) as u64;
+            self.no_sector += (walked.end == End::NoSector) as u64;
+        }
+    }
+
+    fn report(&self, settings: &Settings, name: &str) -> Outcome {
+        self.aimed.report(settings, name)?;
+        self.sums.report(settings, name)
+    }
+
+    /// The walks, of calls that have any.
+    fn report_walks(&self, settings: &Settings, name: &str) -> Outcome {
+        let counts = [("a sector", self.found), ("no sector", self.no_sector)];
+        for (what, count) in counts {
+            let what = format!("{name}, sum above 1, walk to {what}");
+            if count == 0 {
+                return Err(format!("{what}: none was met"));
+            }
+            settings.detail(&what, count);
+        }
+        Ok(())
+    }
+}
+
 /// How many calls came out in each way.
 #[derive(Default)]
 struct Met {
+    runs: Sunward,
+    steps: Sunward,
+    irradiances: Sunward,
     run: [u64; 12],
     later: [u64; 12],
     step: [u64; 12],
@@ -265,7 +351,6 @@ struct Met {
     shaded: u64,
     dark: u64,
     minus_zero: u64,
-    nan: u64,
     rows: u64,
     run_walks: Walks,
     step_walks: Walks,
@@ -296,7 +381,6 @@ impl Met {
             self.shaded += (0.0 < row[5] && row[5] < 1.0 && row[2] > 0.0) as u64;
             self.dark += (row[5] == 0.0) as u64;
             self.minus_zero += same(row[2], -0.0) as u64;
-            self.nan += row.iter().any(|x| x.is_nan()) as u64;
         }
     }
 
@@ -332,7 +416,6 @@ impl Met {
             ("rows with direct, partly in the shade", self.shaded),
             ("rows all in the shade", self.dark),
             ("rows with direct -0.0", self.minus_zero),
-            ("rows with a NaN", self.nan),
         ];
         let mut counts = self.by_number();
         counts.extend(kinds.map(|(what, count)| (String::from(what), count)));
@@ -342,6 +425,11 @@ impl Met {
             }
             settings.detail(what, *count);
         }
+        self.runs.report(settings, "run")?;
+        self.runs.report_walks(settings, "run")?;
+        self.steps.report(settings, "step")?;
+        self.steps.report_walks(settings, "step")?;
+        self.irradiances.report(settings, "irradiance")?;
         self.run_walks.report(settings, "run")?;
         self.step_walks.report(settings, "step")
     }
@@ -362,8 +450,8 @@ struct Comparison<'a> {
 }
 
 impl Comparison<'_> {
-    /// One job: its answer and its results, then the laws.
-    fn job(&mut self, job: &Job, also_by_new: bool) -> Outcome {
+    /// One job, aimed at the sun of that hour, if at any: its answer and its results, then the laws.
+    fn job(&mut self, job: &Job, aimed: Option<u32>, also_by_new: bool) -> Outcome {
         let got = self.lent.run(job)?;
         if self.plan.compared {
             let right = judged(&mut self.judge, job);
@@ -372,7 +460,9 @@ impl Comparison<'_> {
                 let cases = self.tally.compared;
                 return Err(format!("run differs after {cases} cases\n{words}"));
             }
+            rows_are_numbers(job, &right)?;
             self.met.note(job, &right);
+            self.met.runs.note(&self.judge, aimed);
             let walks = self.judge.walks.iter();
             walks.for_each(|&walked| self.met.run_walks.note(walked));
             if also_by_new && (right.answer.number == 0 || right.answer.number >= 8) {
@@ -390,11 +480,31 @@ impl Comparison<'_> {
     }
 
     fn job_and_singles(&mut self, maker: &mut Maker, job: &Job, also_by_new: bool) -> Outcome {
-        self.job(job, also_by_new)?;
+        let aimed = maker.aimed_hour(job);
+        self.job(job, aimed, also_by_new)?;
         match self.plan.compared {
-            true => self.singles(maker, job),
+            true => self.singles(maker, job, aimed),
             false => Ok(()),
         }
+    }
+
+    /// The random ones, and those that are all aimed at the sun.
+    fn random_jobs(&mut self, maker: &mut Maker) -> Outcome {
+        for turn in 0..self.plan.jobs {
+            maker.aims = match turn % 20 {
+                0..=8 => Aims::Squarely,
+                9 => Aims::FromBehind,
+                _ => Aims::Seldom,
+            };
+            let job = maker.any_job();
+            self.job_and_singles(maker, &job, turn % BY_NEW == 0)?;
+        }
+        for turn in 0..self.plan.aimed {
+            let job = maker.aimed_job(Aims::Squarely, 6);
+            self.job_and_singles(maker, &job, turn % SHORT_BY_NEW == 0)?;
+        }
+        maker.aims = Aims::Seldom;
+        Ok(())
     }
 
     fn report(&self, settings: &Settings) -> Outcome {
@@ -412,38 +522,49 @@ impl Comparison<'_> {
     }
 
     /// The call of one step.
-    fn step(&mut self, single: &Single) -> Outcome {
+    fn step(&mut self, single: &Single, aimed: Option<u32>) -> Outcome {
         let mut results = single.results.clone();
         let number = self.judge.step(single, &mut results);
         let got = self.lent.step(single)?;
-        self.single("step", single, (number, results), got)?;
+        self.single("step", ROW, single, (number, results), got)?;
         self.met.step[number as usize] += 1;
+        self.met.steps.note(&self.judge, single.at(aimed));
         let walks = self.judge.walks.iter();
         walks.for_each(|&walked| self.met.step_walks.note(walked));
         Ok(())
     }
 
     /// Both single-step calls of a step.
-    fn singles(&mut self, maker: &mut Maker, job: &Job) -> Outcome {
-        self.step(&maker.single_of(job, ROW))?;
+    fn singles(&mut self, maker: &mut Maker, job: &Job, aimed: Option<u32>) -> Outcome {
+        self.step(&maker.single_of(job, ROW), aimed)?;
         let single = maker.single_of(job, IRRADIANCE_ROW);
         let mut results = single.results.clone();
         let number = self.judge.irradiance(&single, &mut results);
         let got = self.lent.irradiance(&single)?;
-        self.single("irradiance", &single, (number, results), got)?;
+        self.single(
+            "irradiance",
+            IRRADIANCE_ROW,
+            &single,
+            (number, results),
+            got,
+        )?;
         self.met.irradiance[number as usize] += 1;
+        self.met.irradiances.note(&self.judge, single.at(aimed));
         Ok(())
     }
 
     fn single(
         &self,
         call: &str,
+        row: usize,
         single: &Single,
         (number, results): (u64, Vec<u8>),
         got: Left<u64>,
     ) -> Outcome {
         if number == got.answer && results == got.results {
-            return Ok(());
+            let stored = if number == 0 { row } else { 0 };
+            let doubles = doubles_of(&results[..8 * stored]);
+            return must_be_numbers(call, &doubles, || shown_single(single));
         }
         Err(format!(
             "{call} differs after {} jobs\n{}\n  Rust number {number}, Rattle {}\n  {}",
@@ -452,6 +573,13 @@ impl Comparison<'_> {
             got.answer,
             first_other_byte(&results, &got.results),
         ))
+    }
+}
+
+impl Single {
+    /// The hour at which its job was aimed, if that is its own.
+    fn at(&self, aimed: Option<u32>) -> Option<u32> {
+        aimed.filter(|&hour| self.time.floor() == hour as f64)
     }
 }
 
@@ -473,19 +601,16 @@ pub fn section(settings: &Settings, library: &Library, plan: Plan) -> Outcome {
         all.job_and_singles(&mut maker, job, false)?;
     }
     for job in plan.walks {
-        all.job(job, true)?;
+        all.job(job, None, true)?;
         if plan.compared {
-            all.step(&maker.sound_single_of(job, ROW))?;
+            all.step(&maker.sound_single_of(job, ROW), None)?;
         }
     }
-    for turn in 0..plan.jobs {
-        let job = maker.any_job();
-        all.job_and_singles(&mut maker, &job, turn % BY_NEW == 0)?;
-    }
+    all.random_jobs(&mut maker)?;
     for turn in 0..plan.years {
         let job = maker.whole_year(turn);
         let accepted = all.met.run[0];
-        all.job(&job, true)?;
+        all.job(&job, None, true)?;
         all.years_accepted += all.met.run[0] - accepted;
     }
     all.report(settings)

@@ -1,7 +1,7 @@
 //! The comparison of jobs tried on itself: the plain engine must pass, and each wrong one must be
 //! found. The library is not called.
 
-use super::{edges, section, wrong, Plan};
+use super::{edges, must_be_numbers, section, wrong, Plan};
 use crate::comparison::{Outcome, Settings};
 use crate::published::jobs::{steps_of, Job, JobSite};
 use crate::shading::laws::LAWS;
@@ -48,6 +48,17 @@ fn step_counts() -> Outcome {
     Ok(())
 }
 
+/// A NaN in an accepted row is told.
+fn nan_is_told() -> Outcome {
+    let words = || String::from("a row");
+    let (numbers, nan) = ([1.0, -0.0, f64::INFINITY], [1.0, f64::NAN]);
+    let told = must_be_numbers("run", &nan, words).is_err();
+    match told && must_be_numbers("run", &numbers, words).is_ok() {
+        true => Ok(()),
+        false => Err(String::from("self-test: a NaN in a row was not told")),
+    }
+}
+
 /// The plain engine passes with all laws, and a comparison of nothing is an error.
 fn plain_engine(settings: &Settings, plan: Plan) -> Outcome {
     let right = wrong::without_flaw();
@@ -59,6 +70,7 @@ fn plain_engine(settings: &Settings, plan: Plan) -> Outcome {
         walks: &[],
         jobs: 0,
         years: 0,
+        aimed: 0,
         ..plan
     };
     match section(settings, &right, nothing) {
@@ -75,17 +87,19 @@ pub fn run(seed: u64) -> Outcome {
         count: JOBS,
         print: false,
     };
-    let edges: Vec<Job> = edges::edges();
+    let edges: Vec<Job> = edges::all();
     let walks: Vec<Job> = edges::walks();
     let plan = Plan {
         edges: &edges,
         walks: &walks,
         jobs: JOBS,
         years: 1,
+        aimed: Plan::aimed_for(edges.len() + walks.len() + 1),
         compared: true,
         laws: &[],
     };
     step_counts()?;
+    nan_is_told()?;
     plain_engine(&settings, plan)?;
     let mut count = 0;
     for engine in &wrong::engines() {

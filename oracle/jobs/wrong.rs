@@ -6,6 +6,7 @@
 use super::lent::Library;
 use crate::published::jobs::*;
 use crate::published::shading::{MOST_SECTORS, MOST_WINDOW_OBJECTS, SECTOR_WORDS, WINDOW_WORDS};
+use crate::published::wrong::Otherwise;
 use crate::random::ulps_from;
 use crate::shading::call::{Call, Scene};
 use std::cell::RefCell;
@@ -80,6 +81,13 @@ flaws! {
         // the walk
         FirstSectorNotWalked,
         LastSectorNotWalked,
+        // sums beyond ±1
+        OverheadNan,
+        OverheadAtTheHorizon,
+        OverheadWithoutWalk,
+        UnderfootNan,
+        SquareNan,
+        SquareFromBehindNan,
         // the series
         IndexRounded,
         IndexOfTheStep,
@@ -92,7 +100,6 @@ flaws! {
         EarlierRowsTakenBack,
         RowsClearedFirst,
         BytesPastTheLastTouched,
-        NanWrittenOtherwise,
         ColumnsSwapped,
         StepOfRefusalZero,
         StepOfAcceptanceLast,
@@ -112,13 +119,22 @@ flaws! {
         StepNanTime,
         StepSiteUnchecked,
         StepFirstSectorNotWalked,
-        StepLastSectorNotWalked;
+        StepLastSectorNotWalked,
+        StepOverheadNan,
+        StepOverheadWithoutWalk,
+        StepUnderfootNan,
+        StepSquareNan,
+        StepSquareFromBehindNan;
     "irradiance":
         BreakdownLeftOut,
         IrradianceResultsShort,
         ConversionIgnored,
         IrradianceHeightUnchecked,
-        SkyAndGroundSwapped;
+        SkyAndGroundSwapped,
+        IrradianceOverheadNan,
+        IrradianceUnderfootNan,
+        IrradianceSquareNan,
+        IrradianceSquareFromBehindNan;
 }
 
 struct Plain {
@@ -370,15 +386,67 @@ impl Plain {
     /// As much of the doubles as there is room for.
     fn store(&self, results: &mut [u8], place: usize, row: &[f64]) {
         for (k, &x) in row.iter().enumerate() {
-            let nan = match self.is(NanWrittenOtherwise) {
-                true => 0xFFF8_0000_0000_0000u64,
-                false => 0x7FF8_0000_0000_0000,
-            };
+            let nan = 0x7FF8_0000_0000_0000u64;
             let bits = if x.is_nan() { nan } else { x.to_bits() };
             let at = (8 * (place + k)).min(results.len());
             let end = (at + 8).min(results.len());
             results[at..end].copy_from_slice(&bits.to_le_bytes()[..end - at]);
         }
+    }
+
+    /// What is made of a sum beyond ±1, where that is the flaw.
+    fn otherwise(&self) -> Option<Otherwise> {
+        use Otherwise::*;
+        let ways = [
+            (OverheadNan, AltitudeNanAbove),
+            (StepOverheadNan, AltitudeNanAbove),
+            (IrradianceOverheadNan, AltitudeNanAbove),
+            (OverheadAtTheHorizon, AltitudeZeroAbove),
+            (UnderfootNan, AltitudeNanBelow),
+            (StepUnderfootNan, AltitudeNanBelow),
+            (IrradianceUnderfootNan, AltitudeNanBelow),
+            (SquareNan, IncidenceNanAbove),
+            (StepSquareNan, IncidenceNanAbove),
+            (IrradianceSquareNan, IncidenceNanAbove),
+            (SquareFromBehindNan, IncidenceNanBelow),
+            (StepSquareFromBehindNan, IncidenceNanBelow),
+            (IrradianceSquareFromBehindNan, IncidenceNanBelow),
+        ];
+        ways.iter()
+            .find(|(flaw, _)| self.is(*flaw))
+            .map(|&(_, way)| way)
+    }
+
+    fn hour(
+        &self,
+        judge: &mut Judge,
+        site: &JobSite,
+        surface: &Surface,
+        hour: u32,
+        readings: Readings,
+    ) -> [f64; IRRADIANCE_ROW] {
+        match self.otherwise() {
+            Some(way) => judge.hour_otherwise(site, surface, hour, readings, way),
+            None => judge.hour(site, surface, hour, readings),
+        }
+    }
+
+    /// The row of an hour; a sun overhead may have the factor 1 without a walk.
+    fn row_at(
+        &self,
+        judge: &mut Judge,
+        site: &JobSite,
+        surface: &Surface,
+        hour: u32,
+        readings: Readings,
+    ) -> Row {
+        let doubles = self.hour(judge, site, surface, hour, readings);
+        let without_walk = self.is(OverheadWithoutWalk) || self.is(StepOverheadWithoutWalk);
+        if without_walk && judge.beyond.arcsine_above {
+            let [altitude, azimuth, direct, diffuse, total, ..] = doubles;
+            return Ok([altitude, azimuth, direct, diffuse, total, 1.0]);
+        }
+        judge.row_of(surface, doubles)
     }
 
     fn row(&self, judge: &mut Judge, job: &Job, step: Step, readings: Readings) -> Row {
@@ -387,7 +455,7 @@ impl Plain {
         }
         // the judge panics at an hour past the leap year's
         let hour = step.hour.min(8783);
-        let mut row = judge.row(&job.site, &job.surface, hour, readings);
+        let mut row = self.row_at(judge, &job.site, &job.surface, hour, readings);
         if let (Ok(row), true) = (&mut row, self.is(FactorOneAlways)) {
             row[5] = 1.0;
         }
@@ -532,7 +600,7 @@ impl Plain {
         judge.lend(lists_of(walked, &single.window).unwrap());
         let hour = (single.time.floor() as u32).min(8783);
         let (site, surface) = (&single.site, &single.surface);
-        match judge.row(site, surface, hour, single.readings) {
+        match self.row_at(judge, site, surface, hour, single.readings) {
             Ok(mut row) => {
                 if self.is(StepWithoutFactor) {
                     row[5] = 1.0;
@@ -559,7 +627,7 @@ impl Plain {
             site.direct_beam_conversion = 0;
         }
         let hour = single.time.floor() as u32;
-        let mut row = judge.hour(&site, &single.surface, hour, single.readings);
+        let mut row = self.hour(judge, &site, &single.surface, hour, single.readings);
         if self.is(SkyAndGroundSwapped) {
             row.swap(5, 8);
         }

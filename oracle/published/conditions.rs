@@ -96,7 +96,7 @@ impl OneHour {
     }
 
     /// The sun's angles.
-    fn fill_sun(&self, record: &mut ExternalConditions) {
+    pub(super) fn fill_sun(&self, record: &mut ExternalConditions) {
         let Site {
             latitude,
             longitude,
@@ -123,7 +123,7 @@ impl OneHour {
     }
 
     /// The beam and the coefficients of brightness, by the sun's angles that the record holds.
-    fn fill_sky(&self, record: &mut ExternalConditions) {
+    pub(super) fn fill_sky(&self, record: &mut ExternalConditions) {
         let (altitude, zenith) = (record.solar_altitudes[0], record.solar_zenith_angles[0]);
         let beam = init_direct_beam_radiation(self.site.conversion_needed, self.direct, altitude);
         let clearness = init_dimensionless_clearness_parameter(self.diffuse, beam, altitude);

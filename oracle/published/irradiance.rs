@@ -1,13 +1,15 @@
 //! The state of the sky and the irradiance on a surface: the published Rust against Rattle.
 
-use super::conditions::{OneHour, Site};
+use super::beyond::{Aimed, Sums};
+use super::conditions::{OneHour, Site, FIRST_STEP};
 use super::interface as rust;
 use super::sun::{altitude, declination_of, hour_angle_at, BRANCHES, DAYS};
 use super::*;
 use crate::arguments::{around, compare_function, Argument};
-use crate::comparison::{compare, same, shown, Outcome, Settings, Tally, With};
+use crate::comparison::{all_shown, compare, same, shown, Outcome, Settings, Tally, With};
 use crate::probes::{HourCall, ProbeHour, Probes, YEAR, YEAR_COLUMNS};
 use crate::random::{ulps_from, Random};
+use crate::stand_ins::{beyond_in, Beyond};
 use std::cell::Cell;
 
 /// The limits of clearness in Table 8.
@@ -142,6 +144,11 @@ fn brightness_coefficients(settings: &Settings, rattle: &Probes) -> Outcome {
 
 // --- One hour ---
 
+/// Tries to aim an hour at a sum beyond ±1, and the degrees within which they lie: so little that
+/// the cosine is 1 to the last bit.
+const TRIES: usize = 40;
+const NEARBY: f64 = 1e-7;
+
 impl OneHour {
     fn doubles(&self) -> [f64; 10] {
         [
@@ -166,8 +173,8 @@ impl OneHour {
         15.0 * (solar_time - clock + self.site.timezone as f64)
     }
 
-    /// Turns the surface to the sun, about: the cosine of the incidence is about 1, and in some
-    /// cases a little above it, so that direct is NaN.
+    /// Turns the surface to the sun, about: the cosine of the incidence is about 1, and its sum in
+    /// some cases a little above it.
     ///
     /// (The published azimuth is not used: it is the sun's direction only about noon.)
     pub(super) fn face_the_sun(&mut self, random: &mut Random) {
@@ -184,7 +191,22 @@ impl OneHour {
         self.site.orientation = near(180.0 - east.atan2(south).to_degrees()).clamp(0.0, 360.0);
     }
 
-    /// Moves the site under the sun: the altitude is about 90, and NaN in some cases.
+    /// Turns the back of the surface to the sun, about: the sum is about −1, and in some cases a
+    /// little below it.
+    fn turn_from_the_sun(&mut self, random: &mut Random) {
+        self.face_the_sun(random);
+        let Site {
+            tilt, orientation, ..
+        } = self.site;
+        self.site.tilt = 180.0 - tilt;
+        self.site.orientation = match orientation < 180.0 {
+            true => orientation + 180.0,
+            false => orientation - 180.0,
+        };
+    }
+
+    /// Moves the site under the sun: the altitude is about 90, and its sum in some cases a little
+    /// above 1.
     pub(super) fn sun_overhead(&mut self, random: &mut Random) {
         let longitude = self.longitude_for(0.0);
         if longitude.abs() <= 180.0 {
@@ -192,6 +214,86 @@ impl OneHour {
             let declination = declination_of(self.hour / 24);
             self.site.latitude = ulps_from(declination, random.below(9) as i64 - 4);
         }
+    }
+
+    /// Moves the site to the other end of the Earth: the sum is about −1, and in some cases a
+    /// little below it.
+    fn sun_underfoot(&mut self, random: &mut Random) {
+        let both = [180.0, -180.0].map(|hour_angle| self.longitude_for(hour_angle));
+        if let Some(longitude) = both.into_iter().find(|longitude| longitude.abs() <= 180.0) {
+            self.site.longitude = ulps_from(longitude, random.below(9) as i64 - 4);
+            let declination = declination_of(self.hour / 24);
+            self.site.latitude = -ulps_from(declination, random.below(9) as i64 - 4);
+        }
+    }
+
+    /// The sun square on the glass, overhead, or both. By rounding alone a sum is above 1 in one
+    /// case of many; so for the most part such a case is looked for nearby.
+    pub(super) fn aim_squarely(&mut self, random: &mut Random) {
+        let overhead = random.below(2) == 0 && self.longitude_for(0.0).abs() <= 180.0;
+        let facing = !overhead || random.below(2) == 0;
+        let tries = [0, TRIES, TRIES][random.below(3)];
+        if overhead {
+            self.sun_overhead(random);
+            self.latitude_nearby(random, tries, |beyond| beyond.arcsine_above);
+        }
+        if facing {
+            self.face_the_sun(random);
+            self.surface_in_range();
+            self.surface_nearby(random, tries, |beyond| beyond.arccosine_above);
+        }
+    }
+
+    /// The same with the sun square on the back of the glass, or under the site, and a sum below −1.
+    pub(super) fn aim_from_behind(&mut self, random: &mut Random) {
+        let tries = [0, TRIES, TRIES][random.below(3)];
+        if random.below(2) == 0 {
+            self.turn_from_the_sun(random);
+            self.surface_in_range();
+            self.surface_nearby(random, tries, |beyond| beyond.arccosine_below);
+        } else {
+            self.sun_underfoot(random);
+            self.latitude_nearby(random, tries, |beyond| beyond.arcsine_below);
+        }
+    }
+
+    /// Moves the site to a latitude nearby whose altitude has such a sum, if one of so many has it.
+    fn latitude_nearby(&mut self, random: &mut Random, tries: usize, such: fn(Beyond) -> bool) {
+        let record = self.record();
+        let (declination, hour_angle) = (record.solar_declinations[0], record.solar_hour_angles[0]);
+        for _ in 0..tries {
+            let latitude = self.site.latitude + random.uniform(-NEARBY, NEARBY);
+            let sum = || init_solar_altitude(latitude, declination, hour_angle);
+            if such(beyond_in(sum).1) {
+                self.site.latitude = latitude;
+                return;
+            }
+        }
+    }
+
+    /// Turns the surface a little, to where the incidence has such a sum, if one of so many has it.
+    fn surface_nearby(&mut self, random: &mut Random, tries: usize, such: fn(Beyond) -> bool) {
+        let (record, start) = (self.record(), *self);
+        for _ in 0..tries {
+            *self = start;
+            self.site.tilt += random.uniform(-NEARBY, NEARBY);
+            self.site.orientation += random.uniform(-NEARBY, NEARBY);
+            self.surface_in_range();
+            let turned = Orientation360(self.site.orientation);
+            let sum = || record.solar_angle_of_incidence(self.site.tilt, turned, FIRST_STEP);
+            if such(beyond_in(sum).1) {
+                return;
+            }
+        }
+        *self = start;
+    }
+
+    /// Brings tilt and orientation into range. One step below 0 is a NaN, and so is the arccosine of
+    /// a sun's height that is above 1: they become 0.
+    fn surface_in_range(&mut self) {
+        let within = |x: f64, high: f64| x.max(0.0).min(high);
+        self.site.tilt = within(self.site.tilt, 180.0);
+        self.site.orientation = within(self.site.orientation, 360.0);
     }
 
     /// Moves the site to where the sun's altitude is about one at which a formula takes another
@@ -285,7 +387,7 @@ fn any_hour(random: &mut Random, hour: u32) -> OneHour {
     }
 }
 
-/// The sun square on the glass: with these, direct is NaN.
+/// The sun square on the glass: with these, the incidence's sum is above 1.
 const SQUARE: OneHour = OneHour {
     site: Site {
         latitude: -8.067087,
@@ -301,7 +403,7 @@ const SQUARE: OneHour = OneHour {
     reflectivity: 0.2,
 };
 
-/// The sun overhead: with these, the altitude is NaN.
+/// The sun overhead: with these, the altitude's sum is above 1.
 const OVERHEAD: OneHour = OneHour {
     site: Site {
         latitude: -7.854071,
@@ -341,8 +443,12 @@ fn fixed_hours() -> Vec<OneHour> {
 }
 
 /// The fixed hours, every hour of a leap year, then hours at random up to the count; of the last
-/// two half are aimed.
-fn hours(random: &mut Random, count: usize) -> impl Iterator<Item = [f64; 10]> + '_ {
+/// two two thirds are aimed. `aimed` says of the hour just taken whether it was at the sun.
+fn hours<'a>(
+    random: &'a mut Random,
+    aimed: &'a Cell<bool>,
+    count: usize,
+) -> impl Iterator<Item = [f64; 10]> + 'a {
     let each = DAYS * 24;
     let drawn = (0..count.max(each as usize) as u32).map(move |turn| {
         let hour = match turn < each {
@@ -350,17 +456,15 @@ fn hours(random: &mut Random, count: usize) -> impl Iterator<Item = [f64; 10]> +
             false => random.below(each as usize) as u32,
         };
         let mut case = any_hour(random, hour);
-        match random.below(16) {
-            0 | 1 => case.face_the_sun(random),
-            2 => case.sun_overhead(random),
-            3 => {
-                case.sun_overhead(random);
-                case.face_the_sun(random);
-            }
-            4 => case.sun_at_a_branch(random),
-            5 => case.turn_of_the_hour_angle(random),
-            6 => case.clearness_at_a_limit(random),
-            7 => case.any_double(random),
+        let aim = random.below(18);
+        aimed.set(aim < 7);
+        match aim {
+            0..=6 => case.aim_squarely(random),
+            7 => case.aim_from_behind(random),
+            8 => case.sun_at_a_branch(random),
+            9 => case.turn_of_the_hour_angle(random),
+            10 => case.clearness_at_a_limit(random),
+            11 => case.any_double(random),
             _ => {}
         }
         case
@@ -372,16 +476,22 @@ fn hours(random: &mut Random, count: usize) -> impl Iterator<Item = [f64; 10]> +
 /// What has to be among the hours whose input is in range.
 #[derive(Clone, Copy, Default)]
 struct Met {
-    nan_altitude: u64,
-    /// With an altitude that is a number: the sun is square on the glass.
-    nan_direct: u64,
+    sums: Sums,
+    aimed: Aimed,
     minus_zero_direct: u64,
     converted: u64,
     night: u64,
+    /// An input in range with a NaN in its answer: there should be none.
+    nan: Option<[f64; 10]>,
 }
 
 impl Met {
-    fn with(mut self, input: &[f64; 10], answer: &ProbeHour) -> Self {
+    fn with(
+        mut self,
+        input: &[f64; 10],
+        aimed: bool,
+        (answer, beyond): (&ProbeHour, Beyond),
+    ) -> Self {
         const RANGES: [(f64, f64); 10] = [
             (-90.0, 90.0),
             (-180.0, 180.0),
@@ -395,14 +505,18 @@ impl Met {
             (0.0, 1.0),
         ];
         let in_range = |(&x, (low, high)): (&f64, (f64, f64))| low <= x && x <= high;
-        if !input.iter().zip(RANGES).all(in_range) {
+        let in_range = input.iter().zip(RANGES).all(in_range);
+        self.aimed.note(aimed && in_range, beyond);
+        if !in_range {
             return self;
         }
         let ProbeHour {
             altitude, direct, ..
         } = *answer;
-        self.nan_altitude += altitude.is_nan() as u64;
-        self.nan_direct += (direct.is_nan() && !altitude.is_nan()) as u64;
+        self.sums.note(beyond);
+        if answer.doubles().iter().any(|x| x.is_nan()) {
+            self.nan.get_or_insert(*input);
+        }
         self.minus_zero_direct += same(direct, -0.0) as u64;
         self.converted += (input[4] == 1.0) as u64;
         self.night += (altitude == 0.0) as u64;
@@ -410,9 +524,13 @@ impl Met {
     }
 
     fn report(self, settings: &Settings) -> Outcome {
+        if let Some(input) = self.nan {
+            let input = all_shown(&input);
+            return Err(format!("hour: NaN of an input in range\n  input  {input}"));
+        }
+        self.aimed.report(settings, "hour")?;
+        self.sums.report(settings, "hour")?;
         let counts = [
-            ("NaN altitude", self.nan_altitude),
-            ("NaN direct, altitude a number", self.nan_direct),
             ("-0.0 direct", self.minus_zero_direct),
             ("conversion on", self.converted),
             ("night (altitude 0)", self.night),
@@ -425,6 +543,15 @@ impl Met {
         }
         Ok(())
     }
+}
+
+/// Whether a NaN in the answer of an input in range is told, for the self-test.
+pub fn nan_is_told(settings: &Settings) -> bool {
+    let input = SQUARE.doubles();
+    let mut answer = hour_by(rust::hour, input);
+    answer.diffuse = f64::NAN;
+    let met = Met::default().with(&input, true, (&answer, Beyond::default()));
+    matches!(met.report(settings), Err(words) if words.starts_with("hour: NaN"))
 }
 
 /// The answer of a function behind the C interface.
@@ -447,13 +574,18 @@ fn hour_by(function: HourCall, input: [f64; 10]) -> ProbeHour {
     }
 }
 
-/// The two known cases are NaN where they have to be.
+/// The two known cases have a sum above 1 where they have to, and numbers all the same: all of the
+/// beam falls on the glass, and the sun stands at 90 degrees.
 fn known_hours() -> Outcome {
-    for (known, what) in [(SQUARE, "direct"), (OVERHEAD, "altitude")] {
-        let answer = hour_by(rust::hour, known.doubles());
-        let (direct, altitude) = (answer.direct.is_nan(), answer.altitude.is_nan());
-        if !direct || altitude != (what == "altitude") {
-            return Err(format!("hour: the known case whose {what} is NaN has none"));
+    for (known, what) in [(SQUARE, "incidence"), (OVERHEAD, "altitude")] {
+        let (answer, beyond) = beyond_in(|| hour_by(rust::hour, known.doubles()));
+        let whole = known.direct + answer.circumsolar;
+        let holds = match what {
+            "incidence" => beyond.arccosine_above && same(answer.direct, whole),
+            _ => beyond.arcsine_above && same(answer.altitude, 90.0),
+        };
+        if !holds || answer.doubles().iter().any(|x| x.is_nan()) {
+            return Err(format!("hour: the known case of the {what} is another one"));
         }
     }
     Ok(())
@@ -461,14 +593,14 @@ fn known_hours() -> Outcome {
 
 fn one_hours(settings: &Settings, rattle: &Probes) -> Outcome {
     known_hours()?;
-    let met = Cell::new(Met::default());
+    let (met, aimed) = (Cell::new(Met::default()), Cell::new(false));
     let mut random = settings.random("hour");
     let tally = compare(
         "hour",
-        hours(&mut random, settings.count / 5),
+        hours(&mut random, &aimed, settings.count / 5),
         |input| {
-            let answer = hour_by(rust::hour, input);
-            met.set(met.get().with(&input, &answer));
+            let (answer, beyond) = beyond_in(|| hour_by(rust::hour, input));
+            met.set(met.get().with(&input, aimed.get(), (&answer, beyond)));
             answer.doubles()
         },
         |input| hour_by(rattle.hour, input).doubles(),
@@ -578,15 +710,30 @@ fn one_year(rattle: &Probes, site: &Site, lists: [&[u8]; 3]) -> Result<Tally, St
     compare_years(&right, &got).map_err(|words| format!("{words}\n  {}", site_shown(site)))
 }
 
-/// Years at random sites, by the published record of a whole year. What a day decides is worked out
-/// once for all its hours there, and may be in Rattle: it has to be the right day's.
+/// Any site, or one aimed at the sun of some hour.
+fn site_of_a_year(random: &mut Random, aimed: bool) -> Site {
+    let hour = random.below(YEAR) as u32;
+    let mut case = any_hour(random, hour);
+    if aimed {
+        case.aim_squarely(random);
+    }
+    case.site
+}
+
+/// Years at random sites, every other aimed at the sun of some hour, by the published record of a
+/// whole year. What a day decides is worked out once for all its hours there, and may be in Rattle:
+/// it has to be the right day's.
 fn years(settings: &Settings, rattle: &Probes) -> Outcome {
     let mut random = settings.random("year");
     let mut all = Tally::default();
-    for _ in 0..(settings.count / 50_000).max(2) {
-        let site = any_site(&mut random);
+    for turn in 0..(settings.count / 50_000).max(2) {
+        let site = site_of_a_year(&mut random, turn % 2 == 1);
         let series = any_series(&mut random);
         let tally = one_year(rattle, &site, series.each_ref().map(|list| &list[..]))?;
+        if tally.both_nan > 0 {
+            let site = site_shown(&site);
+            return Err(format!("year: NaN at a site in range\n  {site}"));
+        }
         all.compared += tally.compared;
         all.both_nan += tally.both_nan;
     }

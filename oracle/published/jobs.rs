@@ -7,9 +7,11 @@
 use super::conditions::{sun_at, OneHour, Site, FIRST_STEP};
 use super::shading::{sectors_of, window_of, within};
 use super::walk::{walked, Walked};
+use super::wrong::Otherwise;
 use super::*;
 pub use crate::pilgartze::{doubles_of, Answer as RunAnswer, Site as JobSite, IRRADIANCE_ROW, ROW};
 use crate::random::Random;
+use crate::stand_ins::{beyond_in, Beyond};
 use crate::support::refusal_number;
 
 /// Start, end, step.
@@ -247,7 +249,8 @@ fn one_hour(
 }
 
 /// Moves the site, in that hour, to where the sun is overhead or its altitude about one at which a
-/// formula takes another branch, or turns the surface to the sun: where angles are NaN now and then.
+/// formula takes another branch, or turns the surface to the sun: where a sum is beyond 1 now and
+/// then.
 pub fn aim(random: &mut Random, site: &mut JobSite, surface: &mut Surface, hour: u32) {
     let mut aimed = one_hour(site, surface, hour, [0.0; 3]);
     let (overhead, branch) = (random.below(4) == 0, random.below(4) == 0);
@@ -259,16 +262,44 @@ pub fn aim(random: &mut Random, site: &mut JobSite, surface: &mut Surface, hour:
     if !branch {
         aimed.face_the_sun(random);
     }
-    let (latitude, longitude) = (aimed.site.latitude, aimed.site.longitude);
-    if all_within(&[latitude, longitude], &SITE_RANGES[..2]) {
+    put_aim(&aimed, site, surface);
+}
+
+/// Site and surface as they were aimed, each where it is in range; whether both are.
+fn put_aim(aimed: &OneHour, site: &mut JobSite, surface: &mut Surface) -> bool {
+    let Site {
+        latitude,
+        longitude,
+        tilt,
+        orientation,
+        ..
+    } = aimed.site;
+    let site_fits = all_within(&[latitude, longitude], &SITE_RANGES[..2]);
+    if site_fits {
         (site.latitude, site.longitude) = (latitude, longitude);
     }
-    if all_within(
-        &[aimed.site.tilt, aimed.site.orientation],
-        &SURFACE_RANGES[..2],
-    ) {
-        surface[..2].copy_from_slice(&[aimed.site.tilt, aimed.site.orientation]);
+    let surface_fits = all_within(&[tilt, orientation], &SURFACE_RANGES[..2]);
+    if surface_fits {
+        surface[..2].copy_from_slice(&[tilt, orientation]);
     }
+    site_fits && surface_fits
+}
+
+/// The same with the sun square on the glass or overhead in that hour, or else on its back or under
+/// the site; for the most part with a sum beyond ±1 where one is nearby. Whether it could be done.
+pub fn aim_squarely(
+    random: &mut Random,
+    site: &mut JobSite,
+    surface: &mut Surface,
+    hour: u32,
+    from_behind: bool,
+) -> bool {
+    let mut aimed = one_hour(site, surface, hour, [0.0; 3]);
+    match from_behind {
+        true => aimed.aim_from_behind(random),
+        false => aimed.aim_squarely(random),
+    }
+    put_aim(&aimed, site, surface)
 }
 
 /// The published record, kept from call to call.
@@ -277,6 +308,12 @@ pub struct Judge {
     window: Vec<WindowShadingObject>,
     /// The walks of the last call, those of steps inside the beam.
     pub walks: Vec<Walked>,
+    /// Whether the sums of the hour that the record holds are beyond ±1.
+    pub beyond: Beyond,
+    /// The hours of the last call, with the same of each.
+    pub sums: Vec<(u32, Beyond)>,
+    /// The walks of those hours whose altitude's sum was above 1.
+    pub overhead: Vec<Walked>,
 }
 
 impl Judge {
@@ -286,13 +323,23 @@ impl Judge {
             conditions,
             window: vec![],
             walks: vec![],
+            beyond: Beyond::default(),
+            sums: vec![],
+            overhead: vec![],
         }
     }
 
     pub fn lend(&mut self, lists: Lists) {
         self.conditions.shading_segments = Some(lists.sectors);
         self.window = lists.window;
+        self.forget();
+    }
+
+    /// A call begins.
+    fn forget(&mut self) {
         self.walks.clear();
+        self.sums.clear();
+        self.overhead.clear();
     }
 
     /// The nine doubles of an hour; the record then holds it.
@@ -303,20 +350,26 @@ impl Judge {
         hour: u32,
         readings: Readings,
     ) -> [f64; IRRADIANCE_ROW] {
-        let hour = one_hour(site, surface, hour, readings);
-        hour.fill(&mut self.conditions);
-        let answer = hour.answer(&self.conditions);
-        [
-            answer.altitude,
-            answer.azimuth,
-            answer.direct,
-            answer.diffuse,
-            answer.total,
-            answer.sky,
-            answer.circumsolar,
-            answer.horizontal,
-            answer.ground,
-        ]
+        let one = one_hour(site, surface, hour, readings);
+        let (answer, beyond) = beyond_in(|| {
+            one.fill(&mut self.conditions);
+            one.answer(&self.conditions)
+        });
+        self.beyond = beyond;
+        answer.doubles()
+    }
+
+    /// The same for an engine that takes a sum beyond ±1 otherwise.
+    pub fn hour_otherwise(
+        &mut self,
+        site: &JobSite,
+        surface: &Surface,
+        hour: u32,
+        readings: Readings,
+        way: Otherwise,
+    ) -> [f64; IRRADIANCE_ROW] {
+        let one = one_hour(site, surface, hour, readings);
+        one.answer_otherwise(&mut self.conditions, way).doubles()
     }
 
     /// The factor in the hour that the record holds, or the number.
@@ -332,18 +385,30 @@ impl Judge {
         hour: u32,
         readings: Readings,
     ) -> Result<[f64; ROW], u64> {
-        let [altitude, azimuth, direct, diffuse, total, ..] =
-            self.hour(site, surface, hour, readings);
+        let doubles = self.hour(site, surface, hour, readings);
+        self.sums.push((hour, self.beyond));
+        self.row_of(surface, doubles)
+    }
+
+    /// The row of the hour that the record holds.
+    pub fn row_of(
+        &mut self,
+        surface: &Surface,
+        [altitude, azimuth, direct, diffuse, total, ..]: [f64; IRRADIANCE_ROW],
+    ) -> Result<[f64; ROW], u64> {
         let factor = self.factor(surface);
         let number = factor.err().unwrap_or(0);
         let orientation = Orientation360(surface[1]);
         let walk = walked(&self.conditions, surface[0], orientation, number);
         self.walks.extend(walk);
+        if self.beyond.arcsine_above {
+            self.overhead.extend(walk);
+        }
         Ok([altitude, azimuth, direct, diffuse, total, factor?])
     }
 
     pub fn run(&mut self, job: &Job, results: &mut [u8]) -> RunAnswer {
-        self.walks.clear();
+        self.forget();
         let (steps, lists) = match checked(job, results.len()) {
             Ok(all) => all,
             Err(number) => return refused(number, 0),
@@ -368,7 +433,7 @@ impl Judge {
     }
 
     pub fn step(&mut self, single: &Single, results: &mut [u8]) -> u64 {
-        self.walks.clear();
+        self.forget();
         let (hour, lists) = match single_checked(single, true) {
             Ok(all) => all,
             Err(number) => return number,
@@ -387,6 +452,7 @@ impl Judge {
     }
 
     pub fn irradiance(&mut self, single: &Single, results: &mut [u8]) -> u64 {
+        self.forget();
         let (hour, _) = match single_checked(single, false) {
             Ok(all) => all,
             Err(number) => return number,
@@ -395,6 +461,7 @@ impl Judge {
             return 7;
         }
         let row = self.hour(&single.site, &single.surface, hour, single.readings);
+        self.sums.push((hour, self.beyond));
         store(results, 0, &row);
         0
     }

@@ -6,8 +6,8 @@ use super::conditions::{
 };
 use super::*;
 use crate::comparison::{same, shown, Outcome, Settings};
-use crate::random::Random;
-use crate::stand_ins;
+use crate::random::{ulps_from, Random, NAN_PATTERNS};
+use crate::stand_ins::{self, beyond_in};
 use crate::support::refusal_number;
 
 /// Counts the checks; the first that fails ends the section.
@@ -53,6 +53,7 @@ pub fn section(settings: &Settings) -> Outcome {
     settings.heading("the published Rust with the stand-ins, on inputs with known answers");
     let checks = &mut Checks { settings, made: 0 };
     stand_ins_are_close(checks)?;
+    beyond_one(checks)?;
     sun(checks)?;
     sky(checks)?;
     factor(checks)?;
@@ -98,6 +99,23 @@ fn stand_ins_are_close(checks: &mut Checks) -> Outcome {
         checks.equal("root", stand_ins::sqrt_by_whole_numbers(x), x.sqrt())?;
     }
     checks.done("stand-ins")
+}
+
+/// "Any number above 1 as 1 and below −1 as −1; NaN remains NaN."
+fn beyond_one(checks: &mut Checks) -> Outcome {
+    let pi = f64::from_bits(0x4009_21FB_5444_2D18);
+    for a in [1.0, ulps_from(1.0, 1), 1.5, 1e300, f64::INFINITY] {
+        checks.equal("arcsine of 1 and above", stand_ins::asin(a), pi / 2.0)?;
+        checks.equal("arcsine of -1 and below", stand_ins::asin(-a), -pi / 2.0)?;
+        checks.equal("arccosine of 1 and above", stand_ins::acos(a), 0.0)?;
+        checks.equal("arccosine of -1 and below", stand_ins::acos(-a), pi)?;
+    }
+    for bits in NAN_PATTERNS {
+        let nan = f64::from_bits(bits);
+        checks.holds("arcsine of a NaN", stand_ins::asin(nan).is_nan())?;
+        checks.holds("arccosine of a NaN", stand_ins::acos(nan).is_nan())?;
+    }
+    checks.done("arcsine and arccosine beyond 1")
 }
 
 fn sun(checks: &mut Checks) -> Outcome {
@@ -356,7 +374,38 @@ fn sectors(checks: &mut Checks) -> Outcome {
     )?;
     number("a turned sector", 0.0, &[(200.0, 100.0), (150.0, 360.0)], 9)?;
     number("no sectors", 0.0, &[], 10)?;
+    sun_overhead(checks)?;
     checks.done("sectors")
+}
+
+/// A sun overhead whose altitude's sum is above 1: the altitude is 90, the azimuth above 180, and so
+/// no sector holds it, though one goes all the way round.
+fn sun_overhead(checks: &mut Checks) -> Outcome {
+    let overhead = OneHour {
+        site: Site {
+            latitude: f64::from_bits(0xC035_6F7D_494F_4469),
+            longitude: f64::from_bits(0x4038_B0A3_D70A_3D6D),
+            timezone: 0,
+            conversion_needed: false,
+            tilt: 0.0,
+            orientation: 316.0,
+        },
+        hour: 322,
+        diffuse: 100.0,
+        direct: 500.0,
+        reflectivity: 0.2,
+    };
+    let (mut record, beyond) = beyond_in(|| overhead.record());
+    record.shading_segments = Some(vec![sector(0.0, 360.0, vec![])]);
+    checks.holds("the altitude's sum is above 1", beyond.arcsine_above)?;
+    checks.equal("the altitude there", record.solar_altitudes[0], 90.0)?;
+    let azimuth = record.solar_azimuth_angles[0];
+    checks.holds("the azimuth there is above 180", azimuth > 180.0)?;
+    let facing = angle(316.0);
+    let factor =
+        record.direct_shading_reduction_factor(0.0, 1.0, 1.0, 0.0, facing, Some(&[]), FIRST_STEP);
+    let number = factor.map_err(|error| refusal_number(&error));
+    checks.holds("no sector holds the sun there", number == Err(10))
 }
 
 fn times(checks: &mut Checks) -> Outcome {

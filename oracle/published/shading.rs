@@ -140,6 +140,11 @@ pub struct Judged {
     pub walked: Option<Walked>,
 }
 
+/// Whether the published Rust has that surface outside that sun's beam.
+pub fn outside_beam(&[altitude, azimuth, tilt, orientation, ..]: &Numbers) -> bool {
+    sun_at(altitude, azimuth, vec![]).outside_solar_beam(tilt, angle(orientation), FIRST_STEP)
+}
+
 fn refused(number: u64) -> FactorAnswer {
     FactorAnswer {
         number,

@@ -1,11 +1,14 @@
 //! The sun's angles: the published `init_` functions against Rattle's.
 
+use super::beyond::Sums;
 use super::interface as rust;
 use super::*;
 use crate::arguments::{around, compare_function, Argument};
 use crate::comparison::{Outcome, Settings};
 use crate::probes::{OneDouble, Probes};
 use crate::random::{edges, ulps_from, Random};
+use crate::stand_ins::beyond_in;
+use std::cell::Cell;
 use std::f64::consts::PI;
 
 /// The days of a leap year.
@@ -59,8 +62,8 @@ fn orbit_deviation() -> Argument {
 
 type Sky = [f64; 3];
 
-/// The sun overhead, about: the sine of the altitude is about 1, and in some cases a little above
-/// it, so that the altitude is NaN.
+/// The sun overhead, about: the sine of the altitude is about 1, and its sum in some cases a little
+/// above it.
 fn sun_overhead(random: &mut Random) -> Sky {
     let declination = match random.below(2) {
         0 => declination_of(random.below(DAYS as usize) as u32),
@@ -73,6 +76,14 @@ fn sun_overhead(random: &mut Random) -> Sky {
         _ => random.uniform(-1e-7, 1e-7),
     };
     [latitude, declination, hour_angle]
+}
+
+/// The sun at the other end of the Earth, about: the sum is about −1, and in some cases a little
+/// below it.
+fn sun_underfoot(random: &mut Random) -> Sky {
+    let [latitude, declination, hour_angle] = sun_overhead(random);
+    let half_a_turn = [180.0, -180.0][random.below(2)];
+    [-latitude, declination, half_a_turn - hour_angle]
 }
 
 /// Altitudes at which a formula takes another branch.
@@ -103,8 +114,9 @@ pub(super) fn hour_angle_at(altitude: f64, latitude: f64, declination: f64) -> f
 }
 
 fn aimed(random: &mut Random, count: usize) -> impl Iterator<Item = Sky> + '_ {
-    (0..count / 4).map(|turn| match turn % 2 {
-        0 => sun_overhead(random),
+    (0..count / 4).map(|turn| match turn % 4 {
+        0 | 1 => sun_overhead(random),
+        2 => sun_underfoot(random),
         _ => sun_at_a_branch(random),
     })
 }
@@ -246,15 +258,29 @@ fn hour_angles(settings: &Settings, rattle: &Probes) -> Outcome {
     )
 }
 
-fn angles(settings: &Settings, rattle: &Probes) -> Outcome {
+/// The altitude, and how many of the cases compared had its sum beyond ±1.
+fn altitudes(settings: &Settings, rattle: &Probes) -> Outcome {
+    let name = "init_solar_altitude";
+    let sums = Cell::new(Sums::default());
     compare_function(
         settings,
-        "init_solar_altitude",
+        name,
         aimed(&mut settings.random("altitudes"), settings.count),
         [latitude(), declination(), hour_angle()],
-        |[l, d, w]| rust::init_solar_altitude(l, d, w),
+        |[l, d, w]| {
+            let (altitude, beyond) = beyond_in(|| rust::init_solar_altitude(l, d, w));
+            let mut met = sums.get();
+            met.note(beyond);
+            sums.set(met);
+            altitude
+        },
         |[l, d, w]| unsafe { (rattle.init_solar_altitude)(l, d, w) },
     )?;
+    sums.get().report_altitude(settings, name)
+}
+
+fn angles(settings: &Settings, rattle: &Probes) -> Outcome {
+    altitudes(settings, rattle)?;
     one(
         settings,
         "init_solar_zenith_angle",

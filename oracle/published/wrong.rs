@@ -7,6 +7,7 @@ use super::irradiance::LIMITS;
 use super::*;
 use crate::probes::{ProbeHour, Probes, YEAR_COLUMNS};
 use crate::random::ulps_from;
+use crate::stand_ins::{beyond_in, Beyond};
 use std::f64::consts::PI;
 
 /// The field's name, what is wrong, and a side of the comparison that has it.
@@ -123,16 +124,34 @@ fn altitude_before_the_bound(latitude: f64, declination: f64, hour_angle: f64) -
         .stand_in_asin()
         .stand_in_to_degrees()
 }
-extern "C" fn altitude_with_a_clamped_sine(l: f64, d: f64, w: f64) -> f64 {
-    let altitude = right::init_solar_altitude(l, d, w);
-    let overhead = (l - d).abs() < 1e-3 && w.abs() < 1e-3;
-    if altitude.is_nan() && overhead {
-        90.0
-    } else {
-        altitude
+/// The altitude, with another one where its sum is above 1 or where it is below −1.
+fn altitude_beyond(l: f64, d: f64, w: f64, above: Option<f64>, below: Option<f64>) -> f64 {
+    let (altitude, beyond) = beyond_in(|| right::init_solar_altitude(l, d, w));
+    match beyond {
+        _ if beyond.arcsine_above => above.unwrap_or(altitude),
+        _ if beyond.arcsine_below => below.unwrap_or(altitude),
+        _ => altitude,
     }
 }
-extern "C" fn altitude_without_nan(l: f64, d: f64, w: f64) -> f64 {
+extern "C" fn altitude_nan_above_1(l: f64, d: f64, w: f64) -> f64 {
+    altitude_beyond(l, d, w, Some(f64::NAN), None)
+}
+extern "C" fn altitude_nan_below_minus_1(l: f64, d: f64, w: f64) -> f64 {
+    altitude_beyond(l, d, w, None, Some(f64::NAN))
+}
+extern "C" fn altitude_0_above_1(l: f64, d: f64, w: f64) -> f64 {
+    altitude_beyond(l, d, w, Some(0.0), None)
+}
+extern "C" fn altitude_90_below_minus_1(l: f64, d: f64, w: f64) -> f64 {
+    altitude_beyond(l, d, w, None, Some(90.0))
+}
+extern "C" fn altitude_of_the_double_below_1(l: f64, d: f64, w: f64) -> f64 {
+    // the sum above 1 brought back by one step too many
+    let altitude = ulps_from(1.0, -1).stand_in_asin().stand_in_to_degrees();
+    altitude_beyond(l, d, w, Some(altitude), None)
+}
+extern "C" fn altitude_that_drops_a_nan(l: f64, d: f64, w: f64) -> f64 {
+    // a NaN latitude must not become a sun at the horizon
     let altitude = right::init_solar_altitude(l, d, w);
     if altitude.is_nan() {
         0.0
@@ -274,8 +293,12 @@ pub fn sun(right: Probes) -> Vec<Wrong> {
         init_solar_hour_angle: hour_angle_closed_at_180,
         init_solar_hour_angle: hour_angle_closed_at_minus_180,
         init_solar_hour_angle: hour_angle_shifted_twice,
-        init_solar_altitude: altitude_with_a_clamped_sine,
-        init_solar_altitude: altitude_without_nan,
+        init_solar_altitude: altitude_nan_above_1,
+        init_solar_altitude: altitude_nan_below_minus_1,
+        init_solar_altitude: altitude_0_above_1,
+        init_solar_altitude: altitude_90_below_minus_1,
+        init_solar_altitude: altitude_of_the_double_below_1,
+        init_solar_altitude: altitude_that_drops_a_nan,
         init_solar_altitude: altitude_with_a_closed_bound,
         init_solar_altitude: altitude_cut_at_0,
         init_solar_altitude: altitude_in_another_order,
@@ -430,6 +453,70 @@ fn answer(case: OneHour) -> ProbeHour {
     case.answer(&case.record())
 }
 
+/// What an engine may wrongly make of a sum beyond ±1; NaN is what came of it before such sums were
+/// taken as ±1.
+#[derive(Clone, Copy, PartialEq)]
+pub enum Otherwise {
+    AltitudeNanAbove,
+    AltitudeNanBelow,
+    AltitudeZeroAbove,
+    IncidenceNanAbove,
+    IncidenceNanBelow,
+}
+
+impl Otherwise {
+    /// Whether an hour with such sums is one of those that differ.
+    fn differs(self, beyond: Beyond) -> bool {
+        match self {
+            Otherwise::AltitudeNanAbove | Otherwise::AltitudeZeroAbove => beyond.arcsine_above,
+            Otherwise::AltitudeNanBelow => beyond.arcsine_below,
+            Otherwise::IncidenceNanAbove => beyond.arccosine_above,
+            Otherwise::IncidenceNanBelow => beyond.arccosine_below,
+        }
+    }
+}
+
+impl OneHour {
+    /// Another altitude, and what follows from it, in a record that holds this hour.
+    fn put_altitude(&self, record: &mut ExternalConditions, altitude: f64) {
+        record.solar_altitudes[0] = altitude;
+        record.solar_zenith_angles[0] = init_solar_zenith_angle(altitude);
+        record.solar_azimuth_angles[0] = init_solar_azimuth_angle(
+            self.site.latitude,
+            record.solar_declinations[0],
+            record.solar_hour_angles[0],
+            altitude,
+        );
+        self.fill_sky(record);
+    }
+
+    /// The irradiance in which a sum beyond ±1 is taken otherwise; the record then holds that hour.
+    pub fn answer_otherwise(&self, record: &mut ExternalConditions, way: Otherwise) -> ProbeHour {
+        let (right, beyond) = beyond_in(|| {
+            self.fill(record);
+            self.answer(record)
+        });
+        if !way.differs(beyond) {
+            return right;
+        }
+        match way {
+            Otherwise::AltitudeNanAbove | Otherwise::AltitudeNanBelow => {
+                self.put_altitude(record, f64::NAN)
+            }
+            Otherwise::AltitudeZeroAbove => self.put_altitude(record, 0.0),
+            // the record's latitude is read for the incidence alone
+            Otherwise::IncidenceNanAbove | Otherwise::IncidenceNanBelow => {
+                record.latitude = f64::NAN
+            }
+        }
+        self.answer(record)
+    }
+}
+
+fn otherwise(case: OneHour, way: Otherwise) -> ProbeHour {
+    case.answer_otherwise(&mut case.record(), way)
+}
+
 wrong_hours! {
     clearness_by_the_raw_beam(case) {
         let mut record = case.record();
@@ -452,21 +539,35 @@ wrong_hours! {
         raw.site.conversion_needed = false;
         answer(raw)
     }
-    incidence_clamped(case) {
-        // what cannot be an arccosine is taken for a cosine of 1
-        let right = answer(case);
-        if right.direct.is_nan() && !right.altitude.is_nan() {
-            let direct = case.record().direct_beam_radiations[0];
-            return ProbeHour { direct, ..right };
+    hour_altitude_nan_above_1(case) {
+        otherwise(case, Otherwise::AltitudeNanAbove)
+    }
+    hour_altitude_nan_below_minus_1(case) {
+        otherwise(case, Otherwise::AltitudeNanBelow)
+    }
+    hour_altitude_0_above_1(case) {
+        otherwise(case, Otherwise::AltitudeZeroAbove)
+    }
+    incidence_nan_above_1(case) {
+        otherwise(case, Otherwise::IncidenceNanAbove)
+    }
+    incidence_nan_below_minus_1(case) {
+        otherwise(case, Otherwise::IncidenceNanBelow)
+    }
+    direct_0_above_1(case) {
+        // a cosine that is no number, dropped
+        let (right, beyond) = beyond_in(|| answer(case));
+        match beyond.arccosine_above {
+            true => ProbeHour { direct: 0.0, total: right.diffuse, ..right },
+            false => right,
         }
-        right
     }
     ratio_that_drops_a_nan(case) {
-        let right = answer(case);
-        if right.circumsolar.is_nan() && !right.altitude.is_nan() {
-            return ProbeHour { circumsolar: 0.0, ..right };
+        let (right, beyond) = beyond_in(|| answer(case));
+        match beyond.arccosine_above {
+            true => ProbeHour { circumsolar: 0.0, ..right },
+            false => right,
         }
-        right
     }
     sky_and_horizontal_swapped(case) {
         let right = answer(case);
@@ -579,7 +680,12 @@ pub fn irradiance(right: Probes) -> Vec<Wrong> {
         hour: clearness_by_the_raw_beam,
         hour: ground_by_the_raw_beam,
         hour: conversion_forgotten,
-        hour: incidence_clamped,
+        hour: hour_altitude_nan_above_1,
+        hour: hour_altitude_nan_below_minus_1,
+        hour: hour_altitude_0_above_1,
+        hour: incidence_nan_above_1,
+        hour: incidence_nan_below_minus_1,
+        hour: direct_0_above_1,
         hour: ratio_that_drops_a_nan,
         hour: sky_and_horizontal_swapped,
         hour: circumsolar_and_ground_swapped,
