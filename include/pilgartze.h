@@ -13,8 +13,10 @@
  * - a call ends, and never stops the program;
  * - it checks its own input, and turns down with a number what is out of range (enum pilgartze_refusal);
  * - it reads and writes nothing outside the lists that it is lent;
- * - the answer and every byte of the results follow from the input alone. A NaN is stored as 7FF8000000000000; only the
- *   bits of a NaN in the answer's sum are left open.
+ * - the answer and every byte of the results follow from the input alone;
+ * - the results of an accepted call are finite numbers, all but perhaps the factor: an altitude lies from 0 to 90, and
+ *   direct irradiance is not below 0. (A factor could be NaN only where a shade extent is, see below; none is known to
+ *   be. It would be stored as 7FF8000000000000, and only the bits of a NaN in the answer's sum are left open.)
  * It keeps no state, takes no memory from the heap and at most PILGARTZE_STACK_BYTES of the stack, and calls nothing of
  * the C library but memcpy and memset, not even its mathematics.
  * So any number of threads may call at once, also with the same series, sectors and window, as long as each has results
@@ -27,9 +29,9 @@
  * - equally many sectors, and those at the same place start and end at the same numbers (0.0 and -0.0 are one number);
  * - no shade extent that is NaN, in either job, at any step.
  * Then both have the same steps and the same direct values. Every factor lies from 0 to 1, and is exactly 1 with no
- * objects. The same objects, in any order and number, give the same factors and sum, bit for bit. Where either job
- * holds all objects of the other, sector by sector and at the window, its factors are nowhere larger. Where every
- * direct value is finite, its sum is not larger either, and each sum lies from 0 to the sum of the direct values.
+ * objects. Each sum lies from 0 to the sum of the direct values. The same objects, in any order and number, give the
+ * same factors and sum, bit for bit. Where either job holds all objects of the other, sector by sector and at the
+ * window, its factors are nowhere larger, nor is its sum.
  * Objects are the same where all their words are. That no extent is NaN is measured, not proved: none is known to be.
  *
  * What the library asks, as any C function does:
@@ -99,7 +101,7 @@ extern "C" {
  * added, the third otherwise. */
 #define PILGARTZE_VERSION_MAJOR 1
 #define PILGARTZE_VERSION_MINOR 0
-#define PILGARTZE_VERSION_PATCH 0
+#define PILGARTZE_VERSION_PATCH 1
 #define PILGARTZE_VERSION \
     (PILGARTZE_VERSION_MAJOR * 1000000 + PILGARTZE_VERSION_MINOR * 1000 + PILGARTZE_VERSION_PATCH)
 
@@ -286,11 +288,10 @@ typedef struct pilgartze_shading {
 
 /* ---- What comes out ------------------------------------------------------------------------------------------- */
 
-/* A step's results. In rare hours rounding makes some of them NaN: with the sun square on the surface direct, diffuse
- * and total, with the sun overhead the altitude and what follows from it (the factor is then 1). With the sun overhead
- * the azimuth can also be far beyond 180. */
+/* A step's results. All are numbers (of the factor see below). With the sun overhead the azimuth can be far beyond
+ * 180, where no sector is: if the sun is inside the beam then, the step is refused 10. */
 typedef struct pilgartze_row {
-    double altitude; /* the sun's, above the horizon; 0 at night */
+    double altitude; /* the sun's, above the horizon: 0..90; 0 at night */
     double azimuth;  /* the sun's, from south, eastwards positive */
     double direct;   /* W/m2 on the unshaded surface: the beam, and the sky's light from around the sun; not below 0 */
     double diffuse;  /* W/m2: the rest of the sky's light, and what the ground reflects; can be below 0 */
@@ -318,8 +319,7 @@ typedef struct pilgartze_answer {
     uint64_t number; /* an enum pilgartze_refusal; 0: accepted */
     uint64_t step;   /* where number is 8 to 11 the step, from 0, at which the run ended; otherwise 0 */
     uint64_t count;  /* how many steps there are, and rows were stored */
-    double sum;      /* of factor * direct over all steps, W/m2; times the step in hours it is Wh/m2. One NaN row, see
-                        pilgartze_row, makes it NaN */
+    double sum;      /* of factor * direct over all steps, W/m2; times the step in hours it is Wh/m2 */
 } pilgartze_answer;
 
 typedef struct pilgartze_factor_answer {

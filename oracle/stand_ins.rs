@@ -170,8 +170,8 @@ fn whole(n: i32) -> f64 {
 // Arcsine, arccosine, root
 // ---------------------------------------------------------------------------------------------
 
-/// "Any number above 1 as 1 and below −1 as −1; NaN remains NaN" (request No. 5); "odd for a below
-/// 0." −0.0 is not below 0, and a·h keeps its sign.
+/// "Any number above 1 as 1 and below −1 as −1; NaN remains NaN"; "odd for a below 0." −0.0 is not
+/// below 0, and a·h keeps its sign.
 pub fn asin(a: f64) -> f64 {
     if a.is_nan() {
         return f64::NAN;

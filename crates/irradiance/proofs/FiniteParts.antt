@@ -1,5 +1,5 @@
--- The irradiance of a step is finite: direct, diffuse and total lie within 2·10¹³ W/m², whatever the sun of an hour is, for readings in their
--- ranges. (The bound is far from any value that is met; it says that nothing overflows and nothing is NaN.) Assumes nothing.
+-- The irradiance of a step is finite: direct, diffuse, total and their parts lie within 2·10¹³ W/m², for the sun of every hour and readings in
+-- their ranges. (The bound is far from any value that is met; it says that nothing overflows and nothing is NaN.) Assumes nothing.
 use mathlib.Core.Path.{_≡_, refl}
 use mathlib.Core.Bool.{Bool, true, false, cond, _&&_}
 use mathlib.Core.List.{[]}
@@ -145,7 +145,7 @@ ratio-in {c} {z} p q =
 
 -- ---- the parts
 
-abbrev mostPart : Float
+abbrev pub mostPart : Float
 mostPart = whole (10 ^ 12)
 
 direct-in : {beam c : Float} → InRange (whole 0) mostBeam beam → About (whole 1) c → InRange (whole 0) mostBeam (directIrradiance beam c)
@@ -208,6 +208,10 @@ pub record IrradianceRange (parts : Irradiance) : Type 0 where
   pub direct : InRange (whole 0) mostIrradiance (parts .direct)
   pub diffuse : About mostIrradiance (parts .diffuse)
   pub total : About mostIrradiance (parts .total)
+  pub sky : About mostPart (parts .sky)
+  pub circumsolar : InRange (whole 0) (whole (4 * 10 ^ 12)) (parts .circumsolar)
+  pub horizontal : About mostPart (parts .horizontal)
+  pub ground : About mostPart (parts .ground)
 
 -- direct with the circumsolar part
 direct-sum : {a b : Float} → InRange (whole 0) mostBeam a → InRange (whole 0) (whole (4 * 10 ^ 12)) b → InRange (whole 0) (whole (41 * 10 ^ 11)) (a ⊕ b)
@@ -261,5 +265,16 @@ module _ {l d t o : SinCos} {sun : Hour} (latitude : UnitRange l) (declination :
       let f2 = f2-about e delta (known .zenith) in
       let circumsolar = circumsolar-in q f1 ratio in
       let first = direct-sum (direct-in beam cos) circumsolar in
-      let second = diffuse-sum (sky-about q f1 (tilt .cos)) circumsolar (horizontal-about q f2 (tilt .sin)) (ground-about q beam (known .sin-altitude) s (tilt .cos)) in
-      record { direct = wider-direct first; diffuse = wider-diffuse second; total = total-sum first second }
+      let sky = sky-about q f1 (tilt .cos) in
+      let horizontal = horizontal-about q f2 (tilt .sin) in
+      let ground = ground-about q beam (known .sin-altitude) s (tilt .cos) in
+      let second = diffuse-sum sky circumsolar horizontal ground in
+      record {
+        direct = wider-direct first;
+        diffuse = wider-diffuse second;
+        total = total-sum first second;
+        sky = sky;
+        circumsolar = circumsolar;
+        horizontal = horizontal;
+        ground = ground;
+      }

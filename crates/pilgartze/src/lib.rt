@@ -100,12 +100,12 @@ fn surface_of(tilt: f64, orientation: f64, base_height: f64, height: f64, width:
     }
 }
 
-// The version of the library that is linked: 1.0.0, as the header's PILGARTZE_VERSION.
+// The version of the library that is linked: 1.0.1, as the header's PILGARTZE_VERSION.
 #[no_mangle]
 pub extern "C" fn pilgartze_version() -> u64
     ensures { λ r. ⌜ r ≡ version ⌝ }
 {
-    1000000
+    1000001
 }
 
 // A run: a row of six doubles for each step, and the sum of factor times direct. That height and width are doubles is what the claim on
