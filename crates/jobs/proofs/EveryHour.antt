@@ -1,14 +1,12 @@
--- Every hour has numbers: for every accepted site and surface and every hour of either year the altitude lies from 0 to 90 degrees and the
--- angle of incidence from 0 to 180, the azimuth is finite, and so are direct, diffuse and total for every accepted reading. All this holds
--- at every step of an accepted job. Assumes nothing.
+-- Every hour has numbers: the claims of specs/Numbers.antt, proved, and that they hold at every step of an accepted job. Assumes nothing.
 use mathlib.Core.List.{List}
 use Prim.Native.Nat.{ℕ, _+_, _/_, _<_}
 use native.Mathlib.Omega.{arith}
 use lib.Dec.{T, eqb}
 use lib.Ieee.{Float, neg, le, sub, isNan}
 use Rattle.doubles.specs.Arithmetic.{_⊖_, whole}
-use Rattle.doubles.specs.Order.{InRange, About, Number}
-use Rattle.doubles.proofs.Intervals.{in-number, own-range, about, sub-in}
+use Rattle.doubles.specs.Order.{InRange, About, Number, Finite}
+use Rattle.doubles.proofs.Intervals.{in-number, in-finite, about-finite, own-range, about, sub-in}
 use Rattle.days.specs.Day.{dayOf}
 use Rattle.days.proofs.Range.{radiation-in}
 use Rattle.orientation.specs.Orientation.{orientation180}
@@ -18,7 +16,7 @@ use Rattle.sun.specs.Hour.{sinCosOf, hourOf}
 use Rattle.sun.proofs.Units.{UnitRange, unit-range}
 use Rattle.sun.proofs.ByAltitude.{farAzimuth}
 use Rattle.sun.proofs.Range.{latitude-unit, declination-unit, sun-range}
-use Rattle.irradiance.specs.Surface.{incidenceAngle}
+use Rattle.irradiance.specs.declared.parts.Irradiance.{Irradiance}
 use Rattle.irradiance.proofs.Range.{incidence-range}
 use Rattle.irradiance.proofs.FiniteParts.{IrradianceRange, irradiance-range}
 use Rattle.simulation_time.specs.Timestep.{currentHour}
@@ -26,22 +24,10 @@ use Rattle.simulation_time.specs.Steps.{stepCount, timeAt}
 use Rattle.objects.specs.declared.surface.Surface.{Surface}
 use Rattle.objects.specs.Surface.{surfaceFine}
 use Rattle.object_checks.proofs.Accepted.{tilt-range, orientation-range}
-use Rattle.weather.specs.declared.Reading.{Reading}
 use Rattle.jobs.specs.Job.{Job, readingAt}
+use Rattle.jobs.specs.Numbers.{incidenceIn, AnglesInRange, EveryHour, FiniteIrradiance, EveryReading}
 use Rattle.jobs.specs.Step.{sunAt, irradianceAt}
-use Rattle.jobs.proofs.PassedChecks.{Passed, ReadingRange, reading-range, hour-below}
-
--- the angle of incidence on a surface in an hour of the year, which counts from 0
-abbrev pub incidenceIn : Site → Surface → ℕ → Float
-incidenceIn site surface hour =
-    incidenceAngle (sinCosOf (site .latitude)) (sinCosOf (dayOf (hour / 24 + 1) .declination)) (sinCosOf (surface .tilt))
-    (sinCosOf (orientation180 (surface .orientation))) (hourOf site hour .«hour_angle»)
-
--- what is claimed of an hour
-pub record AnglesInRange (site : Site) (surface : Surface) (hour : ℕ) : Type 0 where
-  pub altitude : InRange (whole 0) (whole 90) (hourOf site hour .altitude)
-  pub azimuth : About farAzimuth (hourOf site hour .azimuth)
-  pub incidence : InRange (whole 0) (whole 180) (incidenceIn site surface hour)
+use Rattle.jobs.proofs.PassedChecks.{Passed, accepted-reading, reading-fine, hour-below}
 
 tilt-unit : (s : Surface) → T (surfaceFine s) → UnitRange (sinCosOf (s .tilt))
 unfolding whole neg le
@@ -57,36 +43,55 @@ facing-unit s t =
     let wide : About (whole 1000) (whole 180 ⊖ s .orientation) = about turned tt in
     unit-range wide
 
-pub angles-in-range : (site : Site) (surface : Surface) → T (siteFine site) → T (surfaceFine surface) → (hour : ℕ) → hour < 8784 → AnglesInRange site surface hour
-angles-in-range site surface t s hour h =
+azimuth-finite : {x : Float} → About farAzimuth x → Finite x
+unfolding whole
+azimuth-finite r = about-finite (record { holds = tt }) r
+
+pub every-hour : EveryHour
+every-hour site surface t s hour h =
     let sun = sun-range site t hour h in
     record {
       altitude = sun .altitude;
-      azimuth = sun .azimuth;
+      azimuth = azimuth-finite (sun .azimuth);
       incidence = incidence-range (latitude-unit site t hour h) (declination-unit site t hour h) (tilt-unit surface s) (facing-unit surface s) (sun .hour-angle);
     }
 
--- in the customer's words, whose premise is not needed
+-- in the specification's words, whose premise is not needed
 pub incidence-number : (site : Site) (surface : Surface) → T (siteFine site) → T (surfaceFine surface) → (hour : ℕ) → hour < 8784
     → Number (hourOf site hour .altitude) → Number (incidenceIn site surface hour)
-incidence-number site surface t s hour h n = in-number (angles-in-range site surface t s hour h .incidence)
+incidence-number site surface t s hour h n = in-number (every-hour site surface t s hour h .incidence)
 
--- what a reading gives there
-pub irradiance-in-range : (site : Site) (surface : Surface) → T (siteFine site) → T (surfaceFine surface) → (time : Float) → currentHour time < 8784 → (reading : Reading) → ReadingRange reading
-    → IrradianceRange (irradianceAt site surface time reading)
+-- ---- the irradiance
+
+finite-parts : {parts : Irradiance} → IrradianceRange parts → FiniteIrradiance parts
+unfolding whole
+finite-parts r = record {
+  direct = in-finite (record { holds = tt }) (record { holds = tt }) (r .direct);
+  direct-from = r .direct .from;
+  diffuse = about-finite (record { holds = tt }) (r .diffuse);
+  total = about-finite (record { holds = tt }) (r .total);
+  sky = about-finite (record { holds = tt }) (r .sky);
+  circumsolar = in-finite (record { holds = tt }) (record { holds = tt }) (r .circumsolar);
+  horizontal = about-finite (record { holds = tt }) (r .horizontal);
+  ground = about-finite (record { holds = tt }) (r .ground);
+}
+
+pub every-reading : EveryReading
 unfolding irradianceAt sunAt dayOf
-irradiance-in-range site surface t s time h reading r =
+every-reading site surface t s time h reading f =
     let hour = currentHour time in
-    irradiance-range (latitude-unit site t hour h) (declination-unit site t hour h) (tilt-unit surface s) (facing-unit surface s) (sun-range site t hour h)
-    (eqb (site .«direct_beam_conversion») 1) (radiation-in (hour / 24 + 1) (omega arith)) (r .diffuse) (r .direct) (r .reflectivity)
+    let r = accepted-reading reading f in
+    finite-parts
+    (irradiance-range (latitude-unit site t hour h) (declination-unit site t hour h) (tilt-unit surface s) (facing-unit surface s) (sun-range site t hour h)
+    (eqb (site .«direct_beam_conversion») 1) (radiation-in (hour / 24 + 1) (omega arith)) (r .diffuse) (r .direct) (r .reflectivity))
 
 -- ---- the steps of an accepted job
 
 module _ {job : Job} {results : List ℕ} (p : Passed job results) (i : ℕ) (h : i < stepCount (job .run)) where
   pub step-angles : AnglesInRange (job .site) (job .surface) (currentHour (timeAt (job .run) i))
-  step-angles = angles-in-range (job .site) (job .surface) (p .site-fine) (p .surface-fine) (currentHour (timeAt (job .run) i)) (hour-below p i h)
+  step-angles = every-hour (job .site) (job .surface) (p .site-fine) (p .surface-fine) (currentHour (timeAt (job .run) i)) (hour-below p i h)
 
-  pub step-irradiance : IrradianceRange (irradianceAt (job .site) (job .surface) (timeAt (job .run) i) (readingAt job (timeAt (job .run) i)))
+  pub step-irradiance : FiniteIrradiance (irradianceAt (job .site) (job .surface) (timeAt (job .run) i) (readingAt job (timeAt (job .run) i)))
   step-irradiance =
-      irradiance-in-range (job .site) (job .surface) (p .site-fine) (p .surface-fine) (timeAt (job .run) i) (hour-below p i h)
-      (readingAt job (timeAt (job .run) i)) (reading-range p i h)
+      every-reading (job .site) (job .surface) (p .site-fine) (p .surface-fine) (timeAt (job .run) i) (hour-below p i h)
+      (readingAt job (timeAt (job .run) i)) (reading-fine p i h)

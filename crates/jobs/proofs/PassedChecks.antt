@@ -124,14 +124,10 @@ module _ {job : Job} {results : List ℕ} (p : Passed job results) where
   unfolding resultsFine
   room = leb-true (6 * stepCount (job .run)) (wordCount results) (is-true _ (p .results-fine))
 
-  reading-fine : (i : ℕ) → i < stepCount (job .run) → T (readingFine (readingAt job (timeAt (job .run) i)))
+  pub reading-fine : (i : ℕ) → i < stepCount (job .run) → T (readingFine (readingAt job (timeAt (job .run) i)))
   reading-fine i h =
       subst (λ (time : Float). T (readingFine (readingAt job time))) (times-at (job .run) i (whole 0) h)
       (all-pass (λ (time : Float). readingFine (readingAt job time)) (times (job .run)) i (whole 0) (p .readings-fine) (rw times-length h))
-
-  -- the values that a step uses are in their ranges
-  pub reading-range : (i : ℕ) → i < stepCount (job .run) → ReadingRange (readingAt job (timeAt (job .run) i))
-  reading-range i h = accepted-reading (readingAt job (timeAt (job .run) i)) (reading-fine i h)
 
   -- every step's hour is one of a leap year's
   pub hour-below : (i : ℕ) → i < stepCount (job .run) → currentHour (timeAt (job .run) i) < 8784

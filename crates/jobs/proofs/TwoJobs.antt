@@ -5,9 +5,7 @@ use mathlib.Core.List.{List, []}
 use Prim.Native.Nat.{ℕ, zero, suc, _<_}
 use lib.Ieee.{Float}
 use Rattle.doubles.specs.Arithmetic.{_⊕_, _⊗_, whole}
-use Rattle.doubles.specs.Order.{_≼_, InRange, Finite, Fits}
-use Rattle.doubles.proofs.Intervals.{in-finite}
-use Rattle.irradiance.proofs.FiniteParts.{mostIrradiance}
+use Rattle.doubles.specs.Order.{_≼_, Fits}
 use Rattle.words.specs.Words.{doubleAt}
 use Rattle.sun.specs.declared.site.Site.{Site}
 use Rattle.simulation_time.specs.Steps.{stepCount, timeAt}
@@ -82,10 +80,6 @@ module _ {job : Job} {results : List ℕ} (a : AcceptedRun job results) where
 
 -- ---- one run
 
-irradiance-finite : {x : Float} → InRange (whole 0) mostIrradiance x → Finite x
-unfolding whole
-irradiance-finite r = in-finite (record { holds = tt }) (record { holds = tt }) r
-
 module _ {job : Job} {results : List ℕ} (a : AcceptedRun job results) (d : Doubles (job .surface)) (n : NoNan job) where
   part : (i : ℕ) → i < stepCount (job .run) → Part (rowAt job i .factor)
   part i h = record {
@@ -105,8 +99,8 @@ module _ {job : Job} {results : List ℕ} (a : AcceptedRun job results) (d : Dou
   -- its direct value is finite and not negative
   amount : (i : ℕ) → i < stepCount (job .run) → Amount (rowAt job i .direct)
   amount i h =
-      let range = step-irradiance (a .checks) i h .direct in
-      subst Amount (sym (row-of a i h .direct)) (record { finite = irradiance-finite range; low = range .from; fits = subst Fits (row-of a i h .direct) (row-fits (row-of a i h) .direct) })
+      let parts = step-irradiance (a .checks) i h in
+      subst Amount (sym (row-of a i h .direct)) (record { finite = parts .direct; low = parts .direct-from; fits = subst Fits (row-of a i h .direct) (row-fits (row-of a i h) .direct) })
 
   -- the unshaded sum is that of the rows' direct values
   unshaded-done : unshadedSum (done job results) (stepCount (job .run)) ≡ total (λ (i : ℕ). rowAt job i .direct) (stepCount (job .run))

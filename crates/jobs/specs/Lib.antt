@@ -1,7 +1,8 @@
--- A job and the checks before its first step (`Job`, `JobChecks`), one step (`Step`), the run over all steps (`Run`), and the claim on
--- two jobs compared (`Comparison`).
+-- A job and the checks before its first step (`Job`, `JobChecks`), one step (`Step`), the run over all steps (`Run`), and the claims:
+-- every hour has numbers (`Numbers`), two jobs compared (`Comparison`).
 pub mod Job
 pub mod JobChecks
 pub mod Step
+pub mod Numbers
 pub mod Run
 pub mod Comparison
