@@ -2,7 +2,7 @@
 use mathlib.Core.Path.{_≡_, refl, ap, _∙_}
 use mathlib.Core.Logic.{_⊎_, inl, inr}
 use mathlib.Core.Bool.{Bool, true, false, _&&_}
-use Prim.Native.Nat.{ℕ, zero, suc, _+_, _-_, _*_, _≤_, _<_}
+use Prim.Native.Nat.{ℕ, zero, suc, _+_, _-_, _*_, _≤_, _%_}
 use native.Mathlib.Nat.{lt-irrefl}
 use native.Mathlib.Omega.{arith}
 use lib.Dec.{T}
@@ -10,14 +10,15 @@ use lib.Ieee.{Float, neg, add, sub, mul, div, lt, le, isNan, toUnsigned}
 use lib.Ieee.Bits.{is-true}
 use Rattle.doubles.specs.Arithmetic.{_⊕_, _⊖_, _⊗_, _⊘_, decimal, whole, bits}
 use Rattle.doubles.specs.Functions.{clamp}
-use Rattle.doubles.specs.Order.{_≼_, _≺_, InRange, About, Number, Finite}
-use Rattle.doubles.proofs.Order.{le-trans, lt→le, lt-le-trans, le-of-not-lt, neg-le, neg-neg}
+use Rattle.doubles.specs.Series.{horner}
+use Rattle.doubles.specs.Order.{_≼_, _≺_, InRange, Bounded, Number, Finite}
+use Rattle.doubles.proofs.Order.{le-trans, lt→le, lt-le-trans, le-of-not-lt, neg-le, neg-neg, both}
 use Rattle.doubles.proofs.Bounds.{one-number}
 use Rattle.doubles.proofs.Casts.{cast-mono}
 use Rattle.doubles.proofs.Clamping.{clamp-in}
-use Rattle.doubles.proofs.Intervals.{holdsEnds, in-number, in-finite, own-range, mul-turned, square-turned, widen, add-in, sub-in, mul-in, div-in, about, tests, tested, horner-in}
+use Rattle.doubles.proofs.Intervals.{holdsEnds, in-number, in-finite, own-range, mul-turned, square-turned, widen, add-in, sub-in, mul-in, div-in, bounded, tests, tested, horner-in}
 use Rattle.doubles.proofs.Ranges.{both-of}
-use Rattle.angles.specs.Sine.{isAngle, quarterTurns, remainder, sineStep, cosineStep, sineSum, cosineSum, sineSeries, cosineSeries, sineAt, cosineAt, sine, cosine}
+use Rattle.angles.specs.Sine.{isAngle, quarterTurns, remainder, sineStep, cosineStep, sineSum, cosineSum, sineSeries, cosineSeries, sineAt, cosineAt, sine, cosine, ofAngle}
 use Rattle.angles.proofs.Turns.{floor-up, quadrant-up}
 use Rattle.angles.proofs.Reduction.{unfloored, unfloored-small, unfloored-fits}
 use Rattle.angles.proofs.Laws.{is-angle}
@@ -25,10 +26,6 @@ use Rattle.angles.proofs.Laws.{is-angle}
 -- PI/2 as a double
 abbrev pub quarterTurn : Float
 quarterTurn = bits 0x3FF921FB54442D18
-
-both-and : (a b : Bool) → T a → T b → T (a && b)
-both-and true b s t = t
-both-and false b s t = s
 
 -- ---- the brackets of both series, for t from 0 to 1.2
 
@@ -48,39 +45,24 @@ step-in t h d z r s =
     let m : InRange (whole 0) (decimal 6 1) ((t ⊘ d) ⊗ h) = mul-in q s tt tt in
     sub-in (own-range one-number) m tt
 
-sineTest : ℕ → Bool
-unfolding stepTest
-sineTest n = stepTest (whole (2 * n * (2 * n + 1)))
-
-cosineTest : ℕ → Bool
-unfolding stepTest
-cosineTest n = stepTest (whole ((2 * n - 1) * (2 * n)))
-
-sine-tested : T (tests sineTest 8)
-unfolding tests sineTest
-sine-tested = tt
-
-cosine-tested : T (tests cosineTest 8)
-unfolding tests cosineTest
-cosine-tested = tt
-
 one-in : InRange (decimal 4 1) (whole 1) (whole 1)
 unfolding whole decimal le
 one-in = widen (own-range one-number) tt
 
+-- by the divisors of either series
+sum-in : (divisor : ℕ → ℕ) {t : Float} → T (tests (λ n. stepTest (whole (divisor n))) 8) → InRange (whole 0) most t
+    → InRange (decimal 4 1) (whole 1) (horner (λ n h. whole 1 ⊖ (t ⊘ whole (divisor n)) ⊗ h) 8 (whole 1))
+sum-in divisor {t} passed r =
+    horner-in (λ n h. whole 1 ⊖ (t ⊘ whole (divisor n)) ⊗ h) 8
+    (λ k l x s. step-in t x (whole (divisor (suc k))) (tested (λ n. stepTest (whole (divisor n))) 8 passed k l) r s) (whole 1) one-in
+
 sine-sum-in : {t : Float} → InRange (whole 0) most t → InRange (decimal 4 1) (whole 1) (sineSum t)
-unfolding sineSum sineTest
-sine-sum-in {t} r = horner-in (sineStep t) 8 keeps (whole 1) one-in
-  where
-    keeps : (k : ℕ) → k < 8 → (x : Float) → InRange (decimal 4 1) (whole 1) x → InRange (decimal 4 1) (whole 1) (sineStep t (suc k) x)
-    keeps k l x s = unfold sineStep in step-in t x (whole (2 * suc k * (2 * suc k + 1))) (tested sineTest 8 sine-tested k l) r s
+unfolding sineSum sineStep tests stepTest
+sine-sum-in r = sum-in (λ n. 2 * n * (2 * n + 1)) tt r
 
 cosine-sum-in : {t : Float} → InRange (whole 0) most t → InRange (decimal 4 1) (whole 1) (cosineSum t)
-unfolding cosineSum cosineTest
-cosine-sum-in {t} r = horner-in (cosineStep t) 8 keeps (whole 1) one-in
-  where
-    keeps : (k : ℕ) → k < 8 → (x : Float) → InRange (decimal 4 1) (whole 1) x → InRange (decimal 4 1) (whole 1) (cosineStep t (suc k) x)
-    keeps k l x s = unfold cosineStep in step-in t x (whole ((2 * suc k - 1) * (2 * suc k))) (tested cosineTest 8 cosine-tested k l) r s
+unfolding cosineSum cosineStep tests stepTest
+cosine-sum-in r = sum-in (λ n. (2 * n - 1) * (2 * n)) tt r
 
 -- ---- k is 0 up to an angle of 1, or 1 from an angle of 0.5 on
 
@@ -88,25 +70,28 @@ cosine-sum-in {t} r = horner-in (cosineStep t) 8 keeps (whole 1) one-in
 abbrev value : Float → Float
 value x = x ⊗ bits 0x3FE45F306DC9C883 ⊕ decimal 5 1
 
-value-in : {x : Float} → InRange (whole 0) quarterTurn x → InRange (decimal 5 1) (decimal 15 1) (value x)
-unfolding whole decimal bits add mul le isNan
-value-in {x} r =
-    let p : InRange (whole 0) (whole 1) (x ⊗ bits 0x3FE45F306DC9C883) = mul-in r (own-range (record { holds = tt })) tt tt in
-    add-in p (own-range (record { holds = tt })) tt
+abbrev perRadian : Float
+perRadian = bits 0x3FE45F306DC9C883
 
-value-from : {x : Float} → InRange (whole 1) quarterTurn x → whole 1 ≼ value x
-unfolding whole decimal bits add mul le isNan
-value-from {x} r =
-    let p : InRange (decimal 6 1) (whole 1) (x ⊗ bits 0x3FE45F306DC9C883) = mul-in r (own-range (record { holds = tt })) tt tt in
-    let v : InRange (whole 1) (whole 2) (value x) = add-in p (own-range (record { holds = tt })) tt in
-    v .from
+-- by tests of the angle's ends
+value-in : {l h a b x : Float} → InRange a b x → T (le (whole 0) a && le (whole 0) perRadian)
+    → T (holdsEnds a b perRadian perRadian (a ⊗ perRadian) (a ⊗ perRadian) (b ⊗ perRadian) (b ⊗ perRadian))
+    → T (holdsEnds (a ⊗ perRadian) (b ⊗ perRadian) (decimal 5 1) (decimal 5 1) l (a ⊗ perRadian ⊕ decimal 5 1) (b ⊗ perRadian ⊕ decimal 5 1) h)
+    → InRange l h (value x)
+unfolding decimal bits isNan
+value-in r zeros product sum = add-in (mul-in r (own-range (record { holds = tt })) zeros product) (own-range (record { holds = tt })) sum
 
-value-to : {x : Float} → InRange (whole 0) (decimal 5 1) x → value x ≼ decimal 9 1
-unfolding whole decimal bits add mul le isNan
-value-to {x} r =
-    let p : InRange (whole 0) (decimal 4 1) (x ⊗ bits 0x3FE45F306DC9C883) = mul-in r (own-range (record { holds = tt })) tt tt in
-    let v : InRange (whole 0) (decimal 9 1) (value x) = add-in p (own-range (record { holds = tt })) tt in
-    v .to
+value-range : {x : Float} → InRange (whole 0) quarterTurn x → InRange (decimal 5 1) (decimal 15 1) (value x)
+unfolding whole decimal bits add mul le
+value-range r = value-in r tt tt tt
+
+value-from-1 : {x : Float} → InRange (whole 1) quarterTurn x → whole 1 ≼ value x
+unfolding whole decimal bits add mul le
+value-from-1 {x} r = let v : InRange (whole 1) (whole 2) (value x) = value-in r tt tt tt in v .from
+
+value-to-half : {x : Float} → InRange (whole 0) (decimal 5 1) x → value x ≼ decimal 9 1
+unfolding whole decimal bits add mul le
+value-to-half {x} r = let v : InRange (whole 0) (decimal 9 1) (value x) = value-in r tt tt tt in v .to
 
 cast-1 : toUnsigned 64 (whole 1) ≡ 1
 unfolding whole toUnsigned
@@ -128,29 +113,29 @@ pub record Place (x : Float) (n : ℕ) (low high : Float) : Type 0 where
 module _ {x : Float} (r : InRange (whole 0) quarterTurn x) where
   angle : isAngle x ≡ true
   unfolding whole bits neg le
-  angle = let wide : About (whole 64) x = about r tt in is-angle wide
+  angle = let wide : Bounded (whole 64) x = bounded r tt in is-angle wide
 
   floored : quarterTurns x ≡ whole (toUnsigned 64 (value x))
   unfolding quarterTurns unfloored whole decimal lt
   floored =
-      let up : whole 0 ≺ value x = lt-le-trans (record { holds = tt }) (value-in r .from) in
+      let up : whole 0 ≺ value x = lt-le-trans (record { holds = tt }) (value-range r .from) in
       floor-up (value x) (unfloored-fits x) (unfloored-small x angle) (is-true (lt (whole 0) (value x)) (up .holds))
 
   place : Place x 0 (whole 0) (whole 1) ⊎ Place x 1 (decimal 5 1) quarterTurn
   place = go (toUnsigned 64 (value x)) refl
     where
       count : toUnsigned 64 (value x) ≤ 1
-      count = rw cast-15 at (cast-mono 64 (value-in r .to))
+      count = rw cast-15 at (cast-mono 64 (value-range r .to))
 
       half : Number (decimal 5 1)
       half = record { holds = unfold decimal isNan in tt }
 
       near : toUnsigned 64 (value x) ≡ 0 → (b : Bool) → lt (whole 1) x ≡ b → x ≼ whole 1
-      near e true t = absurd (lt-irrefl 0 (omega (arith, e, rw cast-1 at (cast-mono 64 (value-from (record { from = lt→le (record { holds = rw t tt }); to = r .to }))))))
+      near e true t = absurd (lt-irrefl 0 (omega (arith, e, rw cast-1 at (cast-mono 64 (value-from-1 (record { from = lt→le (record { holds = rw t tt }); to = r .to }))))))
       near e false t = le-of-not-lt one-number (in-number r) t
 
       far : toUnsigned 64 (value x) ≡ 1 → (b : Bool) → lt x (decimal 5 1) ≡ b → decimal 5 1 ≼ x
-      far e true t = absurd (lt-irrefl 0 (omega (arith, e, rw cast-9 at (cast-mono 64 (value-to (record { from = r .from; to = lt→le (record { holds = rw t tt }) }))))))
+      far e true t = absurd (lt-irrefl 0 (omega (arith, e, rw cast-9 at (cast-mono 64 (value-to-half (record { from = r .from; to = lt→le (record { holds = rw t tt }) }))))))
       far e false t = le-of-not-lt (in-number r) half t
 
       go : (n : ℕ) → toUnsigned 64 (value x) ≡ n → Place x 0 (whole 0) (whole 1) ⊎ Place x 1 (decimal 5 1) quarterTurn
@@ -188,22 +173,27 @@ rest-far {x} r =
 
 -- ---- both of an angle by its place
 
+by-place : (at : ℕ → Float → Float → Float) {x low high : Float} (n : ℕ) → n ≤ 1000 → InRange (whole 0) quarterTurn x → Place x n low high
+    → let r = remainder x (whole n) in ofAngle at x ≡ clamp (at (n % 4) (sineSeries r) (cosineSeries r))
+unfolding ofAngle
+by-place at n l r p = rw (angle r, p .turns, quadrant-up n l) refl
+
 module _ {x low high : Float} (r : InRange (whole 0) quarterTurn x) where
   sine-near : Place x 0 low high → sine x ≡ clamp (sineSeries (remainder x (whole 0)))
   unfolding sine sineAt
-  sine-near p = rw (angle r, p .turns, quadrant-up 0 (omega arith)) refl
+  sine-near p = by-place sineAt 0 (omega arith) r p
 
   sine-far : Place x 1 low high → sine x ≡ clamp (cosineSeries (remainder x (whole 1)))
   unfolding sine sineAt
-  sine-far p = rw (angle r, p .turns, quadrant-up 1 (omega arith)) refl
+  sine-far p = by-place sineAt 1 (omega arith) r p
 
   cosine-near : Place x 0 low high → cosine x ≡ clamp (cosineSeries (remainder x (whole 0)))
   unfolding cosine cosineAt
-  cosine-near p = rw (angle r, p .turns, quadrant-up 0 (omega arith)) refl
+  cosine-near p = by-place cosineAt 0 (omega arith) r p
 
   cosine-far : Place x 1 low high → cosine x ≡ clamp (neg (sineSeries (remainder x (whole 1))))
   unfolding cosine cosineAt
-  cosine-far p = rw (angle r, p .turns, quadrant-up 1 (omega arith)) refl
+  cosine-far p = by-place cosineAt 1 (omega arith) r p
 
 -- the square of what is left over
 square-near : {y : Float} → InRange (whole 0) (whole 1) y → InRange (whole 0) most (y ⊗ y)
@@ -292,7 +282,7 @@ sine-in low out {x} start same product bounds q = elim (place r) [ inl p ↦ nea
     out-one = le-trans out-sum (record { holds = unfold whole decimal le in tt })
 
     zeros : T (le (whole 0) (decimal 4 1) && le (whole 0) low)
-    zeros = both-and (le (whole 0) (decimal 4 1)) (le (whole 0) low) (unfold whole decimal le in tt) start
+    zeros = both (le (whole 0) (decimal 4 1)) (le (whole 0) low) (unfold whole decimal le in tt) start
 
     near : Place x 0 (whole 0) (whole 1) → InRange out (whole 1) (sine x)
     near p =

@@ -9,7 +9,7 @@ use lib.Ieee.Bits.{is-true}
 use lib.Ieee.{Float, nan, fin, binary64, neg, lt, le, eq, ofInt, toUnsigned, isNan, fits}
 use Rattle.doubles.specs.Arithmetic.{_⊖_, _⊗_, _⊘_, whole, bits}
 use Rattle.doubles.specs.Functions.{floorOf}
-use Rattle.doubles.specs.Order.{About, Number}
+use Rattle.doubles.specs.Order.{Bounded, Number}
 use Rattle.doubles.proofs.Clamping.{clamp-range}
 use Rattle.doubles.specs.Series.{horner}
 use Rattle.angles.specs.Sine.{isAngle, quarterTurns, quadrant, remainder, sineStep, cosineStep, sineSum, cosineSum, sineSeries, cosineSeries, sineAt, cosineAt, ofAngle, sine, cosine}
@@ -123,7 +123,7 @@ cosineAt-small (suc zero) k s c p r = neg-small k s p
 cosineAt-small (suc (suc zero)) k s c p r = neg-small k c r
 cosineAt-small (suc (suc (suc q))) k s c p r = p
 
-of-range : (at : ℕ → Float → Float → Float) → ((q k : ℕ) (s c : Float) → Small k s → Small k c → Small k (at q s c)) → (a : Float) → isAngle a ≡ true → About (whole 1) (ofAngle at a)
+of-range : (at : ℕ → Float → Float → Float) → ((q k : ℕ) (s c : Float) → Small k s → Small k c → Small k (at q s c)) → (a : Float) → isAngle a ≡ true → Bounded (whole 1) (ofAngle at a)
 unfolding ofAngle
 of-range at small a h =
     let r = remainder a (quarterTurns a) in
@@ -131,21 +131,21 @@ of-range at small a h =
     rw h (clamp-range (small-number 195 (at (quadrant (quarterTurns a)) (sineSeries r) (cosineSeries r))
     (small (quadrant (quarterTurns a)) 195 (sineSeries r) (cosineSeries r) (sine-series-small r s) (cosine-series-small r s))))
 
-pub is-angle : {a : Float} → About (whole 64) a → isAngle a ≡ true
+pub is-angle : {a : Float} → Bounded (whole 64) a → isAngle a ≡ true
 unfolding isAngle
 is-angle {a} h = simp (is-true (le (neg (whole 64)) a) (h .from .holds), is-true (le a (whole 64)) (h .to .holds))
 
 -- of an angle they are numbers from −1 to 1
-pub sine-range : {a : Float} → About (whole 64) a → About (whole 1) (sine a)
+pub sine-range : {a : Float} → Bounded (whole 64) a → Bounded (whole 1) (sine a)
 unfolding sine
 sine-range {a} h = of-range sineAt sineAt-small a (is-angle h)
 
-pub cosine-range : {a : Float} → About (whole 64) a → About (whole 1) (cosine a)
+pub cosine-range : {a : Float} → Bounded (whole 64) a → Bounded (whole 1) (cosine a)
 unfolding cosine
 cosine-range {a} h = of-range cosineAt cosineAt-small a (is-angle h)
 
 -- so NaN comes only of what is no angle
-no-nan : (x : Float) (b : Bool) → (b ≡ true → About (whole 1) x) → x ≡ nan → b ≡ false
+no-nan : (x : Float) (b : Bool) → (b ≡ true → Bounded (whole 1) x) → x ≡ nan → b ≡ false
 unfolding le whole
 no-nan x false f h = refl
 no-nan x true f h = absurd ((rw h at (f refl)) .to .holds)

@@ -23,10 +23,11 @@ use Rattle.doubles.proofs.Order.{le→cross, le-refl, le-trans, lt→le, left-n
 use Rattle.doubles.proofs.Monotone.{sub-mono, div-mono}
 use Rattle.doubles.proofs.Bounds.{sub-number, div-number, zero-number, one-number, zero-le-one, sub-nonneg, div-nonneg, positive-nonzero}
 use Rattle.doubles.proofs.Ranges.{Between}
+use Rattle.doubles.proofs.Intervals.{minus-zero}
 use Rattle.doubles.proofs.Clamping.{clamp-own, clamp-above, clamp-below}
 use Rattle.roots.specs.Root.{squareRoot}
 use Rattle.roots.proofs.Theorems.{squareRoot-is-root, squareRoot-not-negative}
-use Rattle.arcsines.specs.Arcsine.{arcsineSeries, halfAngleSine, arcsineUpward, oddly, arcsine, halfPi}
+use Rattle.arcsines.specs.Arcsine.{arcsineSeries, halfAngleSine, arcsineUpward, oddExtension, arcsine, halfPi}
 
 abbrev pub half : Float
 half = decimal 5 1
@@ -46,17 +47,16 @@ unit-finite {x} h k = record { holds = go x (h .holds) (k .holds) }
     go (fin s m e) h k = tt
 
 -- what the checker computes of 0, 0.25, 0.5, 1 and 2
-record Constants : Type 0 where
-  zero-half : whole 0 ≼ half
+pub record Constants : Type 0 where
+  pub zero-half : whole 0 ≼ half
   quarter-half : quarter ≼ half
   half-one : half ≼ whole 1
-  minus-one : neg (whole 1) ≼ whole 0
+  pub minus-one : neg (whole 1) ≼ whole 0
   minus-one-below : neg (whole 1) ≺ whole 0
-  minus-zero : whole 0 ≼ neg (whole 0)
   two : whole 0 ≺ whole 2
   finite-one : Finite (whole 1)
   finite-two : Finite (whole 2)
-  number-half : Number half
+  pub number-half : Number half
   number-quarter : Number quarter
   difference : whole 1 ⊖ half ≡ half
   quotient : half ⊘ whole 2 ≡ quarter
@@ -66,7 +66,7 @@ record Constants : Type 0 where
   quarter-positive : T (positive quarter)
   quarter-value : HasValue quarter false 1 4
 
-constants : Constants
+pub constants : Constants
 unfolding whole decimal neg le lt isNan sub div fits
 constants = record {
   zero-half = record { holds = tt };
@@ -74,7 +74,6 @@ constants = record {
   half-one = record { holds = tt };
   minus-one = record { holds = tt };
   minus-one-below = record { holds = tt };
-  minus-zero = record { holds = tt };
   two = record { holds = tt };
   finite-one = record { holds = tt };
   finite-two = record { holds = tt };
@@ -172,14 +171,14 @@ arcsine-odd a h = go (lt a (neg (whole 1))) refl
     below : a ≺ whole 0
     below = record { holds = h }
 
-    go : (b : Bool) → lt a (neg (whole 1)) ≡ b → oddly arcsineUpward (clamp a) ≡ neg (oddly arcsineUpward (clamp (neg a)))
+    go : (b : Bool) → lt a (neg (whole 1)) ≡ b → oddExtension arcsineUpward (clamp a) ≡ neg (oddExtension arcsineUpward (clamp (neg a)))
     go true e =
         let beyond : a ≺ neg (whole 1) = record { holds = rw e tt } in
         let beyond′ : whole 1 ≺ neg a = rw (neg-neg (whole 1)) at (neg-lt beyond) in
-        rw (clamp-below beyond, clamp-above beyond′) (unfold oddly in simp (is-true (lt (neg (whole 1)) (whole 0)) (constants .minus-one-below .holds), not-below zero-le-one, neg-neg (whole 1)))
+        rw (clamp-below beyond, clamp-above beyond′) (unfold oddExtension in simp (is-true (lt (neg (whole 1)) (whole 0)) (constants .minus-one-below .holds), not-below zero-le-one, neg-neg (whole 1)))
     go false e =
         let low : neg (whole 1) ≼ a = le-of-not-lt (left-number (lt→le below)) (left-number (constants .minus-one)) e in
-        let up : whole 0 ≼ neg a = le-trans (constants .minus-zero) (neg-le (lt→le below)) in
+        let up : whole 0 ≼ neg a = le-trans minus-zero (neg-le (lt→le below)) in
         let high : neg a ≼ whole 1 = rw (neg-neg (whole 1)) at (neg-le low) in
         rw (clamp-own low (le-trans (lt→le below) zero-le-one), clamp-own (le-trans (constants .minus-one) up) high)
-        (unfold oddly in simp (is-true (lt a (whole 0)) h, not-below up))
+        (unfold oddExtension in simp (is-true (lt a (whole 0)) h, not-below up))

@@ -9,15 +9,15 @@ use lib.Ieee.Scale.{finite}
 use Rattle.doubles.specs.Arithmetic.{_⊖_, _⊗_, _⊘_, decimal, whole}
 use Rattle.doubles.specs.Functions.{clamp, pi}
 use Rattle.doubles.specs.Series.{horner}
-use Rattle.doubles.specs.Order.{_≼_, _≺_, InRange, About, Number}
+use Rattle.doubles.specs.Order.{_≼_, _≺_, InRange, Bounded, Number}
 use Rattle.doubles.proofs.Order.{le-trans, lt→le, left-number, le-of-not-lt, lt-of-not-le, not-below, neg-le, neg-neg}
 use Rattle.doubles.proofs.Bounds.{zero-number, one-number, zero-le-one, mul-nonneg}
 use Rattle.doubles.proofs.Ranges.{Between, both-of}
 use Rattle.doubles.proofs.Clamping.{clamp-above, clamp-below, clamp-range, clamp-in}
-use Rattle.doubles.proofs.Intervals.{holdsEnds, in-number, own-range, between-range, widen, add-in, sub-in, about, as-range, about-number, neg-about, mul-about, div-about, tests, tested, horner-in}
+use Rattle.doubles.proofs.Intervals.{holdsEnds, minus-zero, in-number, own-range, between-range, widen, add-in, sub-in, bounded, as-range, bounded-number, neg-bounded, mul-bounded, div-bounded, tests, tested, horner-in}
 use Rattle.arcsines.specs.Arcsine.{arcsineStep, arcsineSeries, halfPi, complement, halfAngleSine, arcsineUpward, arcsine, arccosine}
 use Rattle.arcsines.proofs.Computed.{steps}
-use Rattle.arcsines.proofs.Inner.{half, quarter, half-angle-in}
+use Rattle.arcsines.proofs.Inner.{half, quarter, constants, half-angle-in}
 
 -- ---- beyond ±1, and NaN
 
@@ -65,48 +65,44 @@ all-tested : T (tests quotientTest 24)
 unfolding tests quotientTest
 all-tested = tt
 
-quotient-about : (t : Float) (n : ℕ) → About quarter t → T (quotientTest n) → About quarter ((t ⊗ odds n) ⊘ evens n)
+quotient-bounded : (t : Float) (n : ℕ) → Bounded quarter t → T (quotientTest n) → Bounded quarter ((t ⊗ odds n) ⊘ evens n)
 unfolding quotientTest
-quotient-about t n r b =
+quotient-bounded t n r b =
     let most = quarter ⊗ odds n in
     let p = both-of ((le (neg (odds n)) (odds n) && le (odds n) (odds n)) && (finite quarter && finite (odds n) && le most most))
     (lt (whole 0) (evens n) && holdsEnds (neg most) most (evens n) (evens n) (neg quarter) (neg most ⊘ evens n) (most ⊘ evens n) quarter) b in
     let q = both-of (le (neg (odds n)) (odds n) && le (odds n) (odds n)) (finite quarter && finite (odds n) && le most most) (p .0) in
     let own = both-of (le (neg (odds n)) (odds n)) (le (odds n) (odds n)) (q .0) in
     let by = both-of (lt (whole 0) (evens n)) (holdsEnds (neg most) most (evens n) (evens n) (neg quarter) (neg most ⊘ evens n) (most ⊘ evens n) quarter) (p .1) in
-    let odds-about : About (odds n) (odds n) = record { from = record { holds = own .0 }; to = record { holds = own .1 } } in
-    let product : About most (t ⊗ odds n) = mul-about r odds-about (q .1) in
-    div-about (evens n) product (by .0) (by .1)
+    let odds-bounded : Bounded (odds n) (odds n) = record { from = record { holds = own .0 }; to = record { holds = own .1 } } in
+    let product : Bounded most (t ⊗ odds n) = mul-bounded r odds-bounded (q .1) in
+    div-bounded (evens n) product (by .0) (by .1)
 
 abbrev threeHalves : Float
 threeHalves = decimal 15 1
 
-step-in : (t : Float) → About quarter t → (k : ℕ) → k < 24 → (h : Float) → InRange half threeHalves h → InRange half threeHalves (arcsineStep t (suc k) h)
+step-in : (t : Float) → Bounded quarter t → (k : ℕ) → k < 24 → (h : Float) → InRange half threeHalves h → InRange half threeHalves (arcsineStep t (suc k) h)
 unfolding arcsineStep whole decimal neg add mul le
 step-in t r k l h s =
-    let q : About quarter ((t ⊗ odds (suc k)) ⊘ evens (suc k)) = quotient-about t (suc k) r (tested quotientTest 24 all-tested k l) in
-    let b : About threeHalves h = about s tt in
-    let m : About half (((t ⊗ odds (suc k)) ⊘ evens (suc k)) ⊗ h) = mul-about q b tt in
+    let q : Bounded quarter ((t ⊗ odds (suc k)) ⊘ evens (suc k)) = quotient-bounded t (suc k) r (tested quotientTest 24 all-tested k l) in
+    let b : Bounded threeHalves h = bounded s tt in
+    let m : Bounded half (((t ⊗ odds (suc k)) ⊘ evens (suc k)) ⊗ h) = mul-bounded q b tt in
     add-in (own-range one-number) (as-range m) tt
 
 -- from 0 to 0.75
 abbrev threeQuarters : Float
 threeQuarters = decimal 75 2
 
-zero-half : whole 0 ≼ half
-unfolding whole decimal le
-zero-half = record { holds = tt }
-
 series-in : {a : Float} → Between half a → Between threeQuarters (arcsineSeries a)
 unfolding arcsineSeries whole decimal neg mul le
 series-in {a} b =
-    let r : About half a = about (between-range b) tt in
-    let t : About quarter (a ⊗ a) = mul-about r r tt in
+    let r : Bounded half a = bounded (between-range b) tt in
+    let t : Bounded quarter (a ⊗ a) = mul-bounded r r tt in
     let one : InRange half threeHalves (whole 1) = widen (own-range one-number) tt in
     let h : InRange half threeHalves (horner (arcsineStep (a ⊗ a)) 24 (whole 1)) = horner-in (arcsineStep (a ⊗ a)) 24 (step-in (a ⊗ a) t) (whole 1) one in
-    let k : About threeHalves (horner (arcsineStep (a ⊗ a)) 24 (whole 1)) = about h tt in
-    let m : About threeQuarters (a ⊗ horner (arcsineStep (a ⊗ a)) 24 (whole 1)) = mul-about r k tt in
-    record { low = mul-nonneg (b .low) (le-trans zero-half (h .from)) (about-number m); high = m .to }
+    let k : Bounded threeHalves (horner (arcsineStep (a ⊗ a)) 24 (whole 1)) = bounded h tt in
+    let m : Bounded threeQuarters (a ⊗ horner (arcsineStep (a ⊗ a)) 24 (whole 1)) = mul-bounded r k tt in
+    record { low = mul-nonneg (b .low) (le-trans (constants .zero-half) (h .from)) (bounded-number m); high = m .to }
 
 -- ---- the arcsine
 
@@ -118,17 +114,13 @@ number-halfPi = record { holds = tt }
 rest-in : {s : Float} → Between threeQuarters s → Between halfPi (complement (whole 2 ⊗ s))
 unfolding halfPi whole decimal neg sub mul div le isNan
 rest-in {s} b =
-    let two : About (whole 2) (whole 2) = about (own-range (record { holds = tt })) tt in
-    let r : About threeQuarters s = about (between-range b) tt in
-    let d : About threeHalves (whole 2 ⊗ s) = mul-about two r tt in
-    let z : whole 0 ≼ whole 2 ⊗ s = mul-nonneg {x = whole 2} {y = s} (record { holds = tt }) (b .low) (about-number d) in
+    let two : Bounded (whole 2) (whole 2) = bounded (own-range (record { holds = tt })) tt in
+    let r : Bounded threeQuarters s = bounded (between-range b) tt in
+    let d : Bounded threeHalves (whole 2 ⊗ s) = mul-bounded two r tt in
+    let z : whole 0 ≼ whole 2 ⊗ s = mul-nonneg {x = whole 2} {y = s} (record { holds = tt }) (b .low) (bounded-number d) in
     let e : InRange (whole 0) threeHalves (whole 2 ⊗ s) = record { from = z; to = d .to } in
     let c : InRange (whole 0) halfPi (halfPi ⊖ whole 2 ⊗ s) = sub-in (own-range number-halfPi) e tt in
     record { low = c .from; high = c .to }
-
-half-number : Number half
-unfolding decimal isNan
-half-number = record { holds = tt }
 
 threeQuarters-below : threeQuarters ≼ halfPi
 unfolding decimal halfPi div le
@@ -142,39 +134,31 @@ upward-in {m} l u = go (le m half) refl
     go true e =
         let s = series-in (record { low = l; high = record { holds = rw e tt } }) in
         record { low = s .low; high = le-trans (s .high) threeQuarters-below }
-    go false e = rest-in (series-in (half-angle-in (lt-of-not-le half-number (left-number u) e) u))
+    go false e = rest-in (series-in (half-angle-in (lt-of-not-le (constants .number-half) (left-number u) e) u))
 
-upward-about : {m : Float} → whole 0 ≼ m → m ≼ whole 1 → About halfPi (arcsineUpward m)
+upward-bounded : {m : Float} → whole 0 ≼ m → m ≼ whole 1 → Bounded halfPi (arcsineUpward m)
 unfolding whole halfPi neg div le
-upward-about l u = about (between-range (upward-in l u)) tt
-
-minus-zero : whole 0 ≼ neg (whole 0)
-unfolding whole neg le
-minus-zero = record { holds = tt }
-
-minus-one-below : neg (whole 1) ≼ whole 0
-unfolding whole neg le
-minus-one-below = record { holds = tt }
+upward-bounded l u = bounded (between-range (upward-in l u)) tt
 
 -- of any number from −PI/2 to PI/2
-pub arcsine-range : {a : Float} → Number a → About halfPi (arcsine a)
+pub arcsine-range : {a : Float} → Number a → Bounded halfPi (arcsine a)
 unfolding arcsine
 arcsine-range {a} n = go (lt (clamp a) (whole 0)) refl
   where
-    r : About (whole 1) (clamp a)
+    r : Bounded (whole 1) (clamp a)
     r = clamp-range n
 
-    go : (b : Bool) → lt (clamp a) (whole 0) ≡ b → About halfPi (cond b (neg (arcsineUpward (neg (clamp a)))) (arcsineUpward (clamp a)))
+    go : (b : Bool) → lt (clamp a) (whole 0) ≡ b → Bounded halfPi (cond b (neg (arcsineUpward (neg (clamp a)))) (arcsineUpward (clamp a)))
     go true e =
         let below : clamp a ≼ whole 0 = lt→le (record { holds = rw e tt }) in
-        neg-about (upward-about (le-trans minus-zero (neg-le below)) (rw (neg-neg (whole 1)) at (neg-le (r .from))))
-    go false e = upward-about (le-of-not-lt (about-number r) zero-number e) (r .to)
+        neg-bounded (upward-bounded (le-trans minus-zero (neg-le below)) (rw (neg-neg (whole 1)) at (neg-le (r .from))))
+    go false e = upward-bounded (le-of-not-lt (bounded-number r) zero-number e) (r .to)
 
 -- of one not below 0 from 0 on
 pub arcsine-up : {a : Float} → whole 0 ≼ a → InRange (whole 0) halfPi (arcsine a)
 unfolding arcsine
 arcsine-up {a} h =
-    let r = clamp-in minus-one-below zero-le-one h in
+    let r = clamp-in (constants .minus-one) zero-le-one h in
     rw (not-below (r .from)) (between-range (upward-in (r .from) (r .to)))
 
 -- and from 0 to PI
@@ -184,7 +168,7 @@ arccosine-range {a} n = sub-in (own-range number-halfPi) (as-range (arcsine-rang
 
 -- so both are numbers
 pub arcsine-number : {a : Float} → Number a → Number (arcsine a)
-arcsine-number n = about-number (arcsine-range n)
+arcsine-number n = bounded-number (arcsine-range n)
 
 pub arccosine-number : {a : Float} → Number a → Number (arccosine a)
 arccosine-number n = in-number (arccosine-range n)

@@ -48,14 +48,14 @@ unfolding upwardBy halfAngleSine
 arcsineUpward a = upwardBy a (arcsineSeries a) (arcsineSeries (halfAngleSine a))
 
 -- odd for a below 0; from 0 on as `upward` has it
-unfoldable pub oddly : (Float → Float) → Float → Float
+unfoldable pub oddExtension : (Float → Float) → Float → Float
 unfolding whole
-oddly upward a = cond (lt a (whole 0)) (neg (upward (neg a))) (upward a)
+oddExtension upward a = cond (lt a (whole 0)) (neg (upward (neg a))) (upward a)
 
--- Any number above 1 is taken as 1, any below −1 as −1. NaN gives NaN.
+-- Any number above 1 is taken as 1, any below −1 as −1. NaN gives NaN: `arcsine-nan` of proofs/Range.
 unfoldable pub arcsine : Float → Float
-unfolding oddly
-arcsine a = oddly arcsineUpward (clamp a)
+unfolding oddExtension
+arcsine a = oddExtension arcsineUpward (clamp a)
 
 -- arccosine is PI/2 − arcsine: of any number above 1 it is +0, of any below −1 PI
 unfoldable pub arccosine : Float → Float

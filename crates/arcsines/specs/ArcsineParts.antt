@@ -5,7 +5,7 @@ use Prim.Native.Nat.{_+_}
 use lib.Ieee.{Float, neg, lt}
 use Rattle.doubles.specs.Arithmetic.{whole}
 use Rattle.doubles.specs.Series.{horner}
-use Rattle.arcsines.specs.Arcsine.{arcsineStep, upToHalf, halfPi, halfAngleSine, upwardBy, oddly}
+use Rattle.arcsines.specs.Arcsine.{arcsineStep, upToHalf, halfPi, halfAngleSine, upwardBy, oddExtension}
 use Rattle.arcsines.specs.declared.Both.{Both}
 
 abbrev pub both : Float → Float → Both
@@ -30,7 +30,7 @@ unfoldable pub seriesArgument : Float → Float
 unfolding upToHalf halfAngleSine
 seriesArgument m = cond (upToHalf m) m (halfAngleSine m)
 
--- the arcsine by that series; beyond ±1, where there is none, that of the end, which is PI/2
+-- the arcsine by that series; beyond ±1 that of the end, ±PI/2
 unfoldable pub arcsineBy : Float → Float → Float
-unfolding oddly upwardBy halfPi whole neg
-arcsineBy a series = cond (lt (whole 1) a) halfPi (cond (lt a (neg (whole 1))) (neg halfPi) (oddly (λ m. upwardBy m series series) a))
+unfolding oddExtension upwardBy halfPi whole neg
+arcsineBy a series = cond (lt (whole 1) a) halfPi (cond (lt a (neg (whole 1))) (neg halfPi) (oddExtension (λ m. upwardBy m series series) a))

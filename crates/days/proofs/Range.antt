@@ -12,9 +12,9 @@ use lib.Ieee.{Float, nan, neg, minus, add, sub, mul, div, lt, le, isNan}
 use lib.Ieee.Scale.{finite}
 use Rattle.doubles.specs.Arithmetic.{_⊕_, _⊖_, _⊗_, _⊘_, decimal, whole}
 use Rattle.doubles.specs.Functions.{pi, toRadians}
-use Rattle.doubles.specs.Order.{InRange, About}
+use Rattle.doubles.specs.Order.{InRange, Bounded}
 use Rattle.doubles.proofs.Bounds.{one-number}
-use Rattle.doubles.proofs.Intervals.{own-range, add-in, mul-in, as-range, constant, whole-about, int-about, more-about, add-about, sub-about, mul-about}
+use Rattle.doubles.proofs.Intervals.{own-range, add-in, mul-in, as-range, constant, whole-bounded, int-bounded, more-bounded, add-bounded, sub-bounded, mul-bounded}
 use Rattle.angles.specs.Sine.{sine, cosine}
 use Rattle.angles.proofs.Laws.{sine-range, cosine-range}
 use Rattle.days.specs.Day.{orbitDeviation, solarDeclination, daysFrom, equationOfTime, extraTerrestrialRadiation}
@@ -22,27 +22,27 @@ use Rattle.days.specs.Day.{orbitDeviation, solarDeclination, daysFrom, e
 -- ---- declination
 
 -- once round the orbit, in radians
-deviation-about : (n : ℕ) → n ≤ 366 → About (decimal 64 1) (toRadians (orbitDeviation n))
+deviation-bounded : (n : ℕ) → n ≤ 366 → Bounded (decimal 64 1) (toRadians (orbitDeviation n))
 unfolding toRadians orbitDeviation whole decimal neg mul div le
-deviation-about n h =
-    let degrees : About (whole 366) (whole 360 ⊘ whole 365 ⊗ whole n) = mul-about (constant (whole 1) (whole 360 ⊘ whole 365) tt) (whole-about 366 n h) tt in
-    mul-about degrees (constant (decimal 174534 7) (pi ⊘ whole 180) tt) tt
+deviation-bounded n h =
+    let degrees : Bounded (whole 366) (whole 360 ⊘ whole 365 ⊗ whole n) = mul-bounded (constant (whole 1) (whole 360 ⊘ whole 365) tt) (whole-bounded 366 n h) tt in
+    mul-bounded degrees (constant (decimal 174534 7) (pi ⊘ whole 180) tt) tt
 
 -- the sines and cosines of b, 2b and 3b
 record Harmonics (b : Float) : Type 0 where
-  sine-1 : About (whole 1) (sine b)
-  cosine-1 : About (whole 1) (cosine b)
-  sine-2 : About (whole 1) (sine (whole 2 ⊗ b))
-  cosine-2 : About (whole 1) (cosine (whole 2 ⊗ b))
-  sine-3 : About (whole 1) (sine (whole 3 ⊗ b))
-  cosine-3 : About (whole 1) (cosine (whole 3 ⊗ b))
+  sine-1 : Bounded (whole 1) (sine b)
+  cosine-1 : Bounded (whole 1) (cosine b)
+  sine-2 : Bounded (whole 1) (sine (whole 2 ⊗ b))
+  cosine-2 : Bounded (whole 1) (cosine (whole 2 ⊗ b))
+  sine-3 : Bounded (whole 1) (sine (whole 3 ⊗ b))
+  cosine-3 : Bounded (whole 1) (cosine (whole 3 ⊗ b))
 
-harmonics : {b : Float} → About (decimal 64 1) b → Harmonics b
+harmonics : {b : Float} → Bounded (decimal 64 1) b → Harmonics b
 unfolding whole decimal neg mul le
 harmonics {b} h =
-    let once : About (whole 64) b = more-about h tt in
-    let twice : About (whole 64) (whole 2 ⊗ b) = mul-about (constant (whole 2) (whole 2) tt) h tt in
-    let thrice : About (whole 64) (whole 3 ⊗ b) = mul-about (constant (whole 3) (whole 3) tt) h tt in
+    let once : Bounded (whole 64) b = more-bounded h tt in
+    let twice : Bounded (whole 64) (whole 2 ⊗ b) = mul-bounded (constant (whole 2) (whole 2) tt) h tt in
+    let thrice : Bounded (whole 64) (whole 3 ⊗ b) = mul-bounded (constant (whole 3) (whole 3) tt) h tt in
     record {
       sine-1 = sine-range once;
       cosine-1 = cosine-range once;
@@ -53,74 +53,74 @@ harmonics {b} h =
     }
 
 -- a coefficient times what lies within 1
-scaled : (k : Float) {x : Float} → About (whole 1) x → T (le (neg k) k && le k k) → T (finite k && finite (whole 1) && le (k ⊗ whole 1) k) → About k (k ⊗ x)
-scaled k r own most = mul-about (constant k k own) r most
+scaled : (k : Float) {x : Float} → Bounded (whole 1) x → T (le (neg k) k && le k k) → T (finite k && finite (whole 1) && le (k ⊗ whole 1) k) → Bounded k (k ⊗ x)
+scaled k r own most = mul-bounded (constant k k own) r most
 
-pub declination-about : (n : ℕ) → n ≤ 366 → About (whole 28) (solarDeclination (orbitDeviation n))
+pub declination-bounded : (n : ℕ) → n ≤ 366 → Bounded (whole 28) (solarDeclination (orbitDeviation n))
 unfolding solarDeclination whole decimal neg add sub mul le
-declination-about n h =
+declination-bounded n h =
     let b = toRadians (orbitDeviation n) in
-    let k = harmonics (deviation-about n h) in
-    let first : About (decimal 234 1) (decimal 33281 5 ⊖ decimal 22984 3 ⊗ cosine b) =
-    sub-about (constant (decimal 34 2) (decimal 33281 5) tt) (scaled (decimal 22984 3) (k .cosine-1) tt tt) tt in
-    let second : About (decimal 238 1) (decimal 33281 5 ⊖ decimal 22984 3 ⊗ cosine b ⊖ decimal 3499 4 ⊗ cosine (whole 2 ⊗ b)) =
-    sub-about first (scaled (decimal 3499 4) (k .cosine-2) tt tt) tt in
-    let third : About (whole 24) (decimal 33281 5 ⊖ decimal 22984 3 ⊗ cosine b ⊖ decimal 3499 4 ⊗ cosine (whole 2 ⊗ b) ⊖ decimal 1398 4 ⊗ cosine (whole 3 ⊗ b)) =
-    sub-about second (scaled (decimal 1398 4) (k .cosine-3) tt tt) tt in
-    let fourth : About (decimal 278 1) (decimal 33281 5 ⊖ decimal 22984 3 ⊗ cosine b ⊖ decimal 3499 4 ⊗ cosine (whole 2 ⊗ b) ⊖ decimal 1398 4 ⊗ cosine (whole 3 ⊗ b) ⊕ decimal 37872 4 ⊗ sine b) =
-    add-about third (scaled (decimal 37872 4) (k .sine-1) tt tt) tt in
-    let fifth : About (decimal 279 1) (decimal 33281 5 ⊖ decimal 22984 3 ⊗ cosine b ⊖ decimal 3499 4 ⊗ cosine (whole 2 ⊗ b) ⊖ decimal 1398 4 ⊗ cosine (whole 3 ⊗ b) ⊕ decimal 37872 4 ⊗ sine b ⊕ decimal 3205 5 ⊗ sine (whole 2 ⊗ b)) =
-    add-about fourth (scaled (decimal 3205 5) (k .sine-2) tt tt) tt in
-    add-about fifth (scaled (decimal 7187 5) (k .sine-3) tt tt) tt
+    let k = harmonics (deviation-bounded n h) in
+    let first : Bounded (decimal 234 1) (decimal 33281 5 ⊖ decimal 22984 3 ⊗ cosine b) =
+    sub-bounded (constant (decimal 34 2) (decimal 33281 5) tt) (scaled (decimal 22984 3) (k .cosine-1) tt tt) tt in
+    let second : Bounded (decimal 238 1) (decimal 33281 5 ⊖ decimal 22984 3 ⊗ cosine b ⊖ decimal 3499 4 ⊗ cosine (whole 2 ⊗ b)) =
+    sub-bounded first (scaled (decimal 3499 4) (k .cosine-2) tt tt) tt in
+    let third : Bounded (whole 24) (decimal 33281 5 ⊖ decimal 22984 3 ⊗ cosine b ⊖ decimal 3499 4 ⊗ cosine (whole 2 ⊗ b) ⊖ decimal 1398 4 ⊗ cosine (whole 3 ⊗ b)) =
+    sub-bounded second (scaled (decimal 1398 4) (k .cosine-3) tt tt) tt in
+    let fourth : Bounded (decimal 278 1) (decimal 33281 5 ⊖ decimal 22984 3 ⊗ cosine b ⊖ decimal 3499 4 ⊗ cosine (whole 2 ⊗ b) ⊖ decimal 1398 4 ⊗ cosine (whole 3 ⊗ b) ⊕ decimal 37872 4 ⊗ sine b) =
+    add-bounded third (scaled (decimal 37872 4) (k .sine-1) tt tt) tt in
+    let fifth : Bounded (decimal 279 1) (decimal 33281 5 ⊖ decimal 22984 3 ⊗ cosine b ⊖ decimal 3499 4 ⊗ cosine (whole 2 ⊗ b) ⊖ decimal 1398 4 ⊗ cosine (whole 3 ⊗ b) ⊕ decimal 37872 4 ⊗ sine b ⊕ decimal 3205 5 ⊗ sine (whole 2 ⊗ b)) =
+    add-bounded fourth (scaled (decimal 3205 5) (k .sine-2) tt tt) tt in
+    add-bounded fifth (scaled (decimal 7187 5) (k .sine-3) tt tt) tt
 
 -- ---- equation of time
 
-days-about : (c k n : ℕ) → n ≤ k + c → k ≤ n + c → About (whole c) (daysFrom k n)
+days-bounded : (c k n : ℕ) → n ≤ k + c → k ≤ n + c → Bounded (whole c) (daysFrom k n)
 unfolding daysFrom
-days-about c k n h l = int-about c (minus n k) (size (leb k n) refl)
+days-bounded c k n h l = int-bounded c (minus n k) (size (leb k n) refl)
   where
     size : (b : Bool) → leb k n ≡ b → natAbs (cond b (pos (n - k)) (negsuc (k - suc n))) ≤ c
     size true e = omega arith
     size false e = omega (arith, nleb→lt k n (rw e tt))
 
 -- the cosine in three of the five ranges
-swing : (k n : ℕ) (rate : Float) → k ≤ 366 → n ≤ 366 → About (decimal 5 2) rate → About (whole 1) (cosine (daysFrom k n ⊗ rate))
+swing : (k n : ℕ) (rate : Float) → k ≤ 366 → n ≤ 366 → Bounded (decimal 5 2) rate → Bounded (whole 1) (cosine (daysFrom k n ⊗ rate))
 unfolding whole decimal neg mul le
 swing k n rate h l r =
-    let angle : About (whole 64) (daysFrom k n ⊗ rate) = mul-about (days-about 366 k n (omega arith) (omega arith)) r tt in
+    let angle : Bounded (whole 64) (daysFrom k n ⊗ rate) = mul-bounded (days-bounded 366 k n (omega arith) (omega arith)) r tt in
     cosine-range angle
 
 module _ (n : ℕ) (h : n ≤ 366) where
-  first-range : n ≤ 20 → About (decimal 163 1) (decimal 26 1 ⊕ decimal 44 2 ⊗ whole n)
+  first-range : n ≤ 20 → Bounded (decimal 163 1) (decimal 26 1 ⊕ decimal 44 2 ⊗ whole n)
   unfolding whole decimal neg add mul le
   first-range l =
-      let grown : About (whole 9) (decimal 44 2 ⊗ whole n) = mul-about (constant (decimal 44 2) (decimal 44 2) tt) (whole-about 20 n l) tt in
-      add-about (constant (decimal 26 1) (decimal 26 1) tt) grown tt
+      let grown : Bounded (whole 9) (decimal 44 2 ⊗ whole n) = mul-bounded (constant (decimal 44 2) (decimal 44 2) tt) (whole-bounded 20 n l) tt in
+      add-bounded (constant (decimal 26 1) (decimal 26 1) tt) grown tt
 
-  second-range : About (decimal 163 1) (decimal 52 1 ⊕ whole 9 ⊗ cosine (daysFrom 43 n ⊗ decimal 357 4))
+  second-range : Bounded (decimal 163 1) (decimal 52 1 ⊕ whole 9 ⊗ cosine (daysFrom 43 n ⊗ decimal 357 4))
   unfolding whole decimal neg add mul le
   second-range =
-      add-about (constant (decimal 52 1) (decimal 52 1) tt) (scaled (whole 9) (swing 43 n (decimal 357 4) (omega arith) h (constant (decimal 5 2) (decimal 357 4) tt)) tt tt) tt
+      add-bounded (constant (decimal 52 1) (decimal 52 1) tt) (scaled (whole 9) (swing 43 n (decimal 357 4) (omega arith) h (constant (decimal 5 2) (decimal 357 4) tt)) tt tt) tt
 
-  third-range : About (decimal 163 1) (decimal 14 1 ⊖ whole 5 ⊗ cosine (daysFrom 135 n ⊗ decimal 449 4))
+  third-range : Bounded (decimal 163 1) (decimal 14 1 ⊖ whole 5 ⊗ cosine (daysFrom 135 n ⊗ decimal 449 4))
   unfolding whole decimal neg sub mul le
   third-range =
-      sub-about (constant (decimal 14 1) (decimal 14 1) tt) (scaled (whole 5) (swing 135 n (decimal 449 4) (omega arith) h (constant (decimal 5 2) (decimal 449 4) tt)) tt tt) tt
+      sub-bounded (constant (decimal 14 1) (decimal 14 1) tt) (scaled (whole 5) (swing 135 n (decimal 449 4) (omega arith) h (constant (decimal 5 2) (decimal 449 4) tt)) tt tt) tt
 
-  fourth-range : About (decimal 163 1) (neg (decimal 63 1) ⊖ whole 10 ⊗ cosine (daysFrom 306 n ⊗ decimal 36 3))
+  fourth-range : Bounded (decimal 163 1) (neg (decimal 63 1) ⊖ whole 10 ⊗ cosine (daysFrom 306 n ⊗ decimal 36 3))
   unfolding whole decimal neg sub mul le
   fourth-range =
-      sub-about (constant (decimal 63 1) (neg (decimal 63 1)) tt) (scaled (whole 10) (swing 306 n (decimal 36 3) (omega arith) h (constant (decimal 5 2) (decimal 36 3) tt)) tt tt) tt
+      sub-bounded (constant (decimal 63 1) (neg (decimal 63 1)) tt) (scaled (whole 10) (swing 306 n (decimal 36 3) (omega arith) h (constant (decimal 5 2) (decimal 36 3) tt)) tt tt) tt
 
-  fifth-range : 336 ≤ n → About (decimal 163 1) (decimal 45 2 ⊗ daysFrom 359 n)
+  fifth-range : 336 ≤ n → Bounded (decimal 163 1) (decimal 45 2 ⊗ daysFrom 359 n)
   unfolding whole decimal neg mul le
-  fifth-range l = mul-about (constant (decimal 45 2) (decimal 45 2) tt) (days-about 23 359 n (omega arith) (omega arith)) tt
+  fifth-range l = mul-bounded (constant (decimal 45 2) (decimal 45 2) tt) (days-bounded 23 359 n (omega arith) (omega arith)) tt
 
-  pub equation-about : About (decimal 163 1) (equationOfTime n)
+  pub equation-bounded : Bounded (decimal 163 1) (equationOfTime n)
   unfolding equationOfTime
-  equation-about = go (ltb n 21) (ltb n 136) (ltb n 241) (ltb n 336) (ltb n 367) refl refl refl
+  equation-bounded = go (ltb n 21) (ltb n 136) (ltb n 241) (ltb n 336) (ltb n 367) refl refl refl
     where
-      go : (b c d e f : Bool) → ltb n 21 ≡ b → ltb n 336 ≡ e → ltb n 367 ≡ f → About (decimal 163 1)
+      go : (b c d e f : Bool) → ltb n 21 ≡ b → ltb n 336 ≡ e → ltb n 367 ≡ f → Bounded (decimal 163 1)
           (cond b (decimal 26 1 ⊕ decimal 44 2 ⊗ whole n)
           (cond c (decimal 52 1 ⊕ whole 9 ⊗ cosine (daysFrom 43 n ⊗ decimal 357 4))
           (cond d (decimal 14 1 ⊖ whole 5 ⊗ cosine (daysFrom 135 n ⊗ decimal 449 4))
@@ -138,8 +138,8 @@ module _ (n : ℕ) (h : n ≤ 366) where
 pub radiation-in : (n : ℕ) → n ≤ 366 → InRange (whole 1300) (whole 1420) (extraTerrestrialRadiation (orbitDeviation n))
 unfolding extraTerrestrialRadiation whole decimal neg add mul le isNan
 radiation-in n h =
-    let c = harmonics (deviation-about n h) .cosine-1 in
-    let swing : About (decimal 33 3) (decimal 33 3 ⊗ cosine (toRadians (orbitDeviation n))) = scaled (decimal 33 3) c tt tt in
+    let c = harmonics (deviation-bounded n h) .cosine-1 in
+    let swing : Bounded (decimal 33 3) (decimal 33 3 ⊗ cosine (toRadians (orbitDeviation n))) = scaled (decimal 33 3) c tt tt in
     let ratio : InRange (decimal 96 2) (decimal 1034 3) (whole 1 ⊕ decimal 33 3 ⊗ cosine (toRadians (orbitDeviation n))) = add-in (own-range one-number) (as-range swing) tt in
     let constant-in : InRange (whole 1367) (whole 1367) (whole 1367) = own-range (record { holds = tt }) in
     mul-in constant-in ratio tt tt

@@ -6,7 +6,7 @@ use lib.Ieee.{Float, neg, lt, le}
 use lib.Ieee.Bits.{is-true}
 use Rattle.doubles.specs.Arithmetic.{whole}
 use Rattle.doubles.specs.Functions.{clamp}
-use Rattle.doubles.specs.Order.{_≼_, _≺_, InRange, About, Number}
+use Rattle.doubles.specs.Order.{_≼_, _≺_, InRange, Bounded, Number}
 use Rattle.doubles.proofs.Order.{le-refl, le-trans, left-number, right-number, lt→le, lt-excludes, le-of-not-lt, not-below}
 use Rattle.doubles.proofs.Bounds.{one-number}
 
@@ -26,11 +26,11 @@ pub clamp-below : {x : Float} → x ≺ neg (whole 1) → clamp x ≡ neg (whole
 unfolding clamp
 clamp-below {x} h = simp (is-true (lt x (neg (whole 1))) (h .holds))
 
-pub clamp-range : {x : Float} → Number x → About (whole 1) (clamp x)
+pub clamp-range : {x : Float} → Number x → Bounded (whole 1) (clamp x)
 unfolding clamp
 clamp-range {x} n = go (lt x (neg (whole 1))) (lt (whole 1) x) refl refl
   where
-    go : (b c : Bool) → lt x (neg (whole 1)) ≡ b → lt (whole 1) x ≡ c → About (whole 1) (cond b (neg (whole 1)) (cond c (whole 1) x))
+    go : (b c : Bool) → lt x (neg (whole 1)) ≡ b → lt (whole 1) x ≡ c → Bounded (whole 1) (cond b (neg (whole 1)) (cond c (whole 1) x))
     go true c p q = record { from = le-refl (left-number ends); to = ends }
     go false true p q = record { from = ends; to = le-refl one-number }
     go false false p q = record { from = le-of-not-lt n (left-number ends) p; to = le-of-not-lt one-number n q }

@@ -14,7 +14,7 @@ use lib.Ieee.Positive.{den, den-pos, positive}
 use lib.Ieee.Scale.{finite}
 use Rattle.doubles.specs.Arithmetic.{_⊕_, _⊖_, _⊗_, _⊘_, whole}
 use Rattle.doubles.specs.Series.{horner}
-use Rattle.doubles.specs.Order.{_≼_, _≺_, InRange, About, Number, Finite}
+use Rattle.doubles.specs.Order.{_≼_, _≺_, InRange, Bounded, Number, Finite}
 use Rattle.doubles.proofs.Order.{positivePart, negativePart, leftSide, rightSide, le→cross, le-refl, le-trans, lt→le, lt-le-trans, left-number, le-of-not-lt, neg-finite, neg-le, neg-neg}
 use Rattle.doubles.proofs.Rounding.{round-neg, rounded-mono, div-rounds}
 use Rattle.doubles.proofs.Monotone.{add-mono, sub-mono, no-negative-part, mul-mono, positive-part, positive-of, div-mono}
@@ -104,38 +104,50 @@ div-in {l} {h} {a} {b} d p z t =
 
 -- ---- about zero
 
-pub about : {c a b x : Float} → InRange a b x → T (le (neg c) a && le b c) → About c x
-about {c} {a} {b} r t =
+pub bounded : {c a b x : Float} → InRange a b x → T (le (neg c) a && le b c) → Bounded c x
+bounded {c} {a} {b} r t =
     let s = widen {l = neg c} {h = c} r t in
     record { from = s .from; to = s .to }
 
-pub as-range : {c x : Float} → About c x → InRange (neg c) c x
+pub as-range : {c x : Float} → Bounded c x → InRange (neg c) c x
 as-range r = record { from = r .from; to = r .to }
 
-pub about-number : {c x : Float} → About c x → Number x
-about-number r = left-number (r .to)
+pub bounded-number : {c x : Float} → Bounded c x → Number x
+bounded-number r = left-number (r .to)
 
-pub about-finite : {c x : Float} → Finite c → About c x → Finite x
-about-finite f r = between-finite (neg-finite f) f (r .from) (r .to)
+pub bounded-finite : {c x : Float} → Finite c → Bounded c x → Finite x
+bounded-finite f r = between-finite (neg-finite f) f (r .from) (r .to)
 
-pub neg-about : {c x : Float} → About c x → About c (neg x)
-neg-about {c} r = record { from = neg-le (r .to); to = rw (neg-neg c) at (neg-le (r .from)) }
+pub neg-bounded : {c x : Float} → Bounded c x → Bounded c (neg x)
+neg-bounded {c} r = record { from = neg-le (r .to); to = rw (neg-neg c) at (neg-le (r .from)) }
 
-pub more-about : {c d x : Float} → About c x → T (le (neg d) (neg c) && le c d) → About d x
-more-about r t = about (as-range r) t
+-- what has a bounded opposite
+turned-bounded : {c x y : Float} → y ≡ neg x → Bounded c y → Bounded c x
+turned-bounded {x} e r = rw (neg-neg x) at (neg-bounded (rw e at r))
 
-pub add-about : {h a b x y : Float} → About a x → About b y → T (holdsEnds (neg a) a (neg b) b (neg h) (neg a ⊕ neg b) (a ⊕ b) h) → About h (x ⊕ y)
-add-about {h} p q t =
+-- what is cut off at 0 from below
+pub cut-in : {c x : Float} → whole 0 ≼ c → Bounded c x → InRange (whole 0) c (cond (lt x (whole 0)) (whole 0) x)
+cut-in {c} {x} z r = go (lt x (whole 0)) refl
+  where
+    go : (b : Bool) → lt x (whole 0) ≡ b → InRange (whole 0) c (cond b (whole 0) x)
+    go true e = record { from = le-refl zero-number; to = z }
+    go false e = record { from = le-of-not-lt (bounded-number r) zero-number e; to = r .to }
+
+pub more-bounded : {c d x : Float} → Bounded c x → T (le (neg d) (neg c) && le c d) → Bounded d x
+more-bounded r t = bounded (as-range r) t
+
+pub add-bounded : {h a b x y : Float} → Bounded a x → Bounded b y → T (holdsEnds (neg a) a (neg b) b (neg h) (neg a ⊕ neg b) (a ⊕ b) h) → Bounded h (x ⊕ y)
+add-bounded {h} p q t =
     let r = add-in {l = neg h} {h = h} (as-range p) (as-range q) t in
     record { from = r .from; to = r .to }
 
-pub sub-about : {h a b x y : Float} → About a x → About b y → T (holdsEnds (neg a) a (neg b) b (neg h) (neg a ⊖ b) (a ⊖ neg b) h) → About h (x ⊖ y)
-sub-about {h} p q t =
+pub sub-bounded : {h a b x y : Float} → Bounded a x → Bounded b y → T (holdsEnds (neg a) a (neg b) b (neg h) (neg a ⊖ b) (a ⊖ neg b) h) → Bounded h (x ⊖ y)
+sub-bounded {h} p q t =
     let r = sub-in {l = neg h} {h = h} (as-range p) (as-range q) t in
     record { from = r .from; to = r .to }
 
-pub div-about : {h a x : Float} (d : Float) → About a x → T (lt (whole 0) d) → T (holdsEnds (neg a) a d d (neg h) (neg a ⊘ d) (a ⊘ d) h) → About h (x ⊘ d)
-div-about {h} d p z t =
+pub div-bounded : {h a x : Float} (d : Float) → Bounded a x → T (lt (whole 0) d) → T (holdsEnds (neg a) a d d (neg h) (neg a ⊘ d) (a ⊘ d) h) → Bounded h (x ⊘ d)
+div-bounded {h} d p z t =
     let r = div-in {l = neg h} {h = h} d (as-range p) z t in
     record { from = r .from; to = r .to }
 
@@ -164,7 +176,7 @@ mul-turned (fin s m e) (fin t n d) f g = go s t
 pub square-turned : (x : Float) → T (finite x) → neg x ⊗ neg x ≡ x ⊗ x
 square-turned x f = mul-turned x (neg x) f (neg-finite (record { holds = f }) .holds) .0 ∙ ap neg (mul-turned x x f f .1) ∙ neg-neg (x ⊗ x)
 
-minus-zero : whole 0 ≼ neg (whole 0)
+pub minus-zero : whole 0 ≼ neg (whole 0)
 unfolding whole neg le
 minus-zero = record { holds = tt }
 
@@ -173,46 +185,42 @@ unfolding whole neg le
 zero-minus = record { holds = tt }
 
 -- a number about zero, or its opposite, is not negative
-turn : {c x : Float} → About c x → (b : Bool) → lt x (whole 0) ≡ b → Between c (cond b (neg x) x)
+turn : {c x : Float} → Bounded c x → (b : Bool) → lt x (whole 0) ≡ b → Between c (cond b (neg x) x)
 turn {c} {x} r true e =
     record { low = le-trans minus-zero (neg-le (lt→le {x = x} {y = whole 0} (record { holds = rw e tt }))); high = rw (neg-neg c) at (neg-le (r .from)) }
-turn r false e = record { low = le-of-not-lt (about-number r) zero-number e; high = r .to }
+turn r false e = record { low = le-of-not-lt (bounded-number r) zero-number e; high = r .to }
 
 module _ {a b h : Float} (fa : Finite a) (fb : Finite b) (top : a ⊗ b ≼ h) where
-  mul-up : {x y : Float} → Between a x → Between b y → About h (x ⊗ y)
+  mul-up : {x y : Float} → Between a x → Between b y → Bounded h (x ⊗ y)
   mul-up p q =
       let n = mul-number (finite-between fa p) (finite-between fb q) in
       let low = mul-nonneg (p .low) (q .low) n in
       let high = le-trans (mul-mono (p .low) (q .low) (p .high) (q .high) n (mul-number fa fb)) top in
       record { from = le-trans (neg-le (le-trans low high)) (le-trans zero-minus low); to = high }
 
-  mul-by : {x y : Float} → Between a x → About b y → About h (x ⊗ y)
+  mul-by : {x y : Float} → Between a x → Bounded b y → Bounded h (x ⊗ y)
   mul-by {x} {y} p q = go (lt y (whole 0)) (turn q (lt y (whole 0)) refl)
     where
-      go : (s : Bool) → Between b (cond s (neg y) y) → About h (x ⊗ y)
-      go true r =
-          let e = mul-turned x y (finite-between fa p .holds) (about-finite fb q .holds) in
-          rw (neg-neg (x ⊗ y)) at (neg-about (rw (e .1) at (mul-up p r)))
+      go : (s : Bool) → Between b (cond s (neg y) y) → Bounded h (x ⊗ y)
+      go true r = turned-bounded (mul-turned x y (finite-between fa p .holds) (bounded-finite fb q .holds) .1) (mul-up p r)
       go false r = mul-up p r
 
-  mul-turns : {x y : Float} → About a x → About b y → About h (x ⊗ y)
+  mul-turns : {x y : Float} → Bounded a x → Bounded b y → Bounded h (x ⊗ y)
   mul-turns {x} {y} p q = go (lt x (whole 0)) (turn p (lt x (whole 0)) refl)
     where
-      go : (s : Bool) → Between a (cond s (neg x) x) → About h (x ⊗ y)
-      go true r =
-          let e = mul-turned x y (about-finite fa p .holds) (about-finite fb q .holds) in
-          rw (neg-neg (x ⊗ y)) at (neg-about (rw (e .0) at (mul-by r q)))
+      go : (s : Bool) → Between a (cond s (neg x) x) → Bounded h (x ⊗ y)
+      go true r = turned-bounded (mul-turned x y (bounded-finite fa p .holds) (bounded-finite fb q .holds) .0) (mul-by r q)
       go false r = mul-by r q
 
-pub mul-about : {h a b x y : Float} → About a x → About b y → T (finite a && finite b && le (a ⊗ b) h) → About h (x ⊗ y)
-mul-about {h} {a} {b} p q t =
+pub mul-bounded : {h a b x y : Float} → Bounded a x → Bounded b y → T (finite a && finite b && le (a ⊗ b) h) → Bounded h (x ⊗ y)
+mul-bounded {h} {a} {b} p q t =
     let s = both-of (finite a && finite b) (le (a ⊗ b) h) t in
     let f = both-of (finite a) (finite b) (s .0) in
     mul-turns (record { holds = f .0 }) (record { holds = f .1 }) (record { holds = s .1 }) p q
 
 -- ---- constants and whole numbers
 
-pub constant : (c x : Float) → T (le (neg c) x && le x c) → About c x
+pub constant : (c x : Float) → T (le (neg c) x && le x c) → Bounded c x
 constant c x t =
     let s = both-of (le (neg c) x) (le x c) t in
     record { from = record { holds = s .0 }; to = record { holds = s .1 } }
@@ -221,14 +229,14 @@ pub whole-le : (m n : ℕ) → m ≤ n → whole m ≼ whole n
 unfolding whole ofInt
 whole-le m n h = record { holds = round-mono binary64 m 1 n 1 (zero-lt-suc 0) (zero-lt-suc 0) (omega arith) }
 
-pub whole-about : (c n : ℕ) → n ≤ c → About (whole c) (whole n)
-whole-about c n h =
+pub whole-bounded : (c n : ℕ) → n ≤ c → Bounded (whole c) (whole n)
+whole-bounded c n h =
     let low = whole-le 0 n (omega arith) in
     record { from = le-trans (neg-le (whole-le 0 c (omega arith))) (le-trans zero-minus low); to = whole-le n c h }
 
-pub int-about : (c : ℕ) (z : ℤ) → natAbs z ≤ c → About (whole c) (ofInt binary64 z)
-int-about c (pos n) h = unfold whole in whole-about c n h
-int-about c (negsuc n) h = unfold ofInt in rw (round-neg (suc n) 1) (unfold whole in neg-about (whole-about c (suc n) h))
+pub int-bounded : (c : ℕ) (z : ℤ) → natAbs z ≤ c → Bounded (whole c) (ofInt binary64 z)
+int-bounded c (pos n) h = unfold whole in whole-bounded c n h
+int-bounded c (negsuc n) h = unfold ofInt in rw (round-neg (suc n) 1) (unfold whole in neg-bounded (whole-bounded c (suc n) h))
 
 -- ---- products and quotients of what is not negative
 
@@ -312,8 +320,8 @@ div-turned (fin s m e) (fin t n d) f g = go s t (eqb n 0) (eqb m 0)
     go false true false c = turned true
     go false false false c = turned false
 
-pub div-by-about : {h a c d x y : Float} → About a x → InRange c d y → T (le (whole 0) a && lt (whole 0) c) → T (holdsEnds (whole 0) a c d (neg h) (whole 0 ⊘ d) (a ⊘ c) h) → About h (x ⊘ y)
-div-by-about {h} {a} {c} {d} {x} {y} p q z t = go (lt x (whole 0)) (turn p (lt x (whole 0)) refl)
+pub div-by-bounded : {h a c d x y : Float} → Bounded a x → InRange c d y → T (le (whole 0) a && lt (whole 0) c) → T (holdsEnds (whole 0) a c d (neg h) (whole 0 ⊘ d) (a ⊘ c) h) → Bounded h (x ⊘ y)
+div-by-bounded {h} {a} {c} {d} {x} {y} p q z t = go (lt x (whole 0)) (turn p (lt x (whole 0)) refl)
   where
     e : Ends (whole 0) a c d (neg h) (whole 0 ⊘ d) (a ⊘ c) h
     e = ends (whole 0) a c d (neg h) (whole 0 ⊘ d) (a ⊘ c) h t
@@ -321,11 +329,11 @@ div-by-about {h} {a} {c} {d} {x} {y} p q z t = go (lt x (whole 0)) (turn p (lt x
     positive-start : T (le (whole 0) (whole 0) && lt (whole 0) c)
     positive-start = unfold whole le in both-of (le (whole 0) a) (lt (whole 0) c) z .1
 
-    by : {w : Float} → Between a w → About h (w ⊘ y)
+    by : {w : Float} → Between a w → Bounded h (w ⊘ y)
     by b = let r = div-by-in {l = neg h} {h = h} (between-range b) q positive-start t in record { from = r .from; to = r .to }
 
-    go : (s : Bool) → Between a (cond s (neg x) x) → About h (x ⊘ y)
-    go true b = rw (neg-neg (x ⊘ y)) at (neg-about (rw (div-turned x y (about-finite (e .b-finite) p .holds) (in-finite (e .c-finite) (e .d-finite) q .holds)) at (by b)))
+    go : (s : Bool) → Between a (cond s (neg x) x) → Bounded h (x ⊘ y)
+    go true b = turned-bounded (div-turned x y (bounded-finite (e .b-finite) p .holds) (in-finite (e .c-finite) (e .d-finite) q .holds)) (by b)
     go false b = by b
 
 -- ---- a test for each step of a series, from 1 up to a count

@@ -27,8 +27,8 @@ pub record InRange (low high x : Float) : Type 0 where
   pub from : low ≼ x
   pub to : x ≼ high
 
--- from −bound to bound
-pub record About (bound x : Float) : Type 0 where
+-- no larger than bound in size: from −bound to bound
+pub record Bounded (bound x : Float) : Type 0 where
   pub from : neg bound ≼ x
   pub to : x ≼ bound
 

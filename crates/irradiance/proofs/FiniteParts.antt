@@ -10,16 +10,16 @@ use lib.ListN.{getD}
 use lib.Ieee.{Float, nan, neg, add, sub, mul, div, lt, le, isNan}
 use Rattle.doubles.specs.Arithmetic.{_⊕_, _⊖_, _⊗_, _⊘_, decimal, whole, bits}
 use Rattle.doubles.specs.Functions.{maxOf2, pi}
-use Rattle.doubles.specs.Order.{_≼_, _≺_, InRange, About}
-use Rattle.doubles.proofs.Order.{le-refl, le-trans, le-of-not-lt}
+use Rattle.doubles.specs.Order.{_≼_, _≺_, InRange, Bounded}
+use Rattle.doubles.proofs.Order.{le-trans}
 use Rattle.doubles.proofs.Bounds.{zero-number, one-number, zero-le-one}
 use Rattle.doubles.proofs.Folds.{max-left}
 use Rattle.doubles.proofs.MinMax.{max-least}
-use Rattle.doubles.proofs.Intervals.{in-number, own-range, widen, add-in, sub-in, mul-in, div-by-in, about, as-range, about-number, more-about, add-about, sub-about, mul-about, div-about, constant, tests, tested}
+use Rattle.doubles.proofs.Intervals.{in-number, cut-in, own-range, widen, add-in, sub-in, mul-in, div-by-in, bounded, as-range, bounded-number, more-bounded, add-bounded, sub-bounded, mul-bounded, div-bounded, constant, tests, tested}
 use Rattle.angles.specs.declared.SinCos.{SinCos}
 use Rattle.sun.specs.declared.hour.Hour.{Hour}
 use Rattle.angles.proofs.Laws.{cosine-range}
-use Rattle.sun.proofs.Units.{UnitRange, radians-about}
+use Rattle.sun.proofs.UnitRange.{UnitRange, radians-bounded}
 use Rattle.sun.proofs.Range.{SunRange}
 use Rattle.irradiance.specs.declared.parts.Irradiance.{Irradiance}
 use Rattle.irradiance.specs.Table.{coefficients, coefficientsAt, tableRow}
@@ -76,9 +76,9 @@ rows-tested : T (tests rowTest 8)
 unfolding tests rowTest
 rows-tested = tt
 
-coefficient-about : (e : Float) (k : ℕ) → k < 6 → About (whole 2) (getD (coefficientsAt e) k nan)
+coefficient-bounded : (e : Float) (k : ℕ) → k < 6 → Bounded (whole 2) (getD (coefficientsAt e) k nan)
 unfolding coefficientsAt rowTest inRow coefficientTest
-coefficient-about e k l =
+coefficient-bounded e k l =
     let row = tableRow-is-row e .within in
     constant (whole 2) (getD (getD coefficients (tableRow e) []) k nan) (tested (inRow (tableRow e)) 6 (tested rowTest 8 rows-tested (tableRow e) (omega (arith, row))) k l)
 
@@ -94,36 +94,30 @@ delta-in {m} {diffuse} p q r =
     let product : InRange (whole 0) (whole (10 ^ 10)) (m ⊗ diffuse) = mul-in p q tt tt in
     div-by-in product r tt tt
 
-brightness-about : {a b c delta zenith : Float} → About (whole 2) a → About (whole 2) b → About (whole 2) c → InRange (whole 0) (whole (10 ^ 7)) delta → InRange (whole 0) (whole 90) zenith
-    → About mostBrightness (brightnessOf a b c delta zenith)
+brightness-bounded : {a b c delta zenith : Float} → Bounded (whole 2) a → Bounded (whole 2) b → Bounded (whole 2) c → InRange (whole 0) (whole (10 ^ 7)) delta → InRange (whole 0) (whole 90) zenith
+    → Bounded mostBrightness (brightnessOf a b c delta zenith)
 unfolding brightnessOf whole decimal neg add mul div lt le isNan
-brightness-about {a} {b} {c} {delta} {zenith} p q r s t =
-    let delta-about : About (whole (10 ^ 7)) delta = about s tt in
-    let zenith-about : About (whole 90) zenith = about t tt in
-    let turned : About (whole 284) (pi ⊗ zenith) = mul-about (constant (decimal 315 2) pi tt) zenith-about tt in
-    let radians : About (whole 2) (pi ⊗ zenith ⊘ whole 180) = div-about (whole 180) turned tt tt in
-    let second : About (whole (2 * 10 ^ 7)) (b ⊗ delta) = mul-about q delta-about tt in
-    let third : About (whole 4) (c ⊗ (pi ⊗ zenith ⊘ whole 180)) = mul-about r radians tt in
-    let sum : About (whole (21 * 10 ^ 6)) (a ⊕ b ⊗ delta) = add-about p second tt in
-    add-about sum third tt
+brightness-bounded {a} {b} {c} {delta} {zenith} p q r s t =
+    let delta-bounded : Bounded (whole (10 ^ 7)) delta = bounded s tt in
+    let zenith-bounded : Bounded (whole 90) zenith = bounded t tt in
+    let turned : Bounded (whole 284) (pi ⊗ zenith) = mul-bounded (constant (decimal 315 2) pi tt) zenith-bounded tt in
+    let radians : Bounded (whole 2) (pi ⊗ zenith ⊘ whole 180) = div-bounded (whole 180) turned tt tt in
+    let second : Bounded (whole (2 * 10 ^ 7)) (b ⊗ delta) = mul-bounded q delta-bounded tt in
+    let third : Bounded (whole 4) (c ⊗ (pi ⊗ zenith ⊘ whole 180)) = mul-bounded r radians tt in
+    let sum : Bounded (whole (21 * 10 ^ 6)) (a ⊕ b ⊗ delta) = add-bounded p second tt in
+    add-bounded sum third tt
+
+brightness-up : whole 0 ≼ mostBrightness
+unfolding whole le
+brightness-up = record { holds = tt }
 
 f1-in : (e : Float) {delta zenith : Float} → InRange (whole 0) (whole (10 ^ 7)) delta → InRange (whole 0) (whole 90) zenith → InRange (whole 0) mostBrightness (circumsolarBrightness e delta zenith)
 unfolding circumsolarBrightness brightness brightnessIn cutBrightness
-f1-in e {delta} {zenith} s t = cut (brightness-about (coefficient-about e 0 (omega arith)) (coefficient-about e 1 (omega arith)) (coefficient-about e 2 (omega arith)) s t)
-  where
-    most : whole 0 ≼ mostBrightness
-    most = record { holds = unfold whole le in tt }
+f1-in e s t = cut-in brightness-up (brightness-bounded (coefficient-bounded e 0 (omega arith)) (coefficient-bounded e 1 (omega arith)) (coefficient-bounded e 2 (omega arith)) s t)
 
-    cut : {x : Float} → About mostBrightness x → InRange (whole 0) mostBrightness (cond (lt x (whole 0)) (whole 0) x)
-    cut {x} r = go (lt x (whole 0)) refl
-      where
-        go : (b : Bool) → lt x (whole 0) ≡ b → InRange (whole 0) mostBrightness (cond b (whole 0) x)
-        go true e = record { from = le-refl zero-number; to = most }
-        go false e = record { from = le-of-not-lt (about-number r) zero-number e; to = r .to }
-
-f2-about : (e : Float) {delta zenith : Float} → InRange (whole 0) (whole (10 ^ 7)) delta → InRange (whole 0) (whole 90) zenith → About mostBrightness (horizontalBrightness e delta zenith)
+f2-bounded : (e : Float) {delta zenith : Float} → InRange (whole 0) (whole (10 ^ 7)) delta → InRange (whole 0) (whole 90) zenith → Bounded mostBrightness (horizontalBrightness e delta zenith)
 unfolding horizontalBrightness brightness brightnessIn
-f2-about e s t = brightness-about (coefficient-about e 3 (omega arith)) (coefficient-about e 4 (omega arith)) (coefficient-about e 5 (omega arith)) s t
+f2-bounded e s t = brightness-bounded (coefficient-bounded e 3 (omega arith)) (coefficient-bounded e 4 (omega arith)) (coefficient-bounded e 5 (omega arith)) s t
 
 -- ---- the ratio a / b
 
@@ -131,13 +125,13 @@ cosine-85-in : InRange (decimal 87 3) (whole 1) (cosineOfDegrees (whole 85))
 unfolding whole decimal bits le isNan
 cosine-85-in = rw cosine-85 (widen (own-range {x = bits 0x3FB64FD6B8C280FF} (record { holds = tt })) tt)
 
-ratio-in : {c z : Float} → About (whole 1) c → About (whole 1) z → InRange (whole 0) (whole 12) (aOverB c z)
+ratio-in : {c z : Float} → Bounded (whole 1) c → Bounded (whole 1) z → InRange (whole 0) (whole 12) (aOverB c z)
 unfolding aOverB
 ratio-in {c} {z} p q =
     let number-85 = in-number cosine-85-in in
-    let seen : InRange (whole 0) (whole 1) (maxOf2 (whole 0) c) = record { from = max-left zero-number (about-number p); to = max-least zero-le-one (p .to) } in
+    let seen : InRange (whole 0) (whole 1) (maxOf2 (whole 0) c) = record { from = max-left zero-number (bounded-number p); to = max-least zero-le-one (p .to) } in
     let flat : InRange (decimal 87 3) (whole 1) (maxOf2 (cosineOfDegrees (whole 85)) z) =
-    record { from = le-trans (cosine-85-in .from) (max-left number-85 (about-number q)); to = max-least (cosine-85-in .to) (q .to) } in
+    record { from = le-trans (cosine-85-in .from) (max-left number-85 (bounded-number q)); to = max-least (cosine-85-in .to) (q .to) } in
     quotient seen flat
   where
     quotient : {x y : Float} → InRange (whole 0) (whole 1) x → InRange (decimal 87 3) (whole 1) y → InRange (whole 0) (whole 12) (x ⊘ y)
@@ -148,19 +142,16 @@ ratio-in {c} {z} p q =
 abbrev pub mostPart : Float
 mostPart = whole (10 ^ 12)
 
-direct-in : {beam c : Float} → InRange (whole 0) mostBeam beam → About (whole 1) c → InRange (whole 0) mostBeam (directIrradiance beam c)
-unfolding directIrradiance
-direct-in {beam} {c} r q = go (lt (beam ⊗ c) (whole 0)) refl
-  where
-    product : About mostBeam (beam ⊗ c)
-    product = unfold whole neg mul le in (let wide : About mostBeam beam = about r tt in mul-about wide q tt)
+beam-up : whole 0 ≼ mostBeam
+unfolding whole le
+beam-up = record { holds = tt }
 
-    most : whole 0 ≼ mostBeam
-    most = record { holds = unfold whole le in tt }
-
-    go : (b : Bool) → lt (beam ⊗ c) (whole 0) ≡ b → InRange (whole 0) mostBeam (cond b (whole 0) (beam ⊗ c))
-    go true e = record { from = le-refl zero-number; to = most }
-    go false e = record { from = le-of-not-lt (about-number product) zero-number e; to = product .to }
+direct-in : {beam c : Float} → InRange (whole 0) mostBeam beam → Bounded (whole 1) c → InRange (whole 0) mostBeam (directIrradiance beam c)
+unfolding directIrradiance whole neg mul le
+direct-in {beam} {c} r q =
+    let wide : Bounded mostBeam beam = bounded r tt in
+    let product : Bounded mostBeam (beam ⊗ c) = mul-bounded wide q tt in
+    cut-in beam-up product
 
 circumsolar-in : {diffuse f1 ratio : Float} → InRange (whole 0) (whole 10000) diffuse → InRange (whole 0) mostBrightness f1 → InRange (whole 0) (whole 12) ratio
     → InRange (whole 0) (whole (4 * 10 ^ 12)) (circumsolarIrradiance diffuse f1 ratio)
@@ -169,35 +160,35 @@ circumsolar-in {diffuse} {f1} p q r =
     let product : InRange (whole 0) (whole (3 * 10 ^ 11)) (diffuse ⊗ f1) = mul-in p q tt tt in
     mul-in product r tt tt
 
-sky-about : {diffuse f1 c : Float} → InRange (whole 0) (whole 10000) diffuse → InRange (whole 0) mostBrightness f1 → About (whole 1) c → About mostPart (skyIrradiance diffuse f1 c)
+sky-bounded : {diffuse f1 c : Float} → InRange (whole 0) (whole 10000) diffuse → InRange (whole 0) mostBrightness f1 → Bounded (whole 1) c → Bounded mostPart (skyIrradiance diffuse f1 c)
 unfolding skyIrradiance whole neg add sub mul div lt le
-sky-about {diffuse} {f1} {c} p q r =
-    let diffuse-about : About (whole 10000) diffuse = about p tt in
+sky-bounded {diffuse} {f1} {c} p q r =
+    let diffuse-bounded : Bounded (whole 10000) diffuse = bounded p tt in
     let rest : InRange (neg (whole (3 * 10 ^ 7))) (whole 1) (whole 1 ⊖ f1) = sub-in (own-range one-number) q tt in
-    let rest-about : About (whole (3 * 10 ^ 7)) (whole 1 ⊖ f1) = about rest tt in
-    let sum : About (whole 2) (whole 1 ⊕ c) = add-about (constant (whole 1) (whole 1) tt) r tt in
-    let view : About (whole 1) ((whole 1 ⊕ c) ⊘ whole 2) = div-about (whole 2) sum tt tt in
-    let product : About (whole (3 * 10 ^ 11)) (diffuse ⊗ (whole 1 ⊖ f1)) = mul-about diffuse-about rest-about tt in
-    mul-about product view tt
+    let rest-bounded : Bounded (whole (3 * 10 ^ 7)) (whole 1 ⊖ f1) = bounded rest tt in
+    let sum : Bounded (whole 2) (whole 1 ⊕ c) = add-bounded (constant (whole 1) (whole 1) tt) r tt in
+    let view : Bounded (whole 1) ((whole 1 ⊕ c) ⊘ whole 2) = div-bounded (whole 2) sum tt tt in
+    let product : Bounded (whole (3 * 10 ^ 11)) (diffuse ⊗ (whole 1 ⊖ f1)) = mul-bounded diffuse-bounded rest-bounded tt in
+    mul-bounded product view tt
 
-horizontal-about : {diffuse f2 s : Float} → InRange (whole 0) (whole 10000) diffuse → About mostBrightness f2 → About (whole 1) s → About mostPart (horizontalIrradiance diffuse f2 s)
+horizontal-bounded : {diffuse f2 s : Float} → InRange (whole 0) (whole 10000) diffuse → Bounded mostBrightness f2 → Bounded (whole 1) s → Bounded mostPart (horizontalIrradiance diffuse f2 s)
 unfolding horizontalIrradiance whole neg mul le
-horizontal-about {diffuse} {f2} p q r =
-    let diffuse-about : About (whole 10000) diffuse = about p tt in
-    let product : About (whole (3 * 10 ^ 11)) (diffuse ⊗ f2) = mul-about diffuse-about q tt in
-    mul-about product r tt
+horizontal-bounded {diffuse} {f2} p q r =
+    let diffuse-bounded : Bounded (whole 10000) diffuse = bounded p tt in
+    let product : Bounded (whole (3 * 10 ^ 11)) (diffuse ⊗ f2) = mul-bounded diffuse-bounded q tt in
+    mul-bounded product r tt
 
-ground-about : {diffuse beam s reflectivity c : Float} → InRange (whole 0) (whole 10000) diffuse → InRange (whole 0) mostBeam beam → InRange (whole 0) (whole 1) s → InRange (whole 0) (whole 1) reflectivity → About (whole 1) c
-    → About mostPart (groundReflection diffuse beam s reflectivity c)
+ground-bounded : {diffuse beam s reflectivity c : Float} → InRange (whole 0) (whole 10000) diffuse → InRange (whole 0) mostBeam beam → InRange (whole 0) (whole 1) s → InRange (whole 0) (whole 1) reflectivity → Bounded (whole 1) c
+    → Bounded mostPart (groundReflection diffuse beam s reflectivity c)
 unfolding groundReflection whole neg add sub mul div lt le
-ground-about {diffuse} {beam} {s} {reflectivity} {c} p q r t u =
+ground-bounded {diffuse} {beam} {s} {reflectivity} {c} p q r t u =
     let flat : InRange (whole 0) mostBeam (beam ⊗ s) = mul-in q r tt tt in
     let light : InRange (whole 0) (whole (3 * 10 ^ 10)) (diffuse ⊕ beam ⊗ s) = add-in p flat tt in
     let back : InRange (whole 0) (whole (3 * 10 ^ 10)) ((diffuse ⊕ beam ⊗ s) ⊗ reflectivity) = mul-in light t tt tt in
-    let back-about : About (whole (3 * 10 ^ 10)) ((diffuse ⊕ beam ⊗ s) ⊗ reflectivity) = about back tt in
-    let rest : About (whole 2) (whole 1 ⊖ c) = sub-about (constant (whole 1) (whole 1) tt) u tt in
-    let view : About (whole 1) ((whole 1 ⊖ c) ⊘ whole 2) = div-about (whole 2) rest tt tt in
-    mul-about back-about view tt
+    let back-bounded : Bounded (whole (3 * 10 ^ 10)) ((diffuse ⊕ beam ⊗ s) ⊗ reflectivity) = bounded back tt in
+    let rest : Bounded (whole 2) (whole 1 ⊖ c) = sub-bounded (constant (whole 1) (whole 1) tt) u tt in
+    let view : Bounded (whole 1) ((whole 1 ⊖ c) ⊘ whole 2) = div-bounded (whole 2) rest tt tt in
+    mul-bounded back-bounded view tt
 
 -- ---- the irradiance
 
@@ -206,12 +197,12 @@ mostIrradiance = whole (2 * 10 ^ 13)
 
 pub record IrradianceRange (parts : Irradiance) : Type 0 where
   pub direct : InRange (whole 0) mostIrradiance (parts .direct)
-  pub diffuse : About mostIrradiance (parts .diffuse)
-  pub total : About mostIrradiance (parts .total)
-  pub sky : About mostPart (parts .sky)
+  pub diffuse : Bounded mostIrradiance (parts .diffuse)
+  pub total : Bounded mostIrradiance (parts .total)
+  pub sky : Bounded mostPart (parts .sky)
   pub circumsolar : InRange (whole 0) (whole (4 * 10 ^ 12)) (parts .circumsolar)
-  pub horizontal : About mostPart (parts .horizontal)
-  pub ground : About mostPart (parts .ground)
+  pub horizontal : Bounded mostPart (parts .horizontal)
+  pub ground : Bounded mostPart (parts .ground)
 
 -- direct with the circumsolar part
 direct-sum : {a b : Float} → InRange (whole 0) mostBeam a → InRange (whole 0) (whole (4 * 10 ^ 12)) b → InRange (whole 0) (whole (41 * 10 ^ 11)) (a ⊕ b)
@@ -219,8 +210,8 @@ unfolding whole add le
 direct-sum p q = add-in p q tt
 
 -- diffuse without it and with the ground's reflection
-diffuse-sum : {a b c d : Float} → About mostPart a → InRange (whole 0) (whole (4 * 10 ^ 12)) b → About mostPart c → About mostPart d
-    → About (whole (7 * 10 ^ 12)) (a ⊕ b ⊕ c ⊖ b ⊕ d)
+diffuse-sum : {a b c d : Float} → Bounded mostPart a → InRange (whole 0) (whole (4 * 10 ^ 12)) b → Bounded mostPart c → Bounded mostPart d
+    → Bounded (whole (7 * 10 ^ 12)) (a ⊕ b ⊕ c ⊖ b ⊕ d)
 unfolding whole neg add sub le
 diffuse-sum {a} {b} {c} {d} p q r s =
     let first : InRange (neg mostPart) (whole (5 * 10 ^ 12)) (a ⊕ b) = add-in (as-range p) q tt in
@@ -229,26 +220,26 @@ diffuse-sum {a} {b} {c} {d} p q r s =
     let fourth : InRange (neg (whole (7 * 10 ^ 12))) (whole (7 * 10 ^ 12)) (a ⊕ b ⊕ c ⊖ b ⊕ d) = add-in third (as-range s) tt in
     record { from = fourth .from; to = fourth .to }
 
-total-sum : {a b : Float} → InRange (whole 0) (whole (41 * 10 ^ 11)) a → About (whole (7 * 10 ^ 12)) b → About mostIrradiance (a ⊕ b)
+total-sum : {a b : Float} → InRange (whole 0) (whole (41 * 10 ^ 11)) a → Bounded (whole (7 * 10 ^ 12)) b → Bounded mostIrradiance (a ⊕ b)
 unfolding whole neg add le
 total-sum {a} p q =
-    let wide : About (whole (41 * 10 ^ 11)) a = about p tt in
-    add-about wide q tt
+    let wide : Bounded (whole (41 * 10 ^ 11)) a = bounded p tt in
+    add-bounded wide q tt
 
 wider-direct : {a : Float} → InRange (whole 0) (whole (41 * 10 ^ 11)) a → InRange (whole 0) mostIrradiance a
 unfolding whole le
 wider-direct r = widen r tt
 
-wider-diffuse : {a : Float} → About (whole (7 * 10 ^ 12)) a → About mostIrradiance a
+wider-diffuse : {a : Float} → Bounded (whole (7 * 10 ^ 12)) a → Bounded mostIrradiance a
 unfolding whole neg le
-wider-diffuse r = more-about r tt
+wider-diffuse r = more-bounded r tt
 
 -- the cosine of an angle of incidence
-cosine-about : {degrees : Float} → InRange (whole 0) (whole 180) degrees → About (whole 1) (cosineOfDegrees degrees)
+cosine-bounded : {degrees : Float} → InRange (whole 0) (whole 180) degrees → Bounded (whole 1) (cosineOfDegrees degrees)
 unfolding cosineOfDegrees whole neg le
-cosine-about {degrees} r =
-    let wide : About (whole 1000) degrees = about r tt in
-    cosine-range (radians-about wide)
+cosine-bounded {degrees} r =
+    let wide : Bounded (whole 1000) degrees = bounded r tt in
+    cosine-range (radians-bounded wide)
 
 module _ {l d t o : SinCos} {sun : Hour} (latitude : UnitRange l) (declination : UnitRange d) (tilt : UnitRange t) (facing : UnitRange o) (known : SunRange sun) where
   pub irradiance-range : (conversion : Bool) {x diffuse direct reflectivity : Float} → InRange (whole 1300) (whole 1420) x → InRange (whole 0) (whole 10000) diffuse
@@ -256,18 +247,18 @@ module _ {l d t o : SinCos} {sun : Hour} (latitude : UnitRange l) (declination :
       → IrradianceRange (irradianceOf t (incidenceOf l d t o sun) (skyOf conversion sun x diffuse direct) (sun .«sin_altitude») reflectivity)
   unfolding irradianceOf incidenceOf incidenceBy skyOf
   irradiance-range conversion {x} {diffuse} {direct} p q r s =
-      let cos = cosine-about (incidence-range latitude declination tilt facing (known .hour-angle)) in
+      let cos = cosine-bounded (incidence-range latitude declination tilt facing (known .hour-angle)) in
       let ratio = ratio-in cos (known .cos-zenith) in
       let beam = beam-in conversion r (known .sin-altitude) (known .sin-above) in
       let delta = delta-in (known .air-mass) q p in
       let e = clearness diffuse (directBeam conversion direct (sun .«sin_altitude»)) (sun .altitude) in
       let f1 = f1-in e delta (known .zenith) in
-      let f2 = f2-about e delta (known .zenith) in
+      let f2 = f2-bounded e delta (known .zenith) in
       let circumsolar = circumsolar-in q f1 ratio in
       let first = direct-sum (direct-in beam cos) circumsolar in
-      let sky = sky-about q f1 (tilt .cos) in
-      let horizontal = horizontal-about q f2 (tilt .sin) in
-      let ground = ground-about q beam (known .sin-altitude) s (tilt .cos) in
+      let sky = sky-bounded q f1 (tilt .cos) in
+      let horizontal = horizontal-bounded q f2 (tilt .sin) in
+      let ground = ground-bounded q beam (known .sin-altitude) s (tilt .cos) in
       let second = diffuse-sum sky circumsolar horizontal ground in
       record {
         direct = wider-direct first;

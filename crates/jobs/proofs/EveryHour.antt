@@ -5,15 +5,15 @@ use native.Mathlib.Omega.{arith}
 use lib.Dec.{T, eqb}
 use lib.Ieee.{Float, neg, le, sub, isNan}
 use Rattle.doubles.specs.Arithmetic.{_⊖_, whole}
-use Rattle.doubles.specs.Order.{InRange, About, Number, Finite}
-use Rattle.doubles.proofs.Intervals.{in-number, in-finite, about-finite, own-range, about, sub-in}
+use Rattle.doubles.specs.Order.{InRange, Bounded, Number, Finite}
+use Rattle.doubles.proofs.Intervals.{in-number, in-finite, bounded-finite, own-range, bounded, sub-in}
 use Rattle.days.specs.Day.{dayOf}
 use Rattle.days.proofs.Range.{radiation-in}
 use Rattle.orientation.specs.Orientation.{orientation180}
 use Rattle.sun.specs.declared.site.Site.{Site}
 use Rattle.sun.specs.Site.{siteFine}
 use Rattle.sun.specs.Hour.{sinCosOf, hourOf}
-use Rattle.sun.proofs.Units.{UnitRange, unit-range}
+use Rattle.sun.proofs.UnitRange.{UnitRange, unit-range}
 use Rattle.sun.proofs.ByAltitude.{farAzimuth}
 use Rattle.sun.proofs.Range.{latitude-unit, declination-unit, sun-range}
 use Rattle.irradiance.specs.declared.parts.Irradiance.{Irradiance}
@@ -32,7 +32,7 @@ use Rattle.jobs.proofs.PassedChecks.{Passed, accepted-reading, reading-
 tilt-unit : (s : Surface) → T (surfaceFine s) → UnitRange (sinCosOf (s .tilt))
 unfolding whole neg le
 tilt-unit s t =
-    let wide : About (whole 1000) (s .tilt) = about (tilt-range s t) tt in
+    let wide : Bounded (whole 1000) (s .tilt) = bounded (tilt-range s t) tt in
     unit-range wide
 
 facing-unit : (s : Surface) → T (surfaceFine s) → UnitRange (sinCosOf (orientation180 (s .orientation)))
@@ -40,12 +40,12 @@ unfolding orientation180 whole neg sub le isNan
 facing-unit s t =
     let south : InRange (whole 180) (whole 180) (whole 180) = own-range (record { holds = tt }) in
     let turned : InRange (neg (whole 180)) (whole 180) (whole 180 ⊖ s .orientation) = sub-in south (orientation-range s t) tt in
-    let wide : About (whole 1000) (whole 180 ⊖ s .orientation) = about turned tt in
+    let wide : Bounded (whole 1000) (whole 180 ⊖ s .orientation) = bounded turned tt in
     unit-range wide
 
-azimuth-finite : {x : Float} → About farAzimuth x → Finite x
+azimuth-finite : {x : Float} → Bounded farAzimuth x → Finite x
 unfolding whole
-azimuth-finite r = about-finite (record { holds = tt }) r
+azimuth-finite r = bounded-finite (record { holds = tt }) r
 
 pub every-hour : EveryHour
 every-hour site surface t s hour h =
@@ -68,12 +68,12 @@ unfolding whole
 finite-parts r = record {
   direct = in-finite (record { holds = tt }) (record { holds = tt }) (r .direct);
   direct-from = r .direct .from;
-  diffuse = about-finite (record { holds = tt }) (r .diffuse);
-  total = about-finite (record { holds = tt }) (r .total);
-  sky = about-finite (record { holds = tt }) (r .sky);
+  diffuse = bounded-finite (record { holds = tt }) (r .diffuse);
+  total = bounded-finite (record { holds = tt }) (r .total);
+  sky = bounded-finite (record { holds = tt }) (r .sky);
   circumsolar = in-finite (record { holds = tt }) (record { holds = tt }) (r .circumsolar);
-  horizontal = about-finite (record { holds = tt }) (r .horizontal);
-  ground = about-finite (record { holds = tt }) (r .ground);
+  horizontal = bounded-finite (record { holds = tt }) (r .horizontal);
+  ground = bounded-finite (record { holds = tt }) (r .ground);
 }
 
 pub every-reading : EveryReading

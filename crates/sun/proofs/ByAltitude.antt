@@ -4,13 +4,14 @@ use mathlib.Core.Path.{_≡_, refl}
 use mathlib.Core.Logic.{_⊎_, inl, inr}
 use mathlib.Core.Bool.{Bool, true, false, cond, _&&_}
 use Prim.Native.Nat.{_*_, _^_}
+use lib.Dec.{T}
 use lib.Ieee.{Float, neg, add, sub, mul, div, lt, le, isNan}
 use Rattle.doubles.specs.Arithmetic.{_⊕_, _⊖_, _⊗_, _⊘_, decimal, whole, bits}
 use Rattle.doubles.specs.Functions.{toRadians, toDegrees, pi}
-use Rattle.doubles.specs.Order.{_≼_, _≺_, InRange, About, Number}
+use Rattle.doubles.specs.Order.{_≼_, _≺_, InRange, Bounded, Number}
 use Rattle.doubles.proofs.Order.{lt→le, lt-excludes, lt-of-not-le}
 use Rattle.doubles.proofs.Bounds.{zero-number, one-number}
-use Rattle.doubles.proofs.Intervals.{in-number, own-range, widen, add-in, mul-in, div-by-in, about-number, neg-about, more-about, add-about, sub-about, mul-about, div-by-about, constant}
+use Rattle.doubles.proofs.Intervals.{holdsEnds, in-number, own-range, widen, add-in, mul-in, div-by-in, bounded-number, neg-bounded, more-bounded, add-bounded, sub-bounded, mul-bounded, div-by-bounded, constant}
 use Rattle.angles.specs.declared.SinCos.{SinCos}
 use Rattle.angles.specs.Sine.{sine}
 use Rattle.angles.proofs.Computed.{steps}
@@ -20,7 +21,7 @@ use Rattle.arcsines.proofs.Range.{arcsine-range, arcsine-up}
 use Rattle.powers.specs.Power.{powMinus1253}
 use Rattle.powers.proofs.Range.{power-range}
 use Rattle.sun.specs.Hour.{azimuthBranch, azimuthNumerator, azimuthFrom, azimuthDenominator, airMassBy, airMass}
-use Rattle.sun.proofs.Units.{UnitRange}
+use Rattle.sun.proofs.UnitRange.{UnitRange, unit-product}
 
 -- ---- the sine
 
@@ -33,35 +34,26 @@ unfolding whole decimal le
 altitude-in {a} (inl e) = rw e (widen (own-range zero-number) tt)
 altitude-in {a} (inr r) = widen r tt
 
-radians-in : {a : Float} → InRange (whole 0) (whole 90) a → InRange (whole 0) quarterTurn (toRadians a)
-unfolding toRadians whole bits mul div le isNan
-radians-in {a} r =
-    let by : InRange (pi ⊘ whole 180) (pi ⊘ whole 180) (pi ⊘ whole 180) = own-range (record { holds = tt }) in
-    mul-in r by tt tt
+abbrev perDegree : Float
+perDegree = pi ⊘ whole 180
 
-radians-by-day : {a : Float} → InRange (decimal 1 4) (whole 90) a → InRange (decimal 17 7) quarterTurn (toRadians a)
-unfolding toRadians whole decimal bits mul div le isNan
-radians-by-day {a} r =
-    let by : InRange (pi ⊘ whole 180) (pi ⊘ whole 180) (pi ⊘ whole 180) = own-range (record { holds = tt }) in
-    mul-in r by tt tt
-
-radians-from-10 : {a : Float} → InRange (whole 10) (whole 90) a → InRange (decimal 17 2) quarterTurn (toRadians a)
-unfolding toRadians whole decimal bits mul div le isNan
-radians-from-10 {a} r =
-    let by : InRange (pi ⊘ whole 180) (pi ⊘ whole 180) (pi ⊘ whole 180) = own-range (record { holds = tt }) in
-    mul-in r by tt tt
+-- the altitude in radians, by tests of the least altitude
+radians-from : (low angle : Float) {a : Float} → T (le (whole 0) low && le (whole 0) perDegree)
+    → T (holdsEnds low (whole 90) perDegree perDegree angle (low ⊗ perDegree) (whole 90 ⊗ perDegree) quarterTurn) → InRange low (whole 90) a → InRange angle quarterTurn (toRadians a)
+unfolding toRadians whole div isNan
+radians-from low angle zeros product r = mul-in r (own-range (record { holds = tt })) zeros product
 
 pub sine-up : {a : Float} → InRange (whole 0) (whole 90) a → InRange (whole 0) (whole 1) (sine (toRadians a))
-unfolding whole decimal neg sub mul le
-sine-up r = sine-in (whole 0) (whole 0) tt tt tt tt (radians-in r)
+unfolding whole decimal bits pi neg sub mul div le
+sine-up r = sine-in (whole 0) (whole 0) tt tt tt tt (radians-from (whole 0) (whole 0) tt tt r)
 
 sine-by-day : {a : Float} → InRange (decimal 1 4) (whole 90) a → InRange (decimal 6 7) (whole 1) (sine (toRadians a))
-unfolding whole decimal neg sub mul le
-sine-by-day r = sine-in (decimal 17 7) (decimal 6 7) tt tt tt tt (radians-by-day r)
+unfolding whole decimal bits pi neg sub mul div le
+sine-by-day r = sine-in (decimal 17 7) (decimal 6 7) tt tt tt tt (radians-from (decimal 1 4) (decimal 17 7) tt tt r)
 
 sine-from-10 : {a : Float} → InRange (whole 10) (whole 90) a → InRange (decimal 6 2) (whole 1) (sine (toRadians a))
-unfolding whole decimal neg sub mul le
-sine-from-10 r = sine-in (decimal 17 2) (decimal 6 2) tt tt tt tt (radians-from-10 r)
+unfolding whole decimal bits pi neg sub mul div le
+sine-from-10 r = sine-in (decimal 17 2) (decimal 6 2) tt tt tt tt (radians-from (whole 10) (decimal 17 2) tt tt r)
 
 -- a sine above 0 is by day, and so not too small to divide by
 pub sine-above : {a : Float} → Altitude a → whole 0 ≺ sine (toRadians a) → decimal 6 7 ≼ sine (toRadians a)
@@ -87,44 +79,41 @@ denominator-in {a} r = cosine-in (quarter (arcsine-up (sine-up r .from)))
 abbrev pub farAzimuth : Float
 farAzimuth = whole (5 * 10 ^ 18)
 
-aux2-about : {arc denominator : Float} → About halfPi arc → InRange (decimal 2 17) (whole 1) denominator → About (whole (46 * 10 ^ 17)) (toDegrees (arc ⊘ denominator))
+aux2-bounded : {arc denominator : Float} → Bounded halfPi arc → InRange (decimal 2 17) (whole 1) denominator → Bounded (whole (46 * 10 ^ 17)) (toDegrees (arc ⊘ denominator))
 unfolding toDegrees halfPi whole decimal neg mul div lt le
-aux2-about {arc} {denominator} p q =
-    let quotient : About (whole (8 * 10 ^ 16)) (arc ⊘ denominator) = div-by-about p q tt tt in
-    mul-about quotient (constant (decimal 573 1) (whole 180 ⊘ pi) tt) tt
+aux2-bounded {arc} {denominator} p q =
+    let quotient : Bounded (whole (8 * 10 ^ 16)) (arc ⊘ denominator) = div-by-bounded p q tt tt in
+    mul-bounded quotient (constant (decimal 573 1) (whole 180 ⊘ pi) tt) tt
 
-branch-about : (s c : Float) {aux2 : Float} → About (whole (46 * 10 ^ 17)) aux2 → About farAzimuth (azimuthBranch s c aux2)
+branch-bounded : (s c : Float) {aux2 : Float} → Bounded (whole (46 * 10 ^ 17)) aux2 → Bounded farAzimuth (azimuthBranch s c aux2)
 unfolding azimuthBranch whole neg add sub le
-branch-about s c {aux2} r = go (le (whole 0) s && lt (whole 0) c) (lt (whole 180) aux2) (lt c (whole 0))
+branch-bounded s c {aux2} r = go (le (whole 0) s && lt (whole 0) c) (lt (whole 180) aux2) (lt c (whole 0))
   where
-    half : About (whole 180) (whole 180)
+    half : Bounded (whole 180) (whole 180)
     half = constant (whole 180) (whole 180) tt
 
-    less : About farAzimuth (aux2 ⊖ whole 180)
-    less = sub-about r half tt
+    less : Bounded farAzimuth (aux2 ⊖ whole 180)
+    less = sub-bounded r half tt
 
-    rest : About farAzimuth (whole 180 ⊖ aux2)
-    rest = sub-about half r tt
+    rest : Bounded farAzimuth (whole 180 ⊖ aux2)
+    rest = sub-bounded half r tt
 
-    sum : About farAzimuth (whole 180 ⊕ aux2)
-    sum = add-about half r tt
+    sum : Bounded farAzimuth (whole 180 ⊕ aux2)
+    sum = add-bounded half r tt
 
-    own : About farAzimuth aux2
-    own = more-about r tt
+    own : Bounded farAzimuth aux2
+    own = more-bounded r tt
 
-    go : (b d e : Bool) → About farAzimuth (cond b (cond d (aux2 ⊖ whole 180) (whole 180 ⊖ aux2)) (cond e aux2 (neg (whole 180 ⊕ aux2))))
+    go : (b d e : Bool) → Bounded farAzimuth (cond b (cond d (aux2 ⊖ whole 180) (whole 180 ⊖ aux2)) (cond e aux2 (neg (whole 180 ⊕ aux2))))
     go true true e = less
     go true false e = rest
     go false d true = own
-    go false d false = neg-about sum
+    go false d false = neg-bounded sum
 
-pub azimuth-about : (l : SinCos) {d w : SinCos} {a : Float} → UnitRange d → UnitRange w → InRange (whole 0) (whole 90) a
-    → About farAzimuth (azimuthFrom l d w (arcsine (azimuthNumerator d w)) (azimuthDenominator a))
+pub azimuth-bounded : (l : SinCos) {d w : SinCos} {a : Float} → UnitRange d → UnitRange w → InRange (whole 0) (whole 90) a
+    → Bounded farAzimuth (azimuthFrom l d w (arcsine (azimuthNumerator d w)) (azimuthDenominator a))
 unfolding azimuthFrom azimuthNumerator
-azimuth-about l {d} {w} p q r = branch-about _ _ (aux2-about (arcsine-range (about-number (product (p .cos) (q .sin)))) (denominator-in r))
-  where
-    product : {x y : Float} → About (whole 1) x → About (whole 1) y → About (whole 1) (x ⊗ y)
-    product s t = mul-about s t (unfold whole mul le in tt)
+azimuth-bounded l {d} {w} p q r = branch-bounded _ _ (aux2-bounded (arcsine-range (bounded-number (unit-product (p .cos) (q .sin)))) (denominator-in r))
 
 -- ---- the air mass
 

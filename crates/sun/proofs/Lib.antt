@@ -1,4 +1,4 @@
 pub mod HourParts
-pub mod Units
+pub mod UnitRange
 pub mod ByAltitude
 pub mod Range

@@ -11,24 +11,24 @@ use lib.Signed.{leZ}
 use lib.Ieee.{Float, neg, add, sub, mul, div, lt, le, isNan}
 use Rattle.doubles.specs.Arithmetic.{_⊕_, _⊖_, _⊗_, _⊘_, decimal, whole}
 use Rattle.doubles.specs.Functions.{toRadians, toDegrees, pi}
-use Rattle.doubles.specs.Order.{_≼_, _≺_, InRange, About, Number}
+use Rattle.doubles.specs.Order.{_≼_, _≺_, InRange, Bounded, Number}
 use Rattle.doubles.specs.Ranges.{within}
 use Rattle.doubles.proofs.Order.{lt→le, le-of-not-lt}
 use Rattle.doubles.proofs.Ranges.{both-of, within-range}
-use Rattle.doubles.proofs.Intervals.{own-range, add-in, sub-in, about, as-range, about-number, more-about, add-about, sub-about, mul-about, div-about, constant, whole-le, int-about}
+use Rattle.doubles.proofs.Intervals.{own-range, add-in, sub-in, bounded, as-range, bounded-number, more-bounded, add-bounded, sub-bounded, mul-bounded, div-bounded, constant, whole-le, int-bounded}
 use Rattle.angles.specs.Sine.{sine, cosine}
 use Rattle.angles.proofs.Laws.{cosine-range}
 use Rattle.arcsines.specs.Arcsine.{halfPi}
 use Rattle.arcsines.proofs.Range.{arcsine-range}
 use Rattle.days.specs.Day.{orbitDeviation, solarDeclination, equationOfTime, dayOf}
-use Rattle.days.proofs.Range.{declination-about, equation-about}
+use Rattle.days.proofs.Range.{declination-bounded, equation-bounded}
 use Rattle.orientation.specs.Orientation.{wrappedOnce}
 use Rattle.sun.specs.declared.site.Site.{Site}
 use Rattle.sun.specs.declared.hour.Hour.{Hour}
 use Rattle.sun.specs.Site.{siteFine}
 use Rattle.sun.specs.Hour.{sinCosOf, timeShift, solarTime, hourAngle, altitudeSine, isNight, cutAltitude, solarAltitude, solarZenith, solarAzimuth, hourOf}
-use Rattle.sun.proofs.Units.{UnitRange, radians-about, unit-range}
-use Rattle.sun.proofs.ByAltitude.{Altitude, altitude-in, sine-up, sine-above, farAzimuth, azimuth-about, air-mass-in}
+use Rattle.sun.proofs.UnitRange.{UnitRange, unit-product, radians-bounded, unit-range}
+use Rattle.sun.proofs.ByAltitude.{Altitude, altitude-in, sine-up, sine-above, farAzimuth, azimuth-bounded, air-mass-in}
 
 -- ---- an angle shifted by 360 once
 
@@ -40,50 +40,46 @@ number-minus-180 : Number (neg (whole 180))
 unfolding whole neg isNan
 number-minus-180 = record { holds = tt }
 
-shifted-back : {angle : Float} → InRange (whole 180) (decimal 5667 1) angle → About (whole 207) (angle ⊖ whole 360)
+shifted-back : {angle : Float} → InRange (whole 180) (decimal 5667 1) angle → Bounded (whole 207) (angle ⊖ whole 360)
 unfolding whole decimal neg sub le isNan
 shifted-back {angle} r =
     let turn : InRange (whole 360) (whole 360) (whole 360) = own-range (record { holds = tt }) in
     let d : InRange (neg (whole 207)) (whole 207) (angle ⊖ whole 360) = sub-in r turn tt in
     record { from = d .from; to = d .to }
 
-shifted-on : {angle : Float} → InRange (neg (decimal 5667 1)) (neg (whole 180)) angle → About (whole 207) (angle ⊕ whole 360)
+shifted-on : {angle : Float} → InRange (neg (decimal 5667 1)) (neg (whole 180)) angle → Bounded (whole 207) (angle ⊕ whole 360)
 unfolding whole decimal neg add le isNan
 shifted-on {angle} r =
     let turn : InRange (whole 360) (whole 360) (whole 360) = own-range (record { holds = tt }) in
     let d : InRange (neg (whole 207)) (whole 207) (angle ⊕ whole 360) = add-in r turn tt in
     record { from = d .from; to = d .to }
 
-not-shifted : {angle : Float} → InRange (neg (whole 180)) (whole 180) angle → About (whole 207) angle
+not-shifted : {angle : Float} → InRange (neg (whole 180)) (whole 180) angle → Bounded (whole 207) angle
 unfolding whole neg le
-not-shifted r = about r tt
+not-shifted r = bounded r tt
 
-wrapped-about : {angle : Float} → About (decimal 5667 1) angle → About (whole 207) (wrappedOnce angle)
+wrapped-bounded : {angle : Float} → Bounded (decimal 5667 1) angle → Bounded (whole 207) (wrappedOnce angle)
 unfolding wrappedOnce
-wrapped-about {angle} r = go (lt (whole 180) angle) (lt angle (neg (whole 180))) refl refl
+wrapped-bounded {angle} r = go (lt (whole 180) angle) (lt angle (neg (whole 180))) refl refl
   where
-    go : (b c : Bool) → lt (whole 180) angle ≡ b → lt angle (neg (whole 180)) ≡ c → About (whole 207) (cond b (angle ⊖ whole 360) (cond c (angle ⊕ whole 360) angle))
+    go : (b c : Bool) → lt (whole 180) angle ≡ b → lt angle (neg (whole 180)) ≡ c → Bounded (whole 207) (cond b (angle ⊖ whole 360) (cond c (angle ⊕ whole 360) angle))
     go true c p q = shifted-back (record { from = lt→le (record { holds = rw p tt }); to = r .to })
     go false true p q = shifted-on (record { from = r .from; to = lt→le (record { holds = rw q tt }) })
-    go false false p q = not-shifted (record { from = le-of-not-lt (about-number r) number-minus-180 q; to = le-of-not-lt number-180 (about-number r) p })
+    go false false p q = not-shifted (record { from = le-of-not-lt (bounded-number r) number-minus-180 q; to = le-of-not-lt number-180 (bounded-number r) p })
 
 -- ---- the altitude by its sine
 
-sum-of-products : {a b c d e : Float} → About (whole 1) a → About (whole 1) b → About (whole 1) c → About (whole 1) d → About (whole 1) e → About (whole 2) (a ⊗ b ⊕ c ⊗ d ⊗ e)
-unfolding whole neg add mul le
-sum-of-products {a} {b} {c} {d} {e} p q r s t =
-    let first : About (whole 1) (a ⊗ b) = mul-about p q tt in
-    let second : About (whole 1) (c ⊗ d) = mul-about r s tt in
-    let third : About (whole 1) (c ⊗ d ⊗ e) = mul-about second t tt in
-    add-about first third tt
+sum-of-products : {a b c d e : Float} → Bounded (whole 1) a → Bounded (whole 1) b → Bounded (whole 1) c → Bounded (whole 1) d → Bounded (whole 1) e → Bounded (whole 2) (a ⊗ b ⊕ c ⊗ d ⊗ e)
+unfolding whole neg add le
+sum-of-products p q r s t = add-bounded (unit-product p q) (unit-product (unit-product r s) t) tt
 
 -- PI/2 is 90 degrees, rounded as the paper has it
-degrees-about : {x : Float} → About halfPi x → About (whole 90) (toDegrees x)
+degrees-bounded : {x : Float} → Bounded halfPi x → Bounded (whole 90) (toDegrees x)
 unfolding toDegrees halfPi whole decimal neg mul div le
-degrees-about h = mul-about h (constant (whole 180 ⊘ pi) (whole 180 ⊘ pi) tt) tt
+degrees-bounded h = mul-bounded h (constant (whole 180 ⊘ pi) (whole 180 ⊘ pi) tt) tt
 
 -- night's is 0, and day's at least 0.0001
-cut-altitude : {x : Float} → About (whole 90) x → Altitude (cutAltitude x)
+cut-altitude : {x : Float} → Bounded (whole 90) x → Altitude (cutAltitude x)
 unfolding cutAltitude isNight
 cut-altitude {x} r = go (lt x (decimal 1 4)) refl
   where
@@ -92,7 +88,7 @@ cut-altitude {x} r = go (lt x (decimal 1 4)) refl
 
     go : (b : Bool) → lt x (decimal 1 4) ≡ b → Altitude (cond b (whole 0) x)
     go true e = inl refl
-    go false e = inr (record { from = le-of-not-lt (about-number r) least e; to = r .to })
+    go false e = inr (record { from = le-of-not-lt (bounded-number r) least e; to = r .to })
 
 zenith-range : {altitude : Float} → InRange (whole 0) (whole 90) altitude → InRange (whole 0) (whole 90) (solarZenith altitude)
 unfolding solarZenith whole sub le isNan
@@ -100,22 +96,22 @@ zenith-range h =
     let right : InRange (whole 90) (whole 90) (whole 90) = own-range (record { holds = tt }) in
     sub-in right h tt
 
-cos-zenith-about : {zenith : Float} → InRange (whole 0) (whole 90) zenith → About (whole 1) (cosine (toRadians zenith))
+cos-zenith-bounded : {zenith : Float} → InRange (whole 0) (whole 90) zenith → Bounded (whole 1) (cosine (toRadians zenith))
 unfolding whole neg le
-cos-zenith-about {zenith} h =
-    let wide : About (whole 1000) zenith = about h tt in
-    cosine-range (radians-about wide)
+cos-zenith-bounded {zenith} h =
+    let wide : Bounded (whole 1000) zenith = bounded h tt in
+    cosine-range (radians-bounded wide)
 
 -- What is known of the sun of an hour. Its azimuth may lie far beyond ±180, where it stands overhead; a sine of its altitude that is above 0
 -- is not too small to divide by.
 pub record SunRange (sun : Hour) : Type 0 where
   pub altitude : InRange (whole 0) (whole 90) (sun .altitude)
-  pub azimuth : About farAzimuth (sun .azimuth)
+  pub azimuth : Bounded farAzimuth (sun .azimuth)
   pub zenith : InRange (whole 0) (whole 90) (sun .zenith)
   pub hour-angle : UnitRange (sun .«hour_angle»)
   pub sin-altitude : InRange (whole 0) (whole 1) (sun .«sin_altitude»)
   pub sin-above : whole 0 ≺ sun .«sin_altitude» → decimal 6 7 ≼ sun .«sin_altitude»
-  pub cos-zenith : About (whole 1) (sun .«cos_zenith»)
+  pub cos-zenith : Bounded (whole 1) (sun .«cos_zenith»)
   pub air-mass : InRange (whole 0) (whole (10 ^ 6)) (sun .«air_mass»)
 
 -- ---- an accepted site
@@ -139,10 +135,10 @@ module _ (site : Site) (t : T (siteFine site)) where
       let v = both-of a b (u .0) in
       (v .0, v .1, u .1)
 
-  pub latitude-range : About (whole 90) (site .latitude)
+  pub latitude-range : Bounded (whole 90) (site .latitude)
   latitude-range = let r = within-range (neg (whole 90)) (whole 90) (site .latitude) (tests .0) in record { from = r .from; to = r .to }
 
-  longitude-range : About (whole 180) (site .longitude)
+  longitude-range : Bounded (whole 180) (site .longitude)
   longitude-range = let r = within-range (neg (whole 180)) (whole 180) (site .longitude) (tests .1) in record { from = r .from; to = r .to }
 
   timezone-size : natAbs (site .timezone) ≤ 14
@@ -154,11 +150,11 @@ module _ (site : Site) (t : T (siteFine site)) where
 
   -- ---- the hour angle
 
-  shift-about : About (whole 26) (timeShift (site .timezone) (site .longitude))
+  shift-bounded : Bounded (whole 26) (timeShift (site .timezone) (site .longitude))
   unfolding timeShift whole neg sub div lt le
-  shift-about =
-      let east : About (whole 12) (site .longitude ⊘ whole 15) = div-about (whole 15) longitude-range tt tt in
-      sub-about (int-about 14 (site .timezone) timezone-size) east tt
+  shift-bounded =
+      let east : Bounded (whole 12) (site .longitude ⊘ whole 15) = div-bounded (whole 15) longitude-range tt tt in
+      sub-bounded (int-bounded 14 (site .timezone) timezone-size) east tt
 
   module _ (hour : ℕ) (h : hour < 8784) where
     day-number : hour / 24 + 1 ≤ 366
@@ -173,58 +169,58 @@ module _ (site : Site) (t : T (siteFine site)) where
     solar-in : InRange (neg (decimal 25274 3)) (decimal 50274 3) solar
     unfolding solarTime whole decimal neg sub div lt le
     solar-in =
-        let minutes : About (decimal 272 3) (equationOfTime (hour / 24 + 1) ⊘ whole 60) = div-about (whole 60) (equation-about (hour / 24 + 1) day-number) tt tt in
+        let minutes : Bounded (decimal 272 3) (equationOfTime (hour / 24 + 1) ⊘ whole 60) = div-bounded (whole 60) (equation-bounded (hour / 24 + 1) day-number) tt tt in
         let local : InRange (decimal 727 3) (decimal 24272 3) (whole (hour % 24 + 1) ⊖ equationOfTime (hour / 24 + 1) ⊘ whole 60) = sub-in hours-in (as-range minutes) tt in
-        sub-in local (as-range shift-about) tt
+        sub-in local (as-range shift-bounded) tt
 
-    pub hour-angle-about : About (whole 207) (hourAngle solar)
+    pub hour-angle-bounded : Bounded (whole 207) (hourAngle solar)
     unfolding hourAngle whole decimal neg sub mul le isNan
-    hour-angle-about =
+    hour-angle-bounded =
         let noon : InRange (decimal 125 1) (decimal 125 1) (decimal 125 1) = own-range (record { holds = tt }) in
         let away : InRange (neg (decimal 37775 3)) (decimal 37775 3) (decimal 125 1 ⊖ solar) = sub-in noon solar-in tt in
-        let away-about : About (decimal 37775 3) (decimal 125 1 ⊖ solar) = record { from = away .from; to = away .to } in
-        let angle : About (decimal 5667 1) (whole 15 ⊗ (decimal 125 1 ⊖ solar)) = mul-about (constant (whole 15) (whole 15) tt) away-about tt in
-        wrapped-about angle
+        let away-bounded : Bounded (decimal 37775 3) (decimal 125 1 ⊖ solar) = record { from = away .from; to = away .to } in
+        let angle : Bounded (decimal 5667 1) (whole 15 ⊗ (decimal 125 1 ⊖ solar)) = mul-bounded (constant (whole 15) (whole 15) tt) away-bounded tt in
+        wrapped-bounded angle
 
     -- ---- the hour's sines and cosines
 
     pub latitude-unit : UnitRange (sinCosOf (site .latitude))
     unfolding whole neg le
-    latitude-unit = let wide : About (whole 1000) (site .latitude) = more-about latitude-range tt in unit-range wide
+    latitude-unit = let wide : Bounded (whole 1000) (site .latitude) = more-bounded latitude-range tt in unit-range wide
 
     pub declination-unit : UnitRange (sinCosOf (dayOf (hour / 24 + 1) .declination))
     unfolding dayOf whole neg le
-    declination-unit = let wide : About (whole 1000) (solarDeclination (orbitDeviation (hour / 24 + 1))) = more-about (declination-about (hour / 24 + 1) day-number) tt in unit-range wide
+    declination-unit = let wide : Bounded (whole 1000) (solarDeclination (orbitDeviation (hour / 24 + 1))) = more-bounded (declination-bounded (hour / 24 + 1) day-number) tt in unit-range wide
 
     pub hour-angle-unit : UnitRange (sinCosOf (hourAngle solar))
     unfolding whole neg le
-    hour-angle-unit = let wide : About (whole 1000) (hourAngle solar) = more-about hour-angle-about tt in unit-range wide
+    hour-angle-unit = let wide : Bounded (whole 1000) (hourAngle solar) = more-bounded hour-angle-bounded tt in unit-range wide
 
     -- ---- the altitude
 
-    altitude-sine-about : About (whole 2) (altitudeSine (sinCosOf (site .latitude)) (sinCosOf (dayOf (hour / 24 + 1) .declination)) (cosine (toRadians (hourAngle solar))))
+    altitude-sine-bounded : Bounded (whole 2) (altitudeSine (sinCosOf (site .latitude)) (sinCosOf (dayOf (hour / 24 + 1) .declination)) (cosine (toRadians (hourAngle solar))))
     unfolding altitudeSine
-    altitude-sine-about = sum-of-products (declination-unit .sin) (latitude-unit .sin) (declination-unit .cos) (latitude-unit .cos) (unfold sinCosOf in hour-angle-unit .cos)
+    altitude-sine-bounded = sum-of-products (declination-unit .sin) (latitude-unit .sin) (declination-unit .cos) (latitude-unit .cos) (unfold sinCosOf in hour-angle-unit .cos)
 
     supplement-unit : UnitRange (sinCosOf (whole 180 ⊖ hourAngle solar))
     unfolding whole neg sub le
     supplement-unit =
-        let wide : About (whole 1000) (whole 180 ⊖ hourAngle solar) = sub-about (constant (whole 180) (whole 180) tt) hour-angle-about tt in
+        let wide : Bounded (whole 1000) (whole 180 ⊖ hourAngle solar) = sub-bounded (constant (whole 180) (whole 180) tt) hour-angle-bounded tt in
         unit-range wide
 
     pub sun-range : SunRange (hourOf site hour)
     unfolding hourOf dayOf solarAltitude solarAzimuth
     sun-range =
-        let known = cut-altitude (degrees-about (arcsine-range (about-number altitude-sine-about))) in
+        let known = cut-altitude (degrees-bounded (arcsine-range (bounded-number altitude-sine-bounded))) in
         let altitude = altitude-in known in
         let zenith = zenith-range altitude in
         record {
           altitude = altitude;
-          azimuth = azimuth-about (sinCosOf (site .latitude)) declination-unit supplement-unit altitude;
+          azimuth = azimuth-bounded (sinCosOf (site .latitude)) declination-unit supplement-unit altitude;
           zenith = zenith;
           hour-angle = hour-angle-unit;
           sin-altitude = sine-up altitude;
           sin-above = sine-above known;
-          cos-zenith = cos-zenith-about zenith;
+          cos-zenith = cos-zenith-bounded zenith;
           air-mass = air-mass-in altitude;
         }
