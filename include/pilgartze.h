@@ -20,7 +20,7 @@
  * It keeps no state, takes no memory from the heap and at most PILGARTZE_STACK_BYTES of the stack, and calls nothing of
  * the C library but memcpy and memset, not even its mathematics.
  * So any number of threads may call at once, also with the same series, sectors and window, as long as each has results
- * of its own.
+ * and a table of days of its own.
  *
  * Also proved: two jobs compared. A job is one call of the run; a shade extent is the height or width of shade that is
  * worked out for one object. Take two accepted jobs with
@@ -36,9 +36,11 @@
  *
  * What the library asks, as any C function does:
  * - A list's pointer and length name memory that is there, and no other thread writes to it during the call.
- * - The results overlap no other list. (The lists that are only read may overlap each other.)
+ * - The results and the table of days overlap no other list, nor each other. (The lists that are only read may overlap
+ *   each other.)
  * - An empty list of a raw call has length 0 and any pointer but NULL. The inline functions see to that: there a list
- *   with count 0 may be NULL. Pointers to structs (site, run, surface, weather, reading, shading, row) may not be NULL.
+ *   with count 0 may be NULL. Pointers to structs (site, run, surface, weather, reading, shading, table of days, row)
+ *   may not be NULL.
  * - The floating-point unit is in its usual mode: it rounds to nearest, flushes no subnormals to zero (a program built
  *   with -ffast-math may do so) and stops the program at no exception (feenableexcept).
  *
@@ -99,9 +101,9 @@ extern "C" {
 
 /* The version of this header. The first part changes where a call or a record does, the second where something is
  * added, the third otherwise. */
-#define PILGARTZE_VERSION_MAJOR 1
+#define PILGARTZE_VERSION_MAJOR 2
 #define PILGARTZE_VERSION_MINOR 0
-#define PILGARTZE_VERSION_PATCH 1
+#define PILGARTZE_VERSION_PATCH 0
 #define PILGARTZE_VERSION \
     (PILGARTZE_VERSION_MAJOR * 1000000 + PILGARTZE_VERSION_MINOR * 1000 + PILGARTZE_VERSION_PATCH)
 
@@ -143,8 +145,8 @@ enum pilgartze_refusal {
     /* reading: a value of a series that a step needs is out of range.
      * -> Look for NaN, for values below 0 (also tiny ones) and for a reflectivity above 1. */
     PILGARTZE_REFUSED_READING = 6,
-    /* results: the results list is too short for the steps.
-     * -> Lend a row for each step; PILGARTZE_MOST_STEPS rows are always enough. */
+    /* results: the results list is too short for the steps, or the table of days is too short, also for no steps.
+     * -> Lend a row for each step; PILGARTZE_MOST_STEPS rows are always enough. Lend a pilgartze_day_table. */
     PILGARTZE_REFUSED_RESULTS = 7,
     /* gap: a sector does not start where the one before it ends. 8 to 10 come only where the sun is inside the beam,
      * and go by the sectors in their order, up to the one with the sun: at each gap, then turned, then whether the sun
@@ -300,6 +302,24 @@ typedef struct pilgartze_row {
                         shade extent is NaN; none is known to be; that is measured, not proved */
 } pilgartze_row;
 
+/* What depends on the day alone. */
+typedef struct pilgartze_day_values {
+    double declination;                 /* the sun's, degrees: within 28 of 0 */
+    double equation_of_time;            /* minutes: within 16.3 of 0 */
+    double extra_terrestrial_radiation; /* W/m2: 1300..1420 */
+} pilgartze_day_values;
+
+/* How many days the table of a run has, in either year, and its length in bytes. */
+#define PILGARTZE_DAYS 366
+#define PILGARTZE_DAYS_LENGTH 8784
+
+/* The table of days: a run works each day out once, into this, and its hours read it. days[0] is 1 January; in a common
+ * year days[364] is 31 December and days[365] is one day more, which is filled too. Filled before the first step, in
+ * every run that is not refused 1 to 7, also in one with no steps or refused later. */
+typedef struct pilgartze_day_table {
+    pilgartze_day_values days[PILGARTZE_DAYS];
+} pilgartze_day_table;
+
 /* The irradiance on the unshaded surface and what it is added up of, in W/m2. Direct includes circumsolar; diffuse is
  * sky, horizontal and ground together. */
 typedef struct pilgartze_breakdown {
@@ -328,12 +348,14 @@ typedef struct pilgartze_factor_answer {
 } pilgartze_factor_answer;
 
 /* The structs are the library's records, byte for byte. */
-#define PILGARTZE_SIZE(type, size) typedef char type##_has_##size##_bytes[sizeof(type) == (size) ? 1 : -1]
+#define PILGARTZE_SIZE(type, size) typedef char type##_has_its_size[sizeof(type) == (size) ? 1 : -1]
 PILGARTZE_SIZE(double, 8);
 PILGARTZE_SIZE(pilgartze_object, 24);
 PILGARTZE_SIZE(pilgartze_sector, 216);
 PILGARTZE_SIZE(pilgartze_window_object, 32);
 PILGARTZE_SIZE(pilgartze_row, 48);
+PILGARTZE_SIZE(pilgartze_day_values, 24);
+PILGARTZE_SIZE(pilgartze_day_table, PILGARTZE_DAYS_LENGTH);
 PILGARTZE_SIZE(pilgartze_breakdown, 72);
 PILGARTZE_SIZE(pilgartze_answer, 32);
 PILGARTZE_SIZE(pilgartze_factor_answer, 16);
@@ -342,20 +364,23 @@ PILGARTZE_SIZE(pilgartze_factor_answer, 16);
 /* ---- The library's functions ---------------------------------------------------------------------------------- */
 
 /* Numbers in the order of the structs above, then lists, each a pointer and a length in bytes. A series is a list of
- * doubles, sectors are records of 216 bytes (struct pilgartze_sector), window objects of 32, results of 48 or 72; every
- * word is 8 bytes, least byte first. Pointers need no alignment. A part of a double at the end of a series or of
- * results counts for nothing. */
+ * doubles, sectors are records of 216 bytes (struct pilgartze_sector), window objects of 32, days of 24, results of 48
+ * or 72; every word is 8 bytes, least byte first. Pointers need no alignment. A part of a double at the end of a series
+ * or of results counts for nothing. */
 
 /* A run over all steps. Accepted: one row of 48 bytes for each step, in order; bytes past the last row are untouched.
  * Refused 1 to 7: nothing is stored. Refused 8 to 11 at a step: the rows of the steps before it are stored, all other
- * bytes are untouched. */
+ * bytes of the results are untouched.
+ * Days is room for the table of days, PILGARTZE_DAYS_LENGTH bytes or more; where it is shorter the run is refused 7, as
+ * for short results. Where the run is not refused 1 to 7 all of the table is stored, before the first step; bytes past
+ * it are untouched. What was in it before does not matter. */
 pilgartze_answer pilgartze_run(
     double latitude, double longitude, int64_t timezone, uint64_t start_day, double series_step, uint64_t leap_year,
     uint64_t direct_beam_conversion, double start, double end, double step, double tilt, double orientation,
     double base_height, double height, double width, const uint8_t *diffuse, size_t diffuse_length,
     const uint8_t *direct, size_t direct_length, const uint8_t *reflectivity, size_t reflectivity_length,
-    const uint8_t *sectors, size_t sectors_length, const uint8_t *window, size_t window_length, uint8_t *results,
-    size_t results_length);
+    const uint8_t *sectors, size_t sectors_length, const uint8_t *window, size_t window_length, uint8_t *days,
+    size_t days_length, uint8_t *results, size_t results_length);
 
 /* One step: the row that a run has at that time, with these values of the series. Time is 0..8784 with its hour in the
  * year, else it is refused 2. Gives the number: 0, or 1, 2, 3, 4, 6, 7, 8 to 11, tried in this order. Accepted: 48
@@ -487,11 +512,11 @@ static inline size_t pilgartze_length(size_t count, size_t size)
 }
 
 /* pilgartze_run with structs. The rows are room for row_count results. For series of different lengths call
- * pilgartze_run itself. */
+ * pilgartze_run itself. (Version 1 had no days: declare a pilgartze_day_table and pass its address before the rows.) */
 static inline pilgartze_answer pilgartze_run_job(const pilgartze_site *site, const pilgartze_run_times *run,
                                                  const pilgartze_surface *surface, const pilgartze_weather *weather,
-                                                 const pilgartze_shading *shading, pilgartze_row *rows,
-                                                 size_t row_count)
+                                                 const pilgartze_shading *shading, pilgartze_day_table *days,
+                                                 pilgartze_row *rows, size_t row_count)
 {
     uint8_t nothing = 0;
     const size_t series_length = pilgartze_length(weather->count, sizeof(double));
@@ -506,7 +531,8 @@ static inline pilgartze_answer pilgartze_run_job(const pilgartze_site *site, con
         pilgartze_length(shading->sector_count, sizeof(pilgartze_sector)),
         pilgartze_bytes(shading->window, shading->window_count, &nothing),
         pilgartze_length(shading->window_count, sizeof(pilgartze_window_object)),
-        row_count == 0 ? &nothing : (uint8_t *)rows, pilgartze_length(row_count, sizeof(pilgartze_row)));
+        (uint8_t *)days, sizeof *days, row_count == 0 ? &nothing : (uint8_t *)rows,
+        pilgartze_length(row_count, sizeof(pilgartze_row)));
 }
 
 /* pilgartze_step with structs. The row is written where the answer is 0, and untouched otherwise. */
