@@ -3,6 +3,8 @@ ghost use mathlib.Core.Path.{_≡_};
 ghost use Prim.Native.Nat.{_+_, _≤_};
 ghost use Rattle.days.specs.Day.{orbitDeviation, solarDeclination, daysFrom, equationOfTime, extraTerrestrialRadiation, dayOf};
 
+pub mod table;
+
 // How far the earth has gone on its orbit, in degrees.
 pub fn init_earth_orbit_deviation(current_day: u32) -> f64
     ensures { λ r. ⌜ r ≡ orbitDeviation («current_day» + 1) ⌝ }

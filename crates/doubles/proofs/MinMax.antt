@@ -2,8 +2,7 @@
 use mathlib.Core.Path.{_≡_, refl}
 use mathlib.Core.Bool.{Bool, true, false, not, cond}
 use lib.Dec.{T}
-use lib.Ieee.{Float, binary64, lt, isNan}
-use lib.Ieee.Fits.{cond-fits}
+use lib.Ieee.{Float, lt, isNan}
 use Rattle.doubles.specs.Functions.{minOf2, maxOf2, floatMin, floatMax}
 use Rattle.doubles.specs.Order.{_≼_, Number, Fits}
 use Rattle.doubles.proofs.Order.{le-trans, left-number, right-number}
@@ -52,10 +51,11 @@ float-max-is {x} {y} m n = go (isNan x) (isNan y) (m .holds) (n .holds)
     go false true m n = absurd n
     go false false m n = refl
 
+-- a choice of two doubles is one
+pub either-fits : (b : Bool) {x y : Float} → Fits x → Fits y → Fits (cond b x y)
+either-fits true f g = f
+either-fits false f g = g
+
 pub float-min-fits : {x y : Float} → Fits x → Fits y → Fits (floatMin x y)
 unfolding floatMin minOf2
-float-min-fits {x} {y} f g = record {
-  holds =
-      cond-fits binary64 (isNan x) y (cond (isNan y) x (cond (lt x y) x y)) (g .holds)
-      (cond-fits binary64 (isNan y) x (cond (lt x y) x y) (f .holds) (cond-fits binary64 (lt x y) x y (f .holds) (g .holds)));
-}
+float-min-fits {x} {y} f g = either-fits (isNan x) g (either-fits (isNan y) f (either-fits (lt x y) f g))

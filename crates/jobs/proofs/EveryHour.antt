@@ -1,5 +1,5 @@
 -- Every hour has numbers: the claims of specs/Numbers.antt, proved, and that they hold at every step of an accepted job. Assumes nothing.
-use mathlib.Core.List.{List}
+use mathlib.Core.Bool.{Bool}
 use Prim.Native.Nat.{ℕ, _+_, _/_, _<_}
 use native.Mathlib.Omega.{arith}
 use lib.Dec.{T, eqb}
@@ -87,7 +87,7 @@ every-reading site surface t s time h reading f =
 
 -- ---- the steps of an accepted job
 
-module _ {job : Job} {results : List ℕ} (p : Passed job results) (i : ℕ) (h : i < stepCount (job .run)) where
+module _ {job : Job} {room : Bool} (p : Passed job room) (i : ℕ) (h : i < stepCount (job .run)) where
   pub step-angles : AnglesInRange (job .site) (job .surface) (currentHour (timeAt (job .run) i))
   step-angles = every-hour (job .site) (job .surface) (p .site-fine) (p .surface-fine) (currentHour (timeAt (job .run) i)) (hour-below p i h)
 

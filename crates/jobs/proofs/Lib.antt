@@ -1,6 +1,6 @@
 -- `TwoJobs` has the claim on two jobs compared. `RunLaws` says what a run leaves, `RowStores` how a row is read back, `StepRows` what a
 -- step's row has, `PassedChecks` what an accepted job has, `ObjectLists` what the words of two jobs' lists say of their records, `Sums`
--- that sums keep the order. `EveryHour` has the claim that every hour has numbers.
+-- that sums keep the order. `EveryHour` has the claim that every hour has numbers, `WithTableLaws` the one on days worked out once.
 pub mod RowStores
 pub mod StepRows
 pub mod PassedChecks
@@ -8,4 +8,5 @@ pub mod RunLaws
 pub mod Sums
 pub mod ObjectLists
 pub mod EveryHour
+pub mod WithTableLaws
 pub mod TwoJobs

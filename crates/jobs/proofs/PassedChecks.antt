@@ -2,7 +2,7 @@
 use mathlib.Core.Path.{_≡_, sym, ap, subst}
 use mathlib.Core.Bool.{Bool, true, false, cond, _&&_}
 use mathlib.Core.List.{List, [], _∷_}
-use Prim.Native.Nat.{ℕ, zero, suc, _*_, _≤_, _<_}
+use Prim.Native.Nat.{ℕ, zero, suc, _*_, _/_, _≤_, _<_}
 use native.Mathlib.Omega.{arith}
 use borrow.Author.Tests.{leb-true}
 use lib.Dec.{T, eqb, ltb→lt}
@@ -15,6 +15,7 @@ use Rattle.doubles.specs.Order.{InRange}
 use Rattle.doubles.specs.Ranges.{within}
 use Rattle.doubles.proofs.Ranges.{both-of, within-range}
 use Rattle.words.specs.Words.{wordCount}
+use Rattle.sun.specs.declared.site.Site.{Site}
 use Rattle.sun.specs.Site.{siteFine, hoursInYear}
 use Rattle.simulation_time.specs.Steps.{runFine, stepCount, timeAt, times, atAll}
 use Rattle.simulation_time.specs.Timestep.{currentHour}
@@ -56,18 +57,18 @@ unfolding tried
 passed-test true r next n e = (tt, e)
 passed-test false r next n e = not-passed e
 
-pub record Passed (job : Job) (results : List ℕ) : Type 0 where
+pub record Passed (job : Job) (room : Bool) : Type 0 where
   pub site-fine : T (siteFine (job .site))
   pub run-fine : T (runAccepted (hoursInYear (job .site)) (job .run))
   pub surface-fine : T (surfaceFine (job .surface))
   pub sectors-fine : T (sectorsFine (job .sectors))
   pub window-fine : T (windowFine (job .window))
   pub readings-fine : T (atAll (λ (time : Float). readingFine (readingAt job time)) (times (job .run)))
-  pub results-fine : T (resultsFine (job .run) results)
+  pub room-fine : T room
 
-pub passed : (job : Job) (results : List ℕ) (n : ℕ) → checked job results ≡ Steps n → Passed job results × (n ≡ stepCount (job .run))
+pub passed : (job : Job) (room : Bool) (n : ℕ) → checked job room ≡ Steps n → Passed job room × (n ≡ stepCount (job .run))
 unfolding checked stepsIn indicesFine readingsFine readingAt indexAt
-passed job results n e =
+passed job room n e =
     let p1 = passed-test (siteFine (job .site)) refusal.Site _ n e in
     let p2 = passed-test (runAccepted (hoursInYear (job .site)) (job .run)) refusal.Run _ n (p1 .1) in
     let p3 = passed-test (surfaceFine (job .surface)) refusal.Surface _ n (p2 .1) in
@@ -76,7 +77,7 @@ passed job results n e =
     let indices = indicesFine (site .«start_day») (site .«time_series_step») (job .diffuse) (job .direct) (job .reflectivity) (times (job .run)) in
     let p5 = passed-test indices refusal.Series _ n (p4 .1) in
     let p6 = passed-test (atAll (λ (time : Float). readingFine (readingAt job time)) (times (job .run))) refusal.Reading _ n (p5 .1) in
-    let p7 = passed-test (resultsFine (job .run) results) refusal.Results _ n (p6 .1) in (
+    let p7 = passed-test room refusal.Results _ n (p6 .1) in (
       record {
         site-fine = p1 .0;
         run-fine = p2 .0;
@@ -84,7 +85,7 @@ passed job results n e =
         sectors-fine = and-l (sectorsFine (job .sectors)) (windowFine (job .window)) (p4 .0);
         window-fine = and-r (sectorsFine (job .sectors)) (windowFine (job .window)) (p4 .0);
         readings-fine = p6 .0;
-        results-fine = p7 .0;
+        room-fine = p7 .0;
       },
       sym (ap stepsIn (p7 .1)),
     )
@@ -118,33 +119,49 @@ accepted-reading r t =
       reflectivity = within-range (whole 0) (whole 1) (r .reflectivity) (p .1);
     }
 
-module _ {job : Job} {results : List ℕ} (p : Passed job results) where
-  -- there is room for every row
-  pub room : 6 * stepCount (job .run) ≤ wordCount results
-  unfolding resultsFine
-  room = leb-true (6 * stepCount (job .run)) (wordCount results) (is-true _ (p .results-fine))
+-- there is room for every row
+pub rows-fit : {job : Job} (results : List ℕ) → Passed job (resultsFine (job .run) results) → 6 * stepCount (job .run) ≤ wordCount results
+unfolding resultsFine
+rows-fit {job} results p = leb-true (6 * stepCount (job .run)) (wordCount results) (is-true _ (p .room-fine))
 
+pub year-length : (site : Site) → hoursInYear site ≤ 8784
+unfolding hoursInYear
+year-length site = go (eqb (site .«leap_year») 1)
+  where
+    go : (b : Bool) → cond b 8784 8760 ≤ 8784
+    go true = omega arith
+    go false = omega arith
+
+module _ {job : Job} {room : Bool} (p : Passed job room) where
   pub reading-fine : (i : ℕ) → i < stepCount (job .run) → T (readingFine (readingAt job (timeAt (job .run) i)))
   reading-fine i h =
       subst (λ (time : Float). T (readingFine (readingAt job time))) (times-at (job .run) i (whole 0) h)
       (all-pass (λ (time : Float). readingFine (readingAt job time)) (times (job .run)) i (whole 0) (p .readings-fine) (rw times-length h))
 
-  -- every step's hour is one of a leap year's
-  pub hour-below : (i : ℕ) → i < stepCount (job .run) → currentHour (timeAt (job .run) i) < 8784
+  -- every step's hour is one of the year's
+  pub hour-in-year : (i : ℕ) → i < stepCount (job .run) → currentHour (timeAt (job .run) i) < hoursInYear (job .site)
   unfolding runAccepted hoursFine hourFine
-  hour-below i h =
+  hour-in-year i h =
       let hours = hoursInYear (job .site) in
       let fine : T (atAll (hourFine hours) (times (job .run))) = and-r (runFine (job .run)) (hoursFine hours (job .run)) (p .run-fine) in
       let at : T (hourFine hours (timeAt (job .run) i)) =
       subst (λ (time : Float). T (hourFine hours time)) (times-at (job .run) i (whole 0) h) (all-pass (hourFine hours) (times (job .run)) i (whole 0) fine (rw times-length h)) in
-      omega (arith, ltb→lt (currentHour (timeAt (job .run) i)) hours at, longest)
+      ltb→lt (currentHour (timeAt (job .run) i)) hours at
+
+  -- and its day one of the year's days
+  pub day-in-year : (i : ℕ) → i < stepCount (job .run) → currentHour (timeAt (job .run) i) / 24 < hoursInYear (job .site) / 24
+  day-in-year i h = whole-days (currentHour (timeAt (job .run) i)) (hour-in-year i h)
     where
-      longest : hoursInYear (job .site) ≤ 8784
-      longest = unfold hoursInYear in (go (eqb (job .site .«leap_year») 1))
+      whole-days : (hour : ℕ) → hour < hoursInYear (job .site) → hour / 24 < hoursInYear (job .site) / 24
+      whole-days hour = unfold hoursInYear in (go (eqb (job .site .«leap_year») 1))
         where
-          go : (b : Bool) → cond b 8784 8760 ≤ 8784
-          go true = omega arith
-          go false = omega arith
+          go : (b : Bool) → hour < cond b 8784 8760 → hour / 24 < cond b 8784 8760 / 24
+          go true l = omega (arith, l)
+          go false l = omega (arith, l)
+
+  -- every step's hour is one of a leap year's
+  pub hour-below : (i : ℕ) → i < stepCount (job .run) → currentHour (timeAt (job .run) i) < 8784
+  hour-below i h = omega (arith, hour-in-year i h, year-length (job .site))
 
   -- the surface's lengths are in their ranges
   pub surface-accepted : Doubles (job .surface) → AcceptedSurface (job .surface)

@@ -1,13 +1,14 @@
 -- What a step's row has: its six doubles are those of the sun, the irradiance and the factor, and all are doubles of binary64.
 -- Assumes nothing.
 use mathlib.Core.Path.{_≡_, refl, sym, ap, _∙_, subst}
-use mathlib.Core.Bool.{Bool, true, false, cond, _&&_}
+use mathlib.Core.Bool.{Bool, true, false, _&&_}
 use lib.Dec.{T}
 use lib.Ieee.{Float, binary64, lt, le, fits}
 use lib.Ieee.Fits.{neg-fits, add-fits, sub-fits, mul-fits}
 use Rattle.doubles.specs.Arithmetic.{_⊕_, _⊘_, whole}
 use Rattle.doubles.specs.Functions.{toDegrees, pi}
 use Rattle.doubles.specs.Order.{Fits}
+use Rattle.doubles.proofs.MinMax.{either-fits}
 use Rattle.angles.specs.declared.SinCos.{SinCos}
 use Rattle.sun.specs.declared.site.Site.{Site}
 use Rattle.sun.specs.declared.hour.Hour.{Hour}
@@ -84,10 +85,6 @@ step-row job time row e = go (shadingAt (job .surface) (sunAt (job .site) time) 
     }
 
 -- ---- all six are doubles
-
-either-fits : (b : Bool) {x y : Float} → Fits x → Fits y → Fits (cond b x y)
-either-fits true f g = f
-either-fits false f g = g
 
 zero-fits : Fits (whole 0)
 unfolding whole fits

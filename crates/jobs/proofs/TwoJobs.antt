@@ -24,10 +24,11 @@ use Rattle.weather.specs.Weather.{readSeries}
 use Rattle.jobs.specs.Job.{Job, indexAt, readingAt}
 use Rattle.jobs.specs.Step.{sunAt, irradianceAt, shadingAt}
 use Rattle.jobs.specs.Run.{Ran, withRow, countFor, sumFor}
-use Rattle.jobs.specs.Comparison.{factorAt, directAt, countOf, sumOf, unshadedSum, SameSeries, Alike, BoundedAlike, HoldsAll, SameObjects, NoObjects, NoNan, Doubles, Lawful, NoLarger, Compared, TwoJobsCompared}
+use Rattle.jobs.specs.Comparison.{factorAt, directAt, countOf, sumOf, unshadedSum, IsAccepted, SameSeries, Alike, BoundedAlike, HoldsAll, SameObjects, NoObjects, NoNan, Doubles, Lawful, NoLarger, Compared, TwoJobsCompared}
 use Rattle.jobs.proofs.StepRows.{StepRow, step-row, row-fits}
 use Rattle.jobs.proofs.PassedChecks.{surface-accepted, near-accepted}
 use Rattle.jobs.proofs.EveryHour.{step-irradiance}
+use Rattle.jobs.proofs.WithTableLaws.{accepted-without}
 use Rattle.jobs.proofs.RunLaws.{rowAt, sumTo, done, AcceptedRun, accepted-run, done-rows}
 use Rattle.doubles.proofs.Exact.{one-times}
 use Rattle.jobs.proofs.Sums.{total, total-same, total-nonneg, total-mono, Part, Amount, part-nonneg, part-mono, part-le}
@@ -263,7 +264,9 @@ module _ {j k : Job} {r s : List ℕ} (l : Alike j k) (a : AcceptedRun j r) (b :
 
 pub two-jobs-compared : TwoJobsCompared
 two-jobs-compared j k r s c =
-    let a = accepted-run j r (c .first-accepted) in
-    let b = accepted-run k s (c .second-accepted) in
-    subst₂ (Compared j k) (sym (a .comes-to)) (sym (b .comes-to))
+    let p = accepted-without j r (c .first-accepted) in
+    let q = accepted-without k s (c .second-accepted) in
+    let a = accepted-run j (r .results) (subst IsAccepted p (c .first-accepted)) in
+    let b = accepted-run k (s .results) (subst IsAccepted q (c .second-accepted)) in
+    subst₂ (Compared j k) (sym (p ∙ a .comes-to)) (sym (q ∙ b .comes-to))
     (compared (c .alike) a b (c .doubles) (c .first-extents) (c .second-extents) (c .bounded))

@@ -13,7 +13,7 @@ use Rattle.objects.specs.Records.{recordsFrom, sectorCount, sectorsOf, windowCo
 use Rattle.shading_laws.specs.Premises.{Holds, NoNanAt}
 use Rattle.jobs.specs.Job.{Job}
 use Rattle.jobs.specs.Step.{sunAt}
-use Rattle.jobs.specs.Run.{Ran, runOf, numberFor, countFor, sumFor}
+use Rattle.jobs.specs.Run.{Ran, Lent, runOf, numberFor, countFor, sumFor}
 
 -- ---- what a run leaves
 
@@ -134,16 +134,16 @@ pub record Compared (j k : Job) (a b : Ran) : Type 0 where
   pub second-more : HoldsAll k j → NoLarger b a
   pub first-more : HoldsAll j k → NoLarger a b
 
--- two jobs that may be compared, whatever results lists were lent
-pub record Comparable (j k : Job) (r s : List ℕ) : Type 0 where
+-- two jobs that may be compared, whatever lists were lent
+pub record Comparable (j k : Job) (r s : Lent) : Type 0 where
   pub alike : Alike j k
   pub bounded : BoundedAlike (j .sectors) (k .sectors)
-  pub first-accepted : IsAccepted (runOf j r)
-  pub second-accepted : IsAccepted (runOf k s)
+  pub first-accepted : IsAccepted (runOf j r .ran)
+  pub second-accepted : IsAccepted (runOf k s .ran)
   pub first-extents : NoNan j
   pub second-extents : NoNan k
   -- ensured by `pilgartze_run`
   pub doubles : Doubles (j .surface)
 
 abbrev pub TwoJobsCompared : Type 0
-TwoJobsCompared = (j k : Job) (r s : List ℕ) → Comparable j k r s → Compared j k (runOf j r) (runOf k s)
+TwoJobsCompared = (j k : Job) (r s : Lent) → Comparable j k r s → Compared j k (runOf j r .ran) (runOf k s .ran)

@@ -3,6 +3,7 @@ use mathlib.Core.Bool.{Bool, cond, _&&_}
 use mathlib.Core.List.{List}
 use Prim.Native.Nat.{ℕ, _*_}
 use lib.Dec.{leb}
+use lib.ListN.{length}
 use lib.Ieee.{Float}
 use Rattle.words.specs.Words.{wordCount}
 use Rattle.weather.specs.Weather.{inSeries, readSeries, readingFine}
@@ -34,27 +35,32 @@ unfoldable pub readingsFine : ℕ → Float → List ℕ → List ℕ → List �
 readingsFine day step diffuse direct reflectivity =
     atAll (λ (time : Float). readingFine (readSeries diffuse direct reflectivity (seriesIndex time day step)))
 
--- six whole words for each step; a part word counts for nothing
+-- room for the table of days, also where there are no steps
+unfoldable pub daysFine : List ℕ → Bool
+daysFine days = leb 8784 (length days)
+
+-- room for the rows: six whole words for each step; a part word counts for nothing
 unfoldable pub resultsFine : Run → List ℕ → Bool
 resultsFine run results = leb (6 * stepCount run) (wordCount results)
 
-unfoldable pub seriesChecked : ℕ → Float → Run → List ℕ → List ℕ → List ℕ → List ℕ → Checked
+-- `room` says whether the lists that are lent have it
+unfoldable pub seriesChecked : ℕ → Float → Run → List ℕ → List ℕ → List ℕ → Bool → Checked
 unfolding tried
-seriesChecked day step run diffuse direct reflectivity results =
+seriesChecked day step run diffuse direct reflectivity room =
     tried Refused (indicesFine day step diffuse direct reflectivity (times run)) refusal.Series
     (tried Refused (readingsFine day step diffuse direct reflectivity (times run)) refusal.Reading
-    (tried Refused (resultsFine run results) refusal.Results
+    (tried Refused room refusal.Results
     (Steps (stepCount run))))
 
 -- ---- all seven
 
 -- the number of steps, or the first refusal
-unfoldable pub checked : Job → List ℕ → Checked
+unfoldable pub checked : Job → Bool → Checked
 unfolding tried seriesChecked
-checked job results =
+checked job room =
     let site = job .site in
     tried Refused (siteFine site) refusal.Site
     (tried Refused (runAccepted (hoursInYear site) (job .run)) refusal.Run
     (tried Refused (surfaceFine (job .surface)) refusal.Surface
     (tried Refused (sectorsFine (job .sectors) && windowFine (job .window)) refusal.Object
-    (seriesChecked (site .«start_day») (site .«time_series_step») (job .run) (job .diffuse) (job .direct) (job .reflectivity) results))))
+    (seriesChecked (site .«start_day») (site .«time_series_step») (job .run) (job .diffuse) (job .direct) (job .reflectivity) room))))

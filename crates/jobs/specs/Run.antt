@@ -1,9 +1,12 @@
 -- The run: the checks, then step by step.
+use mathlib.Core.Bool.{Bool, _&&_}
 use mathlib.Core.List.{List}
 use Prim.Native.Nat.{ℕ, zero, suc, _+_, _*_}
 use lib.Ieee.{Float}
 use Rattle.doubles.specs.Arithmetic.{_⊕_, _⊗_, whole}
 use Rattle.words.specs.Words.{putDouble}
+use Rattle.days.specs.Table.{withDayTable}
+use Rattle.simulation_time.specs.declared.run.Run.{Run}
 use Rattle.objects.specs.Refusals.{numberOf}
 use Rattle.jobs.specs.declared.answers.Row.{Row}
 use Rattle.jobs.specs.declared.answers.StepAnswer.{StepAnswer}
@@ -13,7 +16,7 @@ use Rattle.jobs.specs.declared.answers.Checked.the-variants as check
 use Rattle.jobs.specs.declared.answers.RunAnswer.{RunAnswer}
 use Rattle.jobs.specs.declared.answers.RunAnswer.the-variants.{Accepted, Refused}
 use Rattle.jobs.specs.Job.{Job}
-use Rattle.jobs.specs.JobChecks.{checked}
+use Rattle.jobs.specs.JobChecks.{daysFine, resultsFine, checked}
 use Rattle.jobs.specs.Step.{stepAt}
 
 -- ---- the answer in the specification's numbers
@@ -38,7 +41,7 @@ sumFor (Refused refusal step) = whole 0
 
 -- ---- the run
 
--- what a run comes to: its answer, and the results list as it leaves it
+-- what its steps come to: the answer, and the results list as they leave it
 pub record Ran : Type 0 where
   pub answer : RunAnswer
   pub results : List ℕ
@@ -77,6 +80,37 @@ unfoldable pub runChecked : Checked → Job → List ℕ → Ran
 runChecked (check.Steps n) job results = runFrom n job 0 (job .run .start) (whole 0) results
 runChecked (check.Refused refusal) job results = ran (Refused refusal 0) results
 
--- one call of the run, on the results list that was lent
-unfoldable pub runOf : Job → List ℕ → Ran
-runOf job results = runChecked (checked job results) job results
+-- ---- one call of the run
+
+-- the lists that it is lent to store in
+pub record Lent : Type 0 where
+  pub days : List ℕ
+  pub results : List ℕ
+
+abbrev pub lent : List ℕ → List ℕ → Lent
+lent days results = record { days = days; results = results }
+
+-- what it leaves: what the run comes to, and the list of days
+pub record Left : Type 0 where
+  pub ran : Ran
+  pub days : List ℕ
+
+abbrev pub left : RunAnswer → List ℕ → List ℕ → Left
+left answer days results = record { ran = ran answer results; days = days }
+
+unfoldable pub roomFine : Run → Lent → Bool
+roomFine run lists = daysFine (lists .days) && resultsFine run (lists .results)
+
+-- the table of days is filled where the checks have passed, before the first step
+unfoldable pub daysLeft : Checked → List ℕ → List ℕ
+daysLeft (check.Steps n) days = withDayTable days
+daysLeft (check.Refused refusal) days = days
+
+unfoldable pub runOf : Job → Lent → Left
+runOf job lists =
+    let checks = checked job (roomFine (job .run) lists) in
+    record { ran = runChecked checks job (lists .results); days = daysLeft checks (lists .days) }
+
+-- the run without a table: what `runOf` is compared with (`WithTable`)
+unfoldable pub plainRun : Job → List ℕ → Ran
+plainRun job results = runChecked (checked job (resultsFine (job .run) results)) job results

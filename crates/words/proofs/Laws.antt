@@ -12,7 +12,7 @@ use lib.ListN.{length, getD, set, length-set, length-append, List·getD-append}
 use lib.Seq.{sets, getD-set-same}
 use lib.Ieee.{Float, nan, fits, binary64, ofBits, toBits}
 use lib.Ieee.Bits.{ofBits-toBits, toBits-lt}
-use Rattle.words.specs.Words.{number, bytesOf, wordCount, wordAt, putWord, doubleAt, putDouble}
+use Rattle.words.specs.Words.{number, bytesOf, bytesOfDouble, wordCount, wordAt, putWord, doubleAt, putDouble}
 use Rattle.words.proofs.Bases.{cut-lowest}
 use Rattle.words.proofs.Stores.{getD-sets-before, length-tested, before-tested, behind-tested}
 use Rattle.words.proofs.Patterns.{nan-pattern}
@@ -139,7 +139,21 @@ module _ (l e : List ℕ) (whole : length l % 8 ≡ 0) (part : length e < 8) whe
 
 -- ---- the same for doubles
 
+pub length-double : (x : Float) → length (bytesOfDouble x) ≡ 8
+unfolding bytesOfDouble
+length-double x = length-bytesOf 8 (toBits binary64 x)
+
+-- a double goes by its own bytes alone
+pub double-same : (l m : List ℕ) (k : ℕ) → wordCount l ≡ wordCount m → (k < wordCount m → (j : ℕ) → j / 8 ≡ k → getD l j 0 ≡ getD m j 0)
+    → doubleAt l k ≡ doubleAt m k
+unfolding doubleAt
+double-same l m k e h = ap (ofBits binary64) (word-same l m k e h)
+
 module _ (l : List ℕ) (k : ℕ) (x : Float) where
+  pub put-double-in : k < wordCount l → putDouble l k x ≡ sets l (8 * k) (bytesOfDouble x)
+  unfolding putDouble bytesOfDouble
+  put-double-in h = put-word-in l k (toBits binary64 x) h
+
   pub length-putDouble : length (putDouble l k x) ≡ length l
   unfolding putDouble
   length-putDouble = length-putWord l k (toBits binary64 x)

@@ -1,7 +1,7 @@
 -- A run of stores, `sets l i vs`, leaves the places before it and behind it as they were.
 use mathlib.Core.Path.{_≡_, refl, _∙_, ap}
 use mathlib.Core.Bool.{Bool, true, false, cond}
-use mathlib.Core.List.{List, [], _∷_}
+use mathlib.Core.List.{List, [], _∷_, _++_}
 use Prim.Native.Nat.{ℕ, suc, _+_, _≤_, _<_}
 use native.Mathlib.Omega.{arith}
 use lib.ListN.{length, getD, set}
@@ -22,6 +22,13 @@ pub getD-sets-behind : (l : List ℕ) (j i : ℕ) (vs : List ℕ) → i + length
 getD-sets-behind l j i [] h = refl
 getD-sets-behind l j i (v ∷ vs) h =
     getD-sets-behind (set l i v) j (suc i) vs (omega arith) ∙ getD-set-other l i j v 0 (omega arith)
+
+-- two runs, one behind the other, are one
+pub sets-append : (l : List ℕ) (i : ℕ) (vs ws : List ℕ) → sets l i (vs ++ ws) ≡ sets (sets l i vs) (i + length vs) ws
+sets-append l i [] ws = let e : i ≡ i + 0 = omega arith in ap (λ (k : ℕ). sets l k ws) e
+sets-append l i (v ∷ vs) ws =
+    let e : suc i + length vs ≡ i + suc (length vs) = omega arith in
+    sets-append (set l i v) (suc i) vs ws ∙ ap (λ (k : ℕ). sets (sets (set l i v) (suc i) vs) k ws) e
 
 -- the same where the run is made under a test alone
 module _ (b : Bool) (l : List ℕ) (i : ℕ) (vs : List ℕ) where

@@ -17,6 +17,10 @@ unfoldable pub bytesOf : ℕ → ℕ → List ℕ
 bytesOf zero w = []
 bytesOf (suc n) w = w % 256 ∷ bytesOf n (w / 256)
 
+-- the eight bytes of a double: `nan` is 7FF8000000000000
+unfoldable pub bytesOfDouble : Float → List ℕ
+bytesOfDouble x = bytesOf 8 (toBits binary64 x)
+
 -- how many whole words l has: a part word at the end counts for nothing
 unfoldable pub wordCount : List ℕ → ℕ
 wordCount l = length l / 8

@@ -1,0 +1,180 @@
+-- The table of days: stored record by record it is the definition's, and each day is read back from it as it was worked out.
+-- Assumes nothing.
+use mathlib.Core.Path.{_≡_, refl, sym, ap, ap₂, _∙_, subst₂}
+use mathlib.Core.Bool.{Bool, cond}
+use mathlib.Core.List.{List, _++_}
+use Prim.Native.Nat.{ℕ, zero, suc, _+_, _-_, _*_, _/_, _≤_, _<_}
+use native.Mathlib.Omega.{arith}
+use lib.ListN.{length, drop, getD, length-append}
+use lib.Seq.{sets, length-sets, sets-eq}
+use lib.Dec.{ltb}
+use lib.Ieee.{binary64}
+use lib.Ieee.Fits.{nan-fits, add-fits, sub-fits, mul-fits}
+use Rattle.doubles.specs.Order.{Fits}
+use Rattle.doubles.proofs.MinMax.{either-fits}
+use Rattle.words.specs.Words.{bytesOfDouble, wordCount, doubleAt, putDouble}
+use Rattle.words.proofs.Stores.{sets-append, getD-sets-before}
+use Rattle.words.proofs.Laws.{length-double, double-same, put-double-in, length-putDouble, wordCount-putDouble, other-double, stored-double}
+use Rattle.days.specs.declared.Day.{Day}
+use Rattle.days.specs.Day.{solarDeclination, orbitDeviation, equationOfTime, extraTerrestrialRadiation, dayOf}
+use Rattle.days.specs.Table.{dayRecord, dayRecords, dayTable, withDayTable, dayAt, putDay, HoldsDays}
+
+-- ---- lengths
+
+length-record : (day : Day) → length (dayRecord day) ≡ 24
+unfolding dayRecord
+length-record day = simp (length-append, length-double)
+
+length-records : (count n : ℕ) → length (dayRecords count n) ≡ 24 * count
+unfolding dayRecords
+length-records zero n = refl
+length-records (suc count) n =
+    length-append (dayRecord (dayOf n)) (dayRecords count (n + 1)) ∙ omega (arith, length-record (dayOf n), length-records count (n + 1))
+
+pub length-table : length dayTable ≡ 8784
+unfolding dayTable
+length-table = length-records 366 1
+
+-- ---- a record stored
+
+module _ (l : List ℕ) (i : ℕ) (day : Day) where
+  pub length-putDay : length (putDay l i day) ≡ length l
+  unfolding putDay
+  length-putDay = simp length-putDouble
+
+  wordCount-putDay : wordCount (putDay l i day) ≡ wordCount l
+  unfolding putDay
+  wordCount-putDay = simp wordCount-putDouble
+
+  abbrev one : List ℕ
+  one = putDouble l (3 * i) (day .declination)
+
+  abbrev two : List ℕ
+  two = putDouble one (3 * i + 1) (day .«equation_of_time»)
+
+  -- its three doubles, one behind the other
+  put-record : 24 * i + 24 ≤ length l → putDay l i day ≡ sets l (24 * i) (dayRecord day)
+  unfolding putDay dayRecord wordCount
+  put-record h =
+      let a = bytesOfDouble (day .declination) in
+      let b = bytesOfDouble (day .«equation_of_time») in
+      let c = bytesOfDouble (day .«extra_terrestrial_radiation») in
+      let p : 24 * i ≡ 8 * (3 * i) = omega arith in
+      let q : 24 * i + length a ≡ 8 * (3 * i + 1) = omega (arith, length-double (day .declination)) in
+      let r : 24 * i + length a + length b ≡ 8 * (3 * i + 2) = omega (arith, length-double (day .declination), length-double (day .«equation_of_time»)) in
+      let joined : 24 * i + length (a ++ b) ≡ 24 * i + length a + length b = omega (arith, length-append a b) in
+      let first : one ≡ sets l (24 * i) a = put-double-in l (3 * i) (day .declination) (omega arith) ∙ ap (λ (k : ℕ). sets l k a) (sym p) in
+      let second : two ≡ sets one (24 * i + length a) b =
+      put-double-in one (3 * i + 1) (day .«equation_of_time») (omega (arith, length-putDouble l (3 * i) (day .declination))) ∙ ap (λ (k : ℕ). sets one k b) (sym q) in
+      let third : putDouble two (3 * i + 2) (day .«extra_terrestrial_radiation») ≡ sets two (24 * i + length a + length b) c =
+      put-double-in two (3 * i + 2) (day .«extra_terrestrial_radiation»)
+      (omega (arith, length-putDouble l (3 * i) (day .declination), length-putDouble one (3 * i + 1) (day .«equation_of_time»)))
+      ∙ ap (λ (k : ℕ). sets two k c) (sym r) in
+      third
+      ∙ ap (λ (m : List ℕ). sets m (24 * i + length a + length b) c) (second ∙ ap (λ (m : List ℕ). sets m (24 * i + length a) b) first)
+      ∙ sym (sets-append l (24 * i) (a ++ b) c ∙ ap₂ (λ (m : List ℕ) (k : ℕ). sets m k c) (sets-append l (24 * i) a b) (joined))
+
+-- ---- the records stored one by one
+
+-- the first of so many records, then the rest
+first-record : (count n p : ℕ) (l : List ℕ) → 24 * p + 24 ≤ length l
+    → sets l (24 * p) (dayRecords (suc count) n) ≡ sets (putDay l p (dayOf n)) (24 * (p + 1)) (dayRecords count (n + 1))
+unfolding dayRecords
+first-record count n p l h =
+    let rest : List ℕ = dayRecords count (n + 1) in
+    let k : 24 * p + length (dayRecord (dayOf n)) ≡ 24 * (p + 1) = omega (arith, length-record (dayOf n)) in
+    sets-append l (24 * p) (dayRecord (dayOf n)) rest ∙ ap₂ (λ (m : List ℕ) (a : ℕ). sets m a rest) (sym (put-record l p (dayOf n) h)) k
+
+-- in a loop: from the i-th on, what is left of the table
+module _ (l : List ℕ) (i : ℕ) where
+  pub record-next : i < 366 → 8784 ≤ length l
+      → sets (putDay l i (dayOf (i + 1))) (24 * (i + 1)) (dayRecords (366 - (i + 1)) (i + 1 + 1)) ≡ sets l (24 * i) (dayRecords (366 - i) (i + 1))
+  record-next h room =
+      let e : 366 - i ≡ suc (366 - (i + 1)) = omega (arith, h) in
+      rw e (sym (first-record (366 - (i + 1)) (i + 1) i l (omega (arith, h, room))))
+
+  pub records-done : 366 ≤ i → sets l (24 * i) (dayRecords (366 - i) (i + 1)) ≡ l
+  unfolding dayRecords
+  records-done h = let e : 366 - i ≡ 0 = omega (arith, h) in rw e
+
+-- a list stored from the front on: the rest stays
+over-front : (t l : List ℕ) (n : ℕ) → length t ≡ n → n ≤ length l → sets l 0 t ≡ t ++ drop n l
+over-front t l n e h =
+    let k : 0 + length t ≡ n = omega (arith, e) in
+    sets-eq t l 0 (omega (arith, e, h)) ∙ ap (λ (m : ℕ). t ++ drop m l) k
+
+pub table-whole : (l : List ℕ) → 8784 ≤ length l → sets l (24 * 0) (dayRecords (366 - 0) (0 + 1)) ≡ withDayTable l
+unfolding withDayTable dayTable
+table-whole l h = over-front (dayRecords 366 1) l 8784 (length-records 366 1) h
+
+-- ---- each day is read back
+
+-- a day's values are doubles
+pub record DayFits (day : Day) : Type 0 where
+  pub declination : Fits (day .declination)
+  pub equation : Fits (day .«equation_of_time»)
+  pub radiation : Fits (day .«extra_terrestrial_radiation»)
+
+pub day-fits : (n : ℕ) → DayFits (dayOf n)
+unfolding dayOf solarDeclination equationOfTime extraTerrestrialRadiation
+day-fits n = record {
+  declination = record { holds = add-fits binary64 _ _ };
+  equation =
+      either-fits (ltb n 21) (record { holds = add-fits binary64 _ _ })
+      (either-fits (ltb n 136) (record { holds = add-fits binary64 _ _ })
+      (either-fits (ltb n 241) (record { holds = sub-fits binary64 _ _ })
+      (either-fits (ltb n 336) (record { holds = sub-fits binary64 _ _ })
+      (either-fits (ltb n 367) (record { holds = mul-fits binary64 _ _ }) (record { holds = nan-fits binary64 })))));
+  radiation = record { holds = mul-fits binary64 _ _ };
+}
+
+-- a day stored is read back
+stored-day : (l : List ℕ) (i : ℕ) (day : Day) → 24 * i + 24 ≤ length l → DayFits day → dayAt (putDay l i day) i ≡ day
+unfolding dayAt putDay wordCount
+stored-day l i day h f =
+    let room : 3 * i + 3 ≤ wordCount l = omega (arith, h) in
+    let a = one l i day in
+    let b = two l i day in
+    let x = day .«extra_terrestrial_radiation» in
+    let declination : doubleAt (putDouble b (3 * i + 2) x) (3 * i) ≡ day .declination =
+    other-double b (3 * i + 2) x (3 * i) (omega arith)
+    ∙ other-double a (3 * i + 1) (day .«equation_of_time») (3 * i) (omega arith)
+    ∙ stored-double l (3 * i) (day .declination) (omega (arith, room)) (f .declination .holds) in
+    let equation : doubleAt (putDouble b (3 * i + 2) x) (3 * i + 1) ≡ day .«equation_of_time» =
+    other-double b (3 * i + 2) x (3 * i + 1) (omega arith)
+    ∙ stored-double a (3 * i + 1) (day .«equation_of_time») (simp wordCount-putDouble (omega (arith, room))) (f .equation .holds) in
+    let radiation : doubleAt (putDouble b (3 * i + 2) x) (3 * i + 2) ≡ x = stored-double b (3 * i + 2) x (simp wordCount-putDouble (omega (arith, room))) (f .radiation .holds) in
+    λ j. record { declination = declination j; «equation_of_time» = equation j; «extra_terrestrial_radiation» = radiation j }
+
+-- records stored behind it leave it
+kept-day : (m : List ℕ) (p k : ℕ) (vs : List ℕ) → 24 * p + 24 ≤ k → dayAt (sets m k vs) p ≡ dayAt m p
+unfolding dayAt
+kept-day m p k vs h =
+    let same : (w : ℕ) → w < 3 * p + 3 → doubleAt (sets m k vs) w ≡ doubleAt m w =
+    λ w l. double-same (sets m k vs) m w (unfold wordCount in ap (λ (n : ℕ). n / 8) (length-sets m k vs)) (λ _ j e. getD-sets-before m j k vs (omega (arith, e, l, h))) in
+    λ j. record {
+      declination = same (3 * p) (omega arith) j;
+      «equation_of_time» = same (3 * p + 1) (omega arith) j;
+      «extra_terrestrial_radiation» = same (3 * p + 2) (omega arith) j;
+    }
+
+-- so many records stored from the p-th on are read back
+records-read : (count n p i : ℕ) (l : List ℕ) → 24 * (p + count) ≤ length l → i < count → dayAt (sets l (24 * p) (dayRecords count n)) (p + i) ≡ dayOf (n + i)
+records-read zero n p i l h b = absurd (omega arith)
+records-read (suc count) n p zero l h b =
+    let e : p + 0 ≡ p = omega arith in
+    let f : n + 0 ≡ n = omega arith in
+    rw (first-record count n p l (omega (arith, h)), e, f)
+    (kept-day (putDay l p (dayOf n)) p (24 * (p + 1)) (dayRecords count (n + 1)) (omega arith) ∙ stored-day l p (dayOf n) (omega (arith, h)) (day-fits n))
+records-read (suc count) n p (suc i) l h b =
+    let e : p + suc i ≡ p + 1 + i = omega arith in
+    let f : n + suc i ≡ n + 1 + i = omega arith in
+    rw (first-record count n p l (omega (arith, h)), e, f) (records-read count (n + 1) (p + 1) i (putDay l p (dayOf n)) (omega (arith, h, length-putDay l p (dayOf n))) (omega (arith, b)))
+
+pub table-read : (l : List ℕ) → 8784 ≤ length l → HoldsDays (withDayTable l)
+table-read l h = record {
+  day = λ i b.
+      let p : 0 + i ≡ i = omega arith in
+      let n : 1 + i ≡ i + 1 = omega arith in
+      ap (λ (m : List ℕ). dayAt m i) (sym (table-whole l h)) ∙ subst₂ (λ (a : ℕ) (d : ℕ). dayAt (sets l (24 * 0) (dayRecords 366 1)) a ≡ dayOf d) p n (records-read 366 1 0 i l (omega (arith, h)) b);
+}
