@@ -17,6 +17,7 @@ use Rattle.doubles.proofs.Ranges.{both-of, within-range}
 use Rattle.words.specs.Words.{wordCount}
 use Rattle.sun.specs.declared.site.Site.{Site}
 use Rattle.sun.specs.Site.{siteFine, hoursInYear}
+use Rattle.simulation_time.specs.declared.run.Run.{Run}
 use Rattle.simulation_time.specs.Steps.{runFine, stepCount, timeAt, times, atAll}
 use Rattle.simulation_time.specs.Timestep.{currentHour}
 use Rattle.simulation_time.specs.RunChecks.{hourFine, hoursFine, runAccepted}
@@ -132,25 +133,32 @@ year-length site = go (eqb (site .«leap_year») 1)
     go true = omega arith
     go false = omega arith
 
+-- every step's hour is one of the year's
+hour-in-year : (site : Site) (run : Run) → T (runAccepted (hoursInYear site) run) → (i : ℕ) → i < stepCount run → currentHour (timeAt run i) < hoursInYear site
+unfolding runAccepted hoursFine hourFine
+hour-in-year site run t i h =
+    let hours = hoursInYear site in
+    let fine : T (atAll (hourFine hours) (times run)) = and-r (runFine run) (hoursFine hours run) t in
+    let at : T (hourFine hours (timeAt run i)) = subst (λ (time : Float). T (hourFine hours time)) (times-at run i (whole 0) h) (all-pass (hourFine hours) (times run) i (whole 0) fine (rw times-length h)) in
+    ltb→lt (currentHour (timeAt run i)) hours at
+
+-- and one of a leap year's
+pub hour-of-leap-year : (site : Site) (run : Run) → T (runAccepted (hoursInYear site) run) → (i : ℕ) → i < stepCount run → currentHour (timeAt run i) < 8784
+hour-of-leap-year site run t i h = omega (arith, hour-in-year site run t i h, year-length site)
+
 module _ {job : Job} {room : Bool} (p : Passed job room) where
   pub reading-fine : (i : ℕ) → i < stepCount (job .run) → T (readingFine (readingAt job (timeAt (job .run) i)))
   reading-fine i h =
       subst (λ (time : Float). T (readingFine (readingAt job time))) (times-at (job .run) i (whole 0) h)
       (all-pass (λ (time : Float). readingFine (readingAt job time)) (times (job .run)) i (whole 0) (p .readings-fine) (rw times-length h))
 
-  -- every step's hour is one of the year's
-  pub hour-in-year : (i : ℕ) → i < stepCount (job .run) → currentHour (timeAt (job .run) i) < hoursInYear (job .site)
-  unfolding runAccepted hoursFine hourFine
-  hour-in-year i h =
-      let hours = hoursInYear (job .site) in
-      let fine : T (atAll (hourFine hours) (times (job .run))) = and-r (runFine (job .run)) (hoursFine hours (job .run)) (p .run-fine) in
-      let at : T (hourFine hours (timeAt (job .run) i)) =
-      subst (λ (time : Float). T (hourFine hours time)) (times-at (job .run) i (whole 0) h) (all-pass (hourFine hours) (times (job .run)) i (whole 0) fine (rw times-length h)) in
-      ltb→lt (currentHour (timeAt (job .run) i)) hours at
+  -- every step's hour is one of a leap year's
+  pub hour-below : (i : ℕ) → i < stepCount (job .run) → currentHour (timeAt (job .run) i) < 8784
+  hour-below = hour-of-leap-year (job .site) (job .run) (p .run-fine)
 
   -- and its day one of the year's days
   pub day-in-year : (i : ℕ) → i < stepCount (job .run) → currentHour (timeAt (job .run) i) / 24 < hoursInYear (job .site) / 24
-  day-in-year i h = whole-days (currentHour (timeAt (job .run) i)) (hour-in-year i h)
+  day-in-year i h = whole-days (currentHour (timeAt (job .run) i)) (hour-in-year (job .site) (job .run) (p .run-fine) i h)
     where
       whole-days : (hour : ℕ) → hour < hoursInYear (job .site) → hour / 24 < hoursInYear (job .site) / 24
       whole-days hour = unfold hoursInYear in (go (eqb (job .site .«leap_year») 1))
@@ -158,10 +166,6 @@ module _ {job : Job} {room : Bool} (p : Passed job room) where
           go : (b : Bool) → hour < cond b 8784 8760 → hour / 24 < cond b 8784 8760 / 24
           go true l = omega (arith, l)
           go false l = omega (arith, l)
-
-  -- every step's hour is one of a leap year's
-  pub hour-below : (i : ℕ) → i < stepCount (job .run) → currentHour (timeAt (job .run) i) < 8784
-  hour-below i h = omega (arith, hour-in-year i h, year-length (job .site))
 
   -- the surface's lengths are in their ranges
   pub surface-accepted : Doubles (job .surface) → AcceptedSurface (job .surface)

@@ -25,7 +25,7 @@ use Rattle.jobs.specs.declared.answers.Checked.the-variants.{Steps, Refused}
 use Rattle.jobs.specs.Job.{Job}
 use Rattle.jobs.specs.JobChecks.{indicesFine, readingsFine, resultsFine, tried, seriesChecked, checked}
 
-module _ (day : ℕ) (step : Float) (run : Run) (diffuse direct reflectivity results : List ℕ) where
+module _ (day : ℕ) (step : Float) (run : Run) (diffuse direct reflectivity : List ℕ) (room : Bool) where
   abbrev pub IndicesAre : Bool → Type 0
   IndicesAre b = indicesFine day step diffuse direct reflectivity (times run) ≡ b
 
@@ -33,7 +33,7 @@ module _ (day : ℕ) (step : Float) (run : Run) (diffuse direct reflectivity res
   ReadingsAre b = readingsFine day step diffuse direct reflectivity (times run) ≡ b
 
   abbrev pub Comes : Checked → Type 0
-  Comes answer = answer ≡ seriesChecked day step run diffuse direct reflectivity results
+  Comes answer = answer ≡ seriesChecked day step run diffuse direct reflectivity room
 
   pub series-refused : IndicesAre false → Comes (Refused refusal.Series)
   unfolding seriesChecked tried
@@ -43,36 +43,36 @@ module _ (day : ℕ) (step : Float) (run : Run) (diffuse direct reflectivity res
   unfolding seriesChecked tried
   reading-refused e f = rw (e, f) refl
 
-  pub results-refused : IndicesAre true → ReadingsAre true → wordCount results < 6 * stepCount run → Comes (Refused refusal.Results)
-  unfolding seriesChecked tried resultsFine
-  results-refused e f h = rw (e, f, lt-leb _ _ h) refl
+  pub results-refused : IndicesAre true → ReadingsAre true → room ≡ false → Comes (Refused refusal.Results)
+  unfolding seriesChecked tried
+  results-refused e f h = rw (e, f, h) refl
 
-  pub series-passed : IndicesAre true → ReadingsAre true → 6 * stepCount run ≤ wordCount results → Comes (Steps (stepCount run))
-  unfolding seriesChecked tried resultsFine
-  series-passed e f h = rw (e, f, le-leb _ _ h) refl
+  pub series-passed : IndicesAre true → ReadingsAre true → room ≡ true → Comes (Steps (stepCount run))
+  unfolding seriesChecked tried
+  series-passed e f h = rw (e, f, h) refl
 
-module _ (job : Job) (results : List ℕ) where
-  pub site-refused : siteFine (job .site) ≡ false → Refused refusal.Site ≡ checked job results
+module _ (job : Job) (room : Bool) where
+  pub site-refused : siteFine (job .site) ≡ false → Refused refusal.Site ≡ checked job room
   unfolding checked tried
   site-refused e = rw e refl
 
   module _ (site : siteFine (job .site) ≡ true) where
-    pub run-refused : runAccepted (hoursInYear (job .site)) (job .run) ≡ false → Refused refusal.Run ≡ checked job results
+    pub run-refused : runAccepted (hoursInYear (job .site)) (job .run) ≡ false → Refused refusal.Run ≡ checked job room
     unfolding checked tried
     run-refused e = rw (site, e) refl
 
     module _ (steps : runAccepted (hoursInYear (job .site)) (job .run) ≡ true) where
-      pub surface-refused : surfaceFine (job .surface) ≡ false → Refused refusal.Surface ≡ checked job results
+      pub surface-refused : surfaceFine (job .surface) ≡ false → Refused refusal.Surface ≡ checked job room
       unfolding checked tried
       surface-refused e = rw (site, steps, e) refl
 
       module _ (surface : surfaceFine (job .surface) ≡ true) where
-        pub object-refused : sectorsFine (job .sectors) && windowFine (job .window) ≡ false → Refused refusal.Object ≡ checked job results
+        pub object-refused : sectorsFine (job .sectors) && windowFine (job .window) ≡ false → Refused refusal.Object ≡ checked job room
         unfolding checked tried
         object-refused e = rw (site, steps, surface, e) refl
 
         pub first-passed : sectorsFine (job .sectors) && windowFine (job .window) ≡ true
-            → seriesChecked (job .site .«start_day») (job .site .«time_series_step») (job .run) (job .diffuse) (job .direct) (job .reflectivity) results ≡ checked job results
+            → seriesChecked (job .site .«start_day») (job .site .«time_series_step») (job .run) (job .diffuse) (job .direct) (job .reflectivity) room ≡ checked job room
         unfolding checked tried
         first-passed e = rw (site, steps, surface, e) refl
 

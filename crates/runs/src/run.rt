@@ -1,15 +1,18 @@
 // The run: the checks before the first step, then step by step.
 ghost use mathlib.Core.Path.{_≡_};
 ghost use mathlib.Core.Bool.{true};
-ghost use Prim.Native.Nat.{_≤_};
 ghost use Rattle.doubles.specs.Arithmetic.{whole};
 ghost use Rattle.object_checks.specs.Checks.{sectorsFine, windowFine};
+ghost use Rattle.days.specs.Table.{HoldsDays};
+ghost use Rattle.sun.specs.Site.{siteFine, hoursInYear};
 ghost use Rattle.simulation_time.specs.Steps.{stepCount};
+ghost use Rattle.simulation_time.specs.RunChecks.{runAccepted};
 ghost use Rattle.jobs.specs.declared.answers.RunAnswer.the-variants.{Refused};
 ghost use Rattle.jobs.specs.Job.{jobOf};
 ghost use Rattle.jobs.specs.JobChecks.{seriesChecked, checked};
-ghost use Rattle.jobs.specs.Run.{ran, runFrom, runOf};
+ghost use Rattle.jobs.specs.Run.{ran, lent, left, roomFine, runFrom, runOf};
 use crate::series::series_fine;
+use days::table::fill_days;
 use jobs::answers::Checked;
 use jobs::answers::RunAnswer;
 use jobs::answers::StepAnswer;
@@ -30,8 +33,8 @@ use simulation_time::steps::check_run;
 use simulation_time::timestep::current_hour;
 use steps::kept::day_for;
 use steps::kept::fixed_of;
-use steps::kept::kept_day;
 use steps::kept::kept_hour;
+use steps::kept::read_day;
 use steps::rows::step_at;
 use steps::rows::store_row;
 use sun::site::Site;
@@ -39,7 +42,15 @@ use sun::site::hours_in_year;
 use sun::site::site_fine;
 use words::word_count;
 
-// Refusals 5 to 7: every step's index on all three series before any value, and room for every step's row.
+// Room for the table of days and for every step's row.
+fn room_fine(run: Run, count: u64, days: &[u8], results: &[u8]) -> bool
+    requires { ⌜ count ≡ stepCount run ⌝ }
+    ensures { λ r. ⌜ r ≡ roomFine run (lent (now (days .entry)) (now (results .entry))) ⌝ }
+{
+    (8784 <= days.len()) & (6 * count <= word_count(results) as u64)
+}
+
+// Refusals 5 to 7: every step's index on all three series before any value, and the room.
 fn check_series(
     start_day: u32,
     series_step: f64,
@@ -48,11 +59,12 @@ fn check_series(
     diffuse: &[u8],
     direct: &[u8],
     reflectivity: &[u8],
+    days: &[u8],
     results: &[u8],
 ) -> Checked
     requires { ⌜ count ≡ stepCount run ⌝ }
     ensures { λ r. ⌜ r ≡ seriesChecked «start_day» «series_step» run
-        (now (diffuse .entry)) (now (direct .entry)) (now (reflectivity .entry)) (now (results .entry)) ⌝ }
+        (now (diffuse .entry)) (now (direct .entry)) (now (reflectivity .entry)) (roomFine run (lent (now (days .entry)) (now (results .entry)))) ⌝ }
 {
     let fine = series_fine(
         run,
@@ -69,7 +81,7 @@ fn check_series(
     if !fine.readings {
         return Checked::Refused(Refusal::Reading);
     }
-    if (word_count(results) as u64) < 6 * count {
+    if !room_fine(run, count, days, results) {
         return Checked::Refused(Refusal::Results);
     }
     Checked::Steps(count)
@@ -85,11 +97,12 @@ fn check_job(
     reflectivity: &[u8],
     sectors: &[u8],
     window: &[u8],
+    days: &[u8],
     results: &[u8],
 ) -> Checked
     ensures { λ r. ⌜ r ≡ checked
         (jobOf site run surface (now (diffuse .entry)) (now (direct .entry)) (now (reflectivity .entry)) (now (sectors .entry)) (now (window .entry)))
-        (now (results .entry)) ⌝ }
+        (roomFine run (lent (now (days .entry)) (now (results .entry)))) ⌝ }
 {
     if !site_fine(site) {
         return Checked::Refused(Refusal::Site);
@@ -112,6 +125,7 @@ fn check_job(
         diffuse,
         direct,
         reflectivity,
+        days,
         results,
     )
 }
@@ -125,8 +139,8 @@ fn refused_at(refusal: Refusal, step: u64) -> RunAnswer
     }
 }
 
-// All steps of a job that has passed the checks. The sectors are read into a table once, and the factor is worked out once an hour:
-// `shaded` says that it is that of the hour which is kept.
+// All steps of a job that has passed the checks. The sectors are read into a table once, a day is read from the table of days, and
+// the factor is worked out once an hour: `shaded` says that it is that of the hour which is kept.
 fn run_steps(
     site: Site,
     run: Run,
@@ -137,12 +151,15 @@ fn run_steps(
     reflectivity: &[u8],
     sectors: &[u8],
     window: &[u8],
+    days: &[u8],
     results: &mut [u8],
 ) -> RunAnswer
-    requires { ⌜ site .«start_day» ≤ 365 ⌝ }
-    requires { ⌜ count ≤ 35137 ⌝ }
+    requires { ⌜ siteFine site ≡ true ⌝ }
+    requires { ⌜ runAccepted (hoursInYear site) run ≡ true ⌝ }
+    requires { ⌜ count ≡ stepCount run ⌝ }
     requires { ⌜ sectorsFine (now sectors) ≡ true ⌝ }
     requires { ⌜ windowFine (now window) ≡ true ⌝ }
+    requires { ⌜ HoldsDays (now days) ⌝ }
     ensures { λ r. ⌜ ran r (now (results .exit)) ≡ runFrom count
         (jobOf site run surface (now (diffuse .entry)) (now (direct .entry)) (now (reflectivity .entry)) (now (sectors .entry)) (now (window .entry)))
         0 (run .start) (whole 0) (now (results .entry)) ⌝ }
@@ -151,9 +168,8 @@ fn run_steps(
     let n = sector_count(sectors);
     let places = sectors_of(sectors, n);
     let fixed = fixed_of(site, surface);
-    let first = current_hour(run.start);
-    let mut day = kept_day(first / 24);
-    let mut kept = kept_hour(site, surface, fixed, day, first);
+    let mut day = read_day(days, 0);
+    let mut kept = kept_hour(site, surface, fixed, day, 0);
     let mut factor = FactorAnswer::Factor(1.0);
     let mut shaded = false;
     let mut time = run.start;
@@ -162,7 +178,7 @@ fn run_steps(
     while i < count {
         let hour = current_hour(time);
         if hour != kept.hour {
-            day = day_for(hour / 24, day);
+            day = day_for(days, hour / 24, day);
             kept = kept_hour(site, surface, fixed, day, hour);
             shaded = false;
         }
@@ -208,7 +224,7 @@ fn run_steps(
     }
 }
 
-// One call of the run: the answer, and in the results a row for each step.
+// One call of the run: the answer, the table of days, and in the results a row for each step.
 pub fn run_job(
     site: Site,
     run: Run,
@@ -218,11 +234,12 @@ pub fn run_job(
     reflectivity: &[u8],
     sectors: &[u8],
     window: &[u8],
+    days: &mut [u8],
     results: &mut [u8],
 ) -> RunAnswer
-    ensures { λ r. ⌜ ran r (now (results .exit)) ≡ runOf
+    ensures { λ r. ⌜ left r (now (days .exit)) (now (results .exit)) ≡ runOf
         (jobOf site run surface (now (diffuse .entry)) (now (direct .entry)) (now (reflectivity .entry)) (now (sectors .entry)) (now (window .entry)))
-        (now (results .entry)) ⌝ }
+        (lent (now (days .entry)) (now (results .entry))) ⌝ }
 {
     let answer = check_job(
         site,
@@ -233,21 +250,26 @@ pub fn run_job(
         reflectivity,
         sectors,
         window,
+        days,
         results,
     );
     match answer {
         Checked::Refused(refusal) => refused_at(refusal, 0),
-        Checked::Steps(count) => run_steps(
-            site,
-            run,
-            count,
-            surface,
-            diffuse,
-            direct,
-            reflectivity,
-            sectors,
-            window,
-            results,
-        ),
+        Checked::Steps(count) => {
+            fill_days(days);
+            run_steps(
+                site,
+                run,
+                count,
+                surface,
+                diffuse,
+                direct,
+                reflectivity,
+                sectors,
+                window,
+                days,
+                results,
+            )
+        }
     }
 }

@@ -1,7 +1,9 @@
 // What a run keeps from step to step, so that each thing is worked out once: what depends on the site and the surface alone, on the day,
 // and on the hour.
 ghost use mathlib.Core.Path.{_≡_};
-ghost use Prim.Native.Nat.{_/_};
+ghost use Prim.Native.Nat.{_+_, _/_, _<_};
+ghost use Rattle.days.specs.Day.{dayOf};
+ghost use Rattle.days.specs.Table.{HoldsDays};
 ghost use Rattle.steps.specs.Kept.{fixedOf, keptDay, keptHour, irradianceKept};
 use angles::SinCos;
 use days::Day;
@@ -44,11 +46,11 @@ pub struct KeptDay {
     pub declination: SinCos,
 }
 
-// What stays the same for a day, by its index.
-pub fn kept_day(index: u32) -> KeptDay
+// What stays the same for a day, by its values.
+fn day_by(index: u32, values: Day) -> KeptDay
+    requires { ⌜ values ≡ dayOf (index + 1) ⌝ }
     ensures { λ r. ⌜ r ≡ keptDay index ⌝ }
 {
-    let values = days::day_of(index);
     let declination = sin_cos_of_degrees(values.declination);
     KeptDay {
         index: index,
@@ -57,15 +59,33 @@ pub fn kept_day(index: u32) -> KeptDay
     }
 }
 
+// A day whose values are worked out.
+pub fn kept_day(index: u32) -> KeptDay
+    ensures { λ r. ⌜ r ≡ keptDay index ⌝ }
+{
+    day_by(index, days::day_of(index))
+}
+
+// A day whose values are read from the table.
+pub fn read_day(days: &[u8], index: u32) -> KeptDay
+    requires { ⌜ HoldsDays (now days) ⌝ }
+    requires { ⌜ index < 366 ⌝ }
+    ensures { λ r. ⌜ r ≡ keptDay index ⌝ }
+{
+    day_by(index, days::table::day_at(days, index))
+}
+
 // The same day where it is still that day.
-pub fn day_for(index: u32, kept: KeptDay) -> KeptDay
+pub fn day_for(days: &[u8], index: u32, kept: KeptDay) -> KeptDay
+    requires { ⌜ HoldsDays (now days) ⌝ }
+    requires { ⌜ index < 366 ⌝ }
     requires { ⌜ kept ≡ keptDay (kept .index) ⌝ }
     ensures { λ r. ⌜ r ≡ keptDay index ⌝ }
 {
     if index == kept.index {
         return kept;
     }
-    kept_day(index)
+    read_day(days, index)
 }
 
 // An hour of the year, from 0.

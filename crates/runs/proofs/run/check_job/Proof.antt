@@ -1,12 +1,13 @@
 -- `check_job` meets its contract.
 use mathlib.Core.Path.{_≡_, sym, _∙_, ap, ap₂, subst}
-use mathlib.Core.Bool.{true, false, _&&_}
+use mathlib.Core.Bool.{Bool, true, false, _&&_}
 use borrow.Author.Tests.{not-true, not-false}
 use lib.Dec.{T}
 use denote.Ref.{now}
 use Rattle.simulation_time.specs.RunChecks.{runAccepted, checkedRun}
 use Rattle.simulation_time.proofs.HoursOfSteps.{checked-count}
 use Rattle.jobs.specs.Job.{Job, jobOf}
+use Rattle.jobs.specs.Run.{lent, roomFine}
 use Rattle.sun.specs.Site.{hoursInYear}
 use Rattle.runs.proofs.CheckSteps.{site-refused, run-refused, surface-refused, object-refused, first-passed, start-day}
 use borrow.Author.Needs.{needs}
@@ -18,11 +19,14 @@ job c =
     let a = c .args in
     jobOf (a .site) (a .run) (a .surface) (now (a .diffuse)) (now (a .direct)) (now (a .reflectivity)) (now (a .sectors)) (now (a .window))
 
+abbrev room : tie.Start → Bool
+room s = roomFine (s .args .run) (lent (now (s .args .days)) (now (s .args .results)))
+
 site-fine-requires : tie.Need-site-fine-requires
 site-fine-requires c κs = search needs
 
 returns : tie.Need-returns
-returns c = let s = c .before .before .before .before .before .before .before .before in site-refused (job s) (now (s .args .results)) (sym (c .before .site-fine .ensures) ∙ not-true _ (c .if1 .taken))
+returns c = let s = c .before .before .before .before .before .before .before .before .before in site-refused (job s) (room s) (sym (c .before .site-fine .ensures) ∙ not-true _ (c .if1 .taken))
 
 hours-in-year-requires : tie.Need-hours-in-year-requires
 hours-in-year-requires c κs = search needs
@@ -33,10 +37,10 @@ check-run-requires c κs = search needs
 returns-2 : tie.Need-returns-2
 unfolding checkedRun
 returns-2 c =
-    let s = c .before .before .before .before .before .before .before .before .before .before .before .before in
+    let s = c .before .before .before .before .before .before .before .before .before .before .before .before .before in
     let site = sym (c .before .before .before .before .before .site-fine .ensures) ∙ not-false _ (c .before .before .before .before .if1 .left) in
     let h = c .before .before .check-run .ensures ∙ ap (λ n. checkedRun n (s .args .run)) (c .before .before .before .hours-in-year .ensures) in let steps : runAccepted (hoursInYear (s .args .site)) (s .args .run) ≡ false = sym (ap (λ x. x .fine) h) ∙ not-true _ (c .if2 .taken) in
-    run-refused (job s) (now (s .args .results)) site steps
+    run-refused (job s) (room s) site steps
 
 surface-fine-requires : tie.Need-surface-fine-requires
 surface-fine-requires c κs = search needs
@@ -44,10 +48,10 @@ surface-fine-requires c κs = search needs
 returns-3 : tie.Need-returns-3
 unfolding checkedRun
 returns-3 c =
-    let s = c .before .before .before .before .before .before .before .before .before .before .before .before .before .before in
+    let s = c .before .before .before .before .before .before .before .before .before .before .before .before .before .before .before in
     let site = sym (c .before .before .before .before .before .before .before .site-fine .ensures) ∙ not-false _ (c .before .before .before .before .before .before .if1 .left) in
     let h = c .before .before .before .before .check-run .ensures ∙ ap (λ n. checkedRun n (s .args .run)) (c .before .before .before .before .before .hours-in-year .ensures) in let steps : runAccepted (hoursInYear (s .args .site)) (s .args .run) ≡ true = sym (ap (λ x. x .fine) h) ∙ not-false _ (c .before .before .if2 .left) in
-    surface-refused (job s) (now (s .args .results)) site steps (sym (c .before .surface-fine .ensures) ∙ not-true _ (c .if3 .taken))
+    surface-refused (job s) (room s) site steps (sym (c .before .surface-fine .ensures) ∙ not-true _ (c .if3 .taken))
 
 sectors-fine-requires : tie.Need-sectors-fine-requires
 sectors-fine-requires c κs = search needs
@@ -58,15 +62,15 @@ window-fine-requires c κs = search needs
 returns-4 : tie.Need-returns-4
 unfolding checkedRun
 returns-4 c =
-    let s = c .before .before .before .before .before .before .before .before .before .before .before .before .before .before .before .before .before in
+    let s = c .before .before .before .before .before .before .before .before .before .before .before .before .before .before .before .before .before .before in
     let site = sym (c .before .before .before .before .before .before .before .before .before .before .site-fine .ensures) ∙ not-false _ (c .before .before .before .before .before .before .before .before .before .if1 .left) in
     let h = c .before .before .before .before .before .before .before .check-run .ensures ∙ ap (λ n. checkedRun n (s .args .run)) (c .before .before .before .before .before .before .before .before .hours-in-year .ensures) in let steps : runAccepted (hoursInYear (s .args .site)) (s .args .run) ≡ true = sym (ap (λ x. x .fine) h) ∙ not-false _ (c .before .before .before .before .before .if2 .left) in
     let surface = sym (c .before .before .before .before .surface-fine .ensures) ∙ not-false _ (c .before .before .before .if3 .left) in
-    object-refused (job s) (now (s .args .results)) site steps surface (sym (ap₂ _&&_ (c .before .before .sectors-fine .ensures) (c .before .window-fine .ensures)) ∙ not-true _ (c .if4 .taken))
+    object-refused (job s) (room s) site steps surface (sym (ap₂ _&&_ (c .before .before .sectors-fine .ensures) (c .before .window-fine .ensures)) ∙ not-true _ (c .if4 .taken))
 
 cast-check-series : tie.Need-cast-check-series
 cast-check-series c =
-    let s = c .before .before .before .before .before .before .before .before .before .before .before .before .before .before .before .before .before .before in
+    let s = c .before .before .before .before .before .before .before .before .before .before .before .before .before .before .before .before .before .before .before in
     let site = sym (c .before .before .before .before .before .before .before .before .before .before .before .site-fine .ensures) ∙ not-false _ (c .before .before .before .before .before .before .before .before .before .before .if1 .left) in
     let day = start-day (s .args .site) (subst T (sym site) tt) in
     search needs
@@ -74,7 +78,7 @@ cast-check-series c =
 check-series-requires : tie.Need-check-series-requires
 unfolding checkedRun
 check-series-requires c κs =
-    let s = c .before .before .before .before .before .before .before .before .before .before .before .before .before .before .before .before .before .before in
+    let s = c .before .before .before .before .before .before .before .before .before .before .before .before .before .before .before .before .before .before .before in
     let site = sym (c .before .before .before .before .before .before .before .before .before .before .before .site-fine .ensures) ∙ not-false _ (c .before .before .before .before .before .before .before .before .before .before .if1 .left) in
     let h = c .before .before .before .before .before .before .before .before .check-run .ensures ∙ ap (λ n. checkedRun n (s .args .run)) (c .before .before .before .before .before .before .before .before .before .hours-in-year .ensures) in let steps : runAccepted (hoursInYear (s .args .site)) (s .args .run) ≡ true = sym (ap (λ x. x .fine) h) ∙ not-false _ (c .before .before .before .before .before .before .if2 .left) in
     ap (λ x. x .count) h ∙ checked-count (hoursInYear (s .args .site)) (s .args .run) steps
@@ -82,12 +86,12 @@ check-series-requires c κs =
 returns-5 : tie.Need-returns-5
 unfolding checkedRun
 returns-5 c =
-    let s = c .before .before .before .before .before .before .before .before .before .before .before .before .before .before .before .before .before .before .before in
+    let s = c .before .before .before .before .before .before .before .before .before .before .before .before .before .before .before .before .before .before .before .before in
     let site = sym (c .before .before .before .before .before .before .before .before .before .before .before .before .site-fine .ensures) ∙ not-false _ (c .before .before .before .before .before .before .before .before .before .before .before .if1 .left) in
     let h = c .before .before .before .before .before .before .before .before .before .check-run .ensures ∙ ap (λ n. checkedRun n (s .args .run)) (c .before .before .before .before .before .before .before .before .before .before .hours-in-year .ensures) in let steps : runAccepted (hoursInYear (s .args .site)) (s .args .run) ≡ true = sym (ap (λ x. x .fine) h) ∙ not-false _ (c .before .before .before .before .before .before .before .if2 .left) in
     let surface = sym (c .before .before .before .before .before .before .surface-fine .ensures) ∙ not-false _ (c .before .before .before .before .before .if3 .left) in
     c .check-series .ensures
-    ∙ first-passed (job s) (now (s .args .results)) site steps surface (sym (ap₂ _&&_ (c .before .before .before .before .sectors-fine .ensures) (c .before .before .before .window-fine .ensures)) ∙ not-false _ (c .before .before .if4 .left))
+    ∙ first-passed (job s) (room s) site steps surface (sym (ap₂ _&&_ (c .before .before .before .before .sectors-fine .ensures) (c .before .before .before .window-fine .ensures)) ∙ not-false _ (c .before .before .if4 .left))
 
 pub check-job-spec : {M : Type 1} → statement M
 check-job-spec =

@@ -4,13 +4,16 @@ use mathlib.Core.Path.{_≡_, refl, sym, _∙_, ap, subst}
 use mathlib.Core.Bool.{Bool, true, false, not}
 use mathlib.Core.Logic.{⊎-elim}
 use lib.Dec.{T}
-use lib.Ieee.{ofBits}
-use Prim.Native.Nat.{ℕ, _+_, _-_, _/_, _≤_, _<_}
+use lib.Ieee.{Float, ofBits}
+use Prim.Native.Nat.{ℕ, suc, _+_, _-_, _/_, _≤_, _<_}
 use native.Mathlib.Omega.{arith}
 use borrow.Author.Needs.{needs}
 use denote.Ref.{now}
 use lib.ListN.{length, take, getD}
+use Rattle.simulation_time.specs.declared.run.Run.{Run}
 use Rattle.simulation_time.specs.Timestep.{currentHour}
+use Rattle.simulation_time.specs.Steps.{timeAt}
+use Rattle.simulation_time.proofs.Times.{count-few}
 use Rattle.doubles.specs.Arithmetic.{_⊕_, _⊗_, whole}
 use Rattle.sun.specs.Hour.{hourOf}
 use Rattle.objects.specs.declared.answers.FactorAnswer.{FactorAnswer}
@@ -25,15 +28,17 @@ use Rattle.jobs.specs.Job.{Job, jobOf, indexAt, readingAt}
 use Rattle.jobs.specs.Step.{shadingAt}
 use Rattle.jobs.specs.declared.answers.RunAnswer.{RunAnswer}
 use Rattle.jobs.specs.Run.{ran, runFrom}
+use Rattle.jobs.proofs.PassedChecks.{hour-of-leap-year}
 use Rattle.jobs.proofs.RowStores.{length-putRow}
 use Rattle.steps.specs.Kept.{fixedOf, keptDay, keptHour}
 use Rattle.steps.proofs.StepKept.{kept-factor, by-kept, its-hour, of-its-hour, day-of-its-hour, of-its-day}
+use Rattle.runs.proofs.CheckSteps.{start-day}
 use Rattle.runs.proofs.StepByStep.{job-step, row-next, refused-here, at-end, at-start}
 use Rattle.runs.proofs.run.run_steps.Statement.{statement}
 use Rattle.runs.proofs.run.run_steps.Tie as tie
 
 abbrev Inv-loop : tie.InvT-loop
-Inv-loop site run count surface diffuse direct reflectivity sectors window results₀ objects n places fixed first day₀ kept₀ factor₀ shaded₀ time₀ sum₀ i₀ results day kept factor shaded time sum i =
+Inv-loop site run count surface diffuse direct reflectivity sectors window days results₀ objects n places fixed day₀ kept₀ factor₀ shaded₀ time₀ sum₀ i₀ results day kept factor shaded time sum i =
     (i ≤ count)
     × (length results ≡ length results₀)
     × (fixed ≡ fixedOf site surface)
@@ -43,14 +48,18 @@ Inv-loop site run count surface diffuse direct reflectivity sectors window resul
     × (day ≡ keptDay (kept .hour / 24))
     × (kept ≡ keptHour site surface (kept .hour))
     × (shaded ≡ true → factor ≡ shadingAt surface (hourOf site (kept .hour)) sectors window)
+    × (time ≡ timeAt run i)
     × (runFrom (count - i) (jobOf site run surface diffuse direct reflectivity sectors window) i time sum results
     ≡ runFrom count (jobOf site run surface diffuse direct reflectivity sectors window) 0 (run .start) (whole 0) results₀)
 
 abbrev μ-loop : tie.MeasureT-loop
-μ-loop site run count surface diffuse direct reflectivity sectors window results₀ objects n places fixed first day₀ kept₀ factor₀ shaded₀ time₀ sum₀ i₀ results day kept factor shaded time sum i = count - i
+μ-loop site run count surface diffuse direct reflectivity sectors window days results₀ objects n places fixed day₀ kept₀ factor₀ shaded₀ time₀ sum₀ i₀ results day kept factor shaded time sum i = count - i
 
 few-sectors : (c : tie.Start Inv-loop μ-loop) (n : ℕ) → n ≡ sectorCount (now (c .args .sectors)) → n ≤ 36
-few-sectors c n e = subst (λ (m : ℕ). m ≤ 36) (sym e) (sector-count (now (c .args .sectors)) (subst T (sym (c .pre .1 .1 .0)) tt))
+few-sectors c n e = subst (λ (m : ℕ). m ≤ 36) (sym e) (sector-count (now (c .args .sectors)) (subst T (sym (c .pre .1 .1 .1 .0)) tt))
+
+few-steps : (c : tie.Start Inv-loop μ-loop) → c .args .count ≤ 35137
+few-steps c = subst (λ (n : ℕ). n ≤ 35137) (sym (c .pre .1 .1 .0)) (count-few (c .args .run))
 
 abbrev job : tie.Start Inv-loop μ-loop → Job
 job c =
@@ -58,55 +67,63 @@ job c =
     jobOf (a .site) (a .run) (a .surface) (now (a .diffuse)) (now (a .direct)) (now (a .reflectivity)) (now (a .sectors)) (now (a .window))
 
 window-of-requires : tie.Need-window-of-requires Inv-loop μ-loop
-window-of-requires c κs = let s = c .before .before .before .before .before .before in window-count (now (s .args .window)) (subst T (sym (s .pre .1 .1 .1)) tt)
+window-of-requires c κs = let s = c .before .before .before .before .before .before .before in window-count (now (s .args .window)) (subst T (sym (s .pre .1 .1 .1 .1 .0)) tt)
 
 sector-count-requires : tie.Need-sector-count-requires Inv-loop μ-loop
 sector-count-requires c κs = tt
 
 sectors-of-requires : tie.Need-sectors-of-requires Inv-loop μ-loop
 sectors-of-requires c κs =
-    let s = c .before .before .before .before .before .before .before .before in
+    let s = c .before .before .before .before .before .before .before .before .before in
     let count = c .sector-count .ensures in
-    (readable (now (s .args .sectors)) (subst T (sym (s .pre .1 .1 .0)) tt), omega (arith, count))
+    (readable (now (s .args .sectors)) (subst T (sym (s .pre .1 .1 .1 .0)) tt), omega (arith, count))
 
 fixed-of-requires : tie.Need-fixed-of-requires Inv-loop μ-loop
 fixed-of-requires c κs = tt
 
-current-hour-requires : tie.Need-current-hour-requires Inv-loop μ-loop
-current-hour-requires c κs = tt
-
-kept-day-requires : tie.Need-kept-day-requires Inv-loop μ-loop
-kept-day-requires c κs = tt
+read-day-requires : tie.Need-read-day-requires Inv-loop μ-loop
+read-day-requires c κs = (c .before .before .before .before .before .before .before .before .before .before .before .pre .1 .1 .1 .1 .1, omega arith)
 
 kept-hour-requires : tie.Need-kept-hour-requires Inv-loop μ-loop
-kept-hour-requires c κs = (c .before .before .fixed-of .ensures, c .kept-day .ensures)
+kept-hour-requires c κs = (c .before .fixed-of .ensures, c .read-day .ensures)
 
 never : {A : Type 0} → false ≡ true → A
 never e = absurd (subst T (sym e) tt)
 
 loop-holds : tie.Need-loop-holds Inv-loop μ-loop
-unfolding ofBits whole placed
+unfolding ofBits whole placed timeAt
 loop-holds c =
     let s = c .before .before .before .before .before .before .before .before .before .before .before .before .before in
-    let count = c .before .before .before .before .before .sector-count .ensures in
+    let count = c .before .before .before .before .sector-count .ensures in
     let few = few-sectors s _ count in (
       omega arith,
       refl,
-      c .before .before .before .fixed-of .ensures,
-      ap placed (c .before .before .before .before .before .before .window-of .ensures) ∙ window-places (now (s .args .window)) (subst T (sym (s .pre .1 .1 .1)) tt),
+      c .before .before .fixed-of .ensures,
+      ap placed (c .before .before .before .before .before .window-of .ensures) ∙ window-places (now (s .args .window)) (subst T (sym (s .pre .1 .1 .1 .1 .0)) tt),
       few,
-      sectors-taken (now (s .args .sectors)) _ _ count few (c .before .before .before .before .sectors-of .ensures),
-      day-of-its-hour _ _ _ _ _ (c .kept-hour .ensures) (c .before .kept-day .ensures),
+      sectors-taken (now (s .args .sectors)) _ _ count few (c .before .before .before .sectors-of .ensures),
+      day-of-its-hour _ _ _ _ _ (c .kept-hour .ensures) (c .before .read-day .ensures),
       of-its-hour _ _ _ _ (c .kept-hour .ensures),
       λ e. never e,
+      refl,
       at-start (job s) (s .args .count) (now (s .args .results)),
     )
 
-current-hour-requires-2 : tie.Need-current-hour-requires-2 Inv-loop μ-loop
-current-hour-requires-2 c κs = tt
+current-hour-requires : tie.Need-current-hour-requires Inv-loop μ-loop
+current-hour-requires c κs = tt
+
+-- the hour of a step is in the year, so its day is in the table
+day-there : (s : tie.Start Inv-loop μ-loop) (i : ℕ) (time : Float) → time ≡ timeAt (s .args .run) i → i < s .args .count → currentHour time / 24 < 366
+day-there s i time e h =
+    let below = hour-of-leap-year (s .args .site) (s .args .run) (subst T (sym (s .pre .1 .0)) tt) i (subst (λ (n : ℕ). i < n) (s .pre .1 .1 .0) h) in
+    subst (λ (t : Float). currentHour t / 24 < 366) (sym e) (omega (arith, below))
 
 day-for-requires : tie.Need-day-for-requires Inv-loop μ-loop
-day-for-requires c κs = of-its-day _ _ (c .before .before .before .before .loop .inv .6)
+day-for-requires c κs =
+    let l = c .before .before .before .before in
+    let s = l .before .before .before .before .before .before .before .before .before .before .before .before .before .before in
+    let there = day-there s (l .loop .i) (l .loop .time) (l .loop .inv .9) (c .before .before .before .loop-test .taken) in
+    (s .pre .1 .1 .1 .1 .1, (subst (λ (h : ℕ). h / 24 < 366) (sym (c .before .before .current-hour .ensures)) there, of-its-day _ _ (l .loop .inv .6)))
 
 kept-hour-requires-2 : tie.Need-kept-hour-requires-2 Inv-loop μ-loop
 kept-hour-requires-2 c κs = (c .before .before .before .before .before .loop .inv .2, c .day-for .ensures)
@@ -122,7 +139,7 @@ kept-now c =
     let l = c .before .before .before .before in
     let a = l .before .before .before .before .before .before .before .before .before .before .before .before .before .before .args in
     let q = l .loop .inv in
-    let same = c .before .before .current-hour2 .ensures in
+    let same = c .before .before .current-hour .ensures in
     let hour = keptHour (a .site) (a .surface) in
     let shade : ℕ → FactorAnswer = λ (h : ℕ). shadingAt (a .surface) (hourOf (a .site) h) (now (a .sectors)) (now (a .window)) in
     ⊎-elim
@@ -175,12 +192,12 @@ factor-now c =
     (λ w.
     kept-factor (a .site) (a .surface) _ _ (kept .1) (now (a .sectors)) (now (a .window)) _ _ _ (q .5) (q .3)
     (w .5 ∙ w .4 .ensures
-    ∙ factor-by-table (a .surface) _ _ _ _ (q .4) _ _ _ _ (w .1 .ensures) (ap (λ (i : ℕ). getD (l .before .before .before .before .before .sectors-of .result) i _) (w .2 .ensures))))
+    ∙ factor-by-table (a .surface) _ _ _ _ (q .4) _ _ _ _ (w .1 .ensures) (ap (λ (i : ℕ). getD (l .before .before .before .before .sectors-of .result) i _) (w .2 .ensures))))
     (λ w. w .1 ∙ kept .2 (holds _ (w .0 .left)))
     (c .if2 .came)
 
 step-at-requires : tie.Need-step-at-requires Inv-loop μ-loop
-step-at-requires c κs = c .before .before .before .before .before .before .before .before .before .before .before .before .before .before .before .before .before .before .before .pre .0
+step-at-requires c κs = let s = c .before .before .before .before .before .before .before .before .before .before .before .before .before .before .before .before .before .before .before in start-day (s .args .site) (subst T (sym (s .pre .0)) tt)
 
 enum-known-answer : tie.Need-enum-known-answer Inv-loop μ-loop
 enum-known-answer c = search needs
@@ -201,19 +218,23 @@ returns c =
     let e = job-step (job s) (q .time) _ (by-kept (s .args .site) (s .args .surface) (now (s .args .sectors)) (now (s .args .window)) (q .time) (readingAt (job s) (q .time)) _ _ _ _ (q .inv .2) (kept-now (j .before) .1) (factor-now j) (c .before .before .before .before .step-at .ensures)) in
     ap (λ (r : RunAnswer). ran r (q .results)) (c .refused-at .ensures)
     ∙ refused-here (job s) (s .args .count) (q .i) (q .time) (q .sum) (q .results) _ (sym e ∙ c .before .before .answer .given .1) (omega (arith, j .before .before .before .before .loop-test .taken))
-    ∙ q .inv .9
+    ∙ q .inv .10
 
 enum-known-answer-2 : tie.Need-enum-known-answer-2 Inv-loop μ-loop
 enum-known-answer-2 c = search needs
 
 store-row-requires : tie.Need-store-row-requires Inv-loop μ-loop
-store-row-requires c κs = let j = c .before .before .before .before .before in let s = j .before .before .before .before .before .before .before .before .before .before .before .before .before .before .before .before .before .before .before in omega (arith, j .before .before .before .before .loop-test .taken, s .pre .1 .0)
+store-row-requires c κs = let j = c .before .before .before .before .before in let s = j .before .before .before .before .before .before .before .before .before .before .before .before .before .before .before .before .before .before .before in omega (arith, j .before .before .before .before .loop-test .taken, few-steps s)
 
 add-i : tie.Need-add-i Inv-loop μ-loop
-add-i c = let j = c .before .before .before .before .before .before .before .before .before .before in let s = j .before .before .before .before .before .before .before .before .before .before .before .before .before .before .before .before .before .before .before in omega (arith, j .before .before .before .before .loop-test .taken, s .pre .1 .0)
+add-i c = let j = c .before .before .before .before .before .before .before .before .before .before in let s = j .before .before .before .before .before .before .before .before .before .before .before .before .before .before .before .before .before .before .before in omega (arith, j .before .before .before .before .loop-test .taken, few-steps s)
 
 loop-less : tie.Need-loop-less Inv-loop μ-loop
 loop-less c = let j = c .before .before .before .before .before .before .before .before .before .before in omega (arith, j .before .before .before .before .loop-test .taken)
+
+next-time : (run : Run) (i : ℕ) → timeAt run i ⊕ run .step ≡ timeAt run (i + 1)
+unfolding timeAt
+next-time run i = let e : i + 1 ≡ suc i = omega arith in rw e
 
 loop-again : tie.Need-loop-again Inv-loop μ-loop
 unfolding readingAt indexAt
@@ -239,9 +260,10 @@ loop-again c =
       day-of-its-hour _ _ _ _ _ (kept .1) (kept .0),
       of-its-hour _ _ _ _ (kept .1),
       λ _. factor-now j ∙ ap shade (sym hour),
+      ap (λ (t : Float). t ⊕ a .run .step) (q .inv .9) ∙ next-time (a .run) (q .i),
       ap (runFrom (a .count - (q .i + 1)) (job s) (q .i + 1) (q .time ⊕ a .run .step) (q .sum ⊕ row .factor ⊗ row .direct)) stored
           ∙ row-next (job s) (a .count) (q .i) (q .time) (q .sum) (q .results) row (sym e ∙ c .before .before .before .before .before .before .before .answer2 .given .1) on
-          ∙ q .inv .9,
+          ∙ q .inv .10,
     )
 
 same-length-2 : tie.Need-same-length-2 Inv-loop μ-loop
@@ -252,7 +274,7 @@ returns-2 c =
     let l = c .before in
     let s = l .before .before .before .before .before .before .before .before .before .before .before .before .before .before in
     let q = l .loop in
-    at-end (job s) (s .args .count) (q .i) (q .time) (q .sum) (q .results) (omega (arith, c .loop-test .left, q .inv .0)) ∙ q .inv .9
+    at-end (job s) (s .args .count) (q .i) (q .time) (q .sum) (q .results) (omega (arith, c .loop-test .left, q .inv .0)) ∙ q .inv .10
 
 pub run-steps-spec : {M : Type 1} → statement M
 run-steps-spec =
@@ -264,11 +286,10 @@ run-steps-spec =
     sector-count-requires
     sectors-of-requires
     fixed-of-requires
-    current-hour-requires
-    kept-day-requires
+    read-day-requires
     kept-hour-requires
     loop-holds
-    current-hour-requires-2
+    current-hour-requires
     day-for-requires
     kept-hour-requires-2
     sun-place-requires

@@ -6,13 +6,13 @@ use Rattle.steps.proofs.kept.day_for.Statement.{statement}
 use Rattle.steps.proofs.kept.day_for.Tie as tie
 
 returns : tie.Need-returns
-returns c = c .before .before .pre ∙ ap keptDay (sym (c .if1 .taken))
+returns c = c .before .before .before .pre .1 .1 ∙ ap keptDay (sym (c .if1 .taken))
 
-kept-day-requires : tie.Need-kept-day-requires
-kept-day-requires c κs = search needs
+read-day-requires : tie.Need-read-day-requires
+read-day-requires c κs = search needs
 
 returns-2 : tie.Need-returns-2
 returns-2 c = search needs
 
 pub day-for-spec : {M : Type 1} → statement M
-day-for-spec = tie.close (tie.spec returns kept-day-requires returns-2)
+day-for-spec = tie.close (tie.spec returns read-day-requires returns-2)
