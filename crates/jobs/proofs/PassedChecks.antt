@@ -35,7 +35,8 @@ use Rattle.weather.specs.Weather.{readingFine}
 use Rattle.jobs.specs.declared.answers.Checked.{Checked}
 use Rattle.jobs.specs.declared.answers.Checked.the-variants.{Steps, Refused}
 use Rattle.jobs.specs.Job.{Job, indexAt, readingAt}
-use Rattle.jobs.specs.JobChecks.{indicesFine, readingsFine, resultsFine, tried, checked}
+use Rattle.jobs.specs.JobChecks.{indicesFine, readingsFine, daysFine, resultsFine, tried, checked}
+use Rattle.jobs.specs.Run.{Lent, roomFine}
 use Rattle.jobs.specs.Comparison.{Doubles}
 
 -- ---- the tests, one by one
@@ -120,10 +121,18 @@ accepted-reading r t =
       reflectivity = within-range (whole 0) (whole 1) (r .reflectivity) (p .1);
     }
 
--- there is room for every row
-pub rows-fit : {job : Job} (results : List ℕ) → Passed job (resultsFine (job .run) results) → 6 * stepCount (job .run) ≤ wordCount results
-unfolding resultsFine
-rows-fit {job} results p = leb-true (6 * stepCount (job .run)) (wordCount results) (is-true _ (p .room-fine))
+module _ (job : Job) (lists : Lent) (p : Passed job (roomFine (job .run) lists)) where
+  -- there is room for the table of days
+  pub days-fit : 8784 ≤ length (lists .days)
+  unfolding roomFine daysFine
+  days-fit = leb-true 8784 (length (lists .days)) (is-true _ (and-l (daysFine (lists .days)) (resultsFine (job .run) (lists .results)) (p .room-fine)))
+
+  -- and for every row
+  pub rows-fit : 6 * stepCount (job .run) ≤ wordCount (lists .results)
+  unfolding roomFine resultsFine
+  rows-fit =
+      leb-true (6 * stepCount (job .run)) (wordCount (lists .results))
+      (is-true _ (and-r (daysFine (lists .days)) (resultsFine (job .run) (lists .results)) (p .room-fine)))
 
 pub year-length : (site : Site) → hoursInYear site ≤ 8784
 unfolding hoursInYear

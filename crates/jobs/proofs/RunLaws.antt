@@ -1,4 +1,4 @@
--- What a run without a table comes to: the rows of the steps before the one that is refused, or of all; and of an accepted run, that every step has a
+-- What a run comes to: the rows of the steps before the one that is refused, or of all; and of an accepted run, that every step has a
 -- row, which its results hold, and that its sum is that of factor times direct over them. Assumes nothing.
 use mathlib.Core.Path.{_≡_, refl, sym, ap, _∙_, subst}
 use mathlib.Core.List.{List}
@@ -23,9 +23,9 @@ use Rattle.jobs.specs.declared.answers.Checked.the-variants as check
 use Rattle.jobs.specs.declared.answers.RunAnswer.{RunAnswer}
 use Rattle.jobs.specs.declared.answers.RunAnswer.the-variants.{Accepted, Refused}
 use Rattle.jobs.specs.Job.{Job}
-use Rattle.jobs.specs.JobChecks.{resultsFine, checked}
+use Rattle.jobs.specs.JobChecks.{checked}
 use Rattle.jobs.specs.Step.{stepAt}
-use Rattle.jobs.specs.Run.{Ran, ran, putRow, withRow, onRow, runFrom, runChecked, plainRun, numberFor}
+use Rattle.jobs.specs.Run.{Ran, ran, putRow, withRow, onRow, runFrom, runChecked, Lent, roomFine, runOf, numberFor}
 use Rattle.jobs.proofs.RowStores.{Holding, length-putRow, wordCount-putRow, byte-putRow, stored-row, kept-row}
 use Rattle.jobs.proofs.StepRows.{rowOf, step-row, row-fits}
 use Rattle.jobs.proofs.PassedChecks.{Passed, passed, rows-fit}
@@ -103,18 +103,19 @@ module _ (job : Job) (results : List ℕ) where
   from-start n = let e : 0 + n ≡ n = omega arith in rw e at (from-step n 0 (λ j h. absurd (omega arith)))
 
 -- any run: turned down by the checks, or where its steps have brought it
-pub data Finished (job : Job) (results : List ℕ) : Ran → Type 0 where
-  turned-down : (r : Refusal) → checked job (resultsFine (job .run) results) ≡ check.Refused r → Finished job results (ran (Refused r 0) results)
-  stepped : {run : Ran} → Passed job (resultsFine (job .run) results) → Outcome job results (stepCount (job .run)) run → Finished job results run
+pub data Finished (job : Job) (lists : Lent) : Ran → Type 0 where
+  turned-down : (r : Refusal) → checked job (roomFine (job .run) lists) ≡ check.Refused r → Finished job lists (ran (Refused r 0) (lists .results))
+  stepped : {run : Ran} → Passed job (roomFine (job .run) lists) → Outcome job (lists .results) (stepCount (job .run)) run → Finished job lists run
 
-pub finished : (job : Job) (results : List ℕ) → Finished job results (plainRun job results)
-unfolding plainRun
-finished job results = go (checked job (resultsFine (job .run) results)) refl
+pub finished : (job : Job) (lists : Lent) → Finished job lists (runOf job lists .ran)
+unfolding runOf
+finished job lists = go (checked job (roomFine (job .run) lists)) refl
   where
-    go : (c : Checked) → checked job (resultsFine (job .run) results) ≡ c → Finished job results (runChecked c job results)
+    go : (c : Checked) → checked job (roomFine (job .run) lists) ≡ c → Finished job lists (runChecked c job (lists .results))
     go (check.Refused r) e = unfold runChecked in turned-down r e
     go (check.Steps n) e = unfold runChecked in
-        let p = passed job (resultsFine (job .run) results) n e in
+        let p = passed job (roomFine (job .run) lists) n e in
+        let results = lists .results in
         stepped (p .0) (subst (λ (m : ℕ). Outcome job results m (runFrom n job 0 (job .run .start) (whole 0) results)) (p .1) (from-start job results n))
 
 -- ---- what a run leaves of the results list
@@ -123,17 +124,6 @@ finished job results = go (checked job (resultsFine (job .run) results)) refl
 unfoldable pub filled : RunAnswer → ℕ
 filled (Accepted count sum) = count
 filled (Refused r i) = i
-
-pub rows-stored : (job : Job) (results : List ℕ) → plainRun job results .results ≡ withRows job (filled (plainRun job results .answer)) results
-rows-stored job results = go (finished job results)
-  where
-    by-outcome : {n : ℕ} {run : Ran} → Outcome job results n run → run .results ≡ withRows job (filled (run .answer)) results
-    by-outcome (all-rows h) = unfold filled in refl
-    by-outcome (cut-short k r l h e) = unfold filled in refl
-
-    go : {run : Ran} → Finished job results run → run .results ≡ withRows job (filled (run .answer)) results
-    go (turned-down r e) = unfold filled withRows in refl
-    go (stepped p o) = by-outcome o
 
 module _ (job : Job) (results : List ℕ) where
   pub length-withRows : (n : ℕ) → length (withRows job n results) ≡ length results
@@ -166,13 +156,25 @@ module _ (job : Job) (results : List ℕ) where
             (row-fits (step-row job (timeAt (job .run) n) (rowAt job n) (h n (omega arith)))))
       ]
 
+module _ (job : Job) (lists : Lent) where
+  pub rows-stored : runOf job lists .ran .results ≡ withRows job (filled (runOf job lists .ran .answer)) (lists .results)
+  rows-stored = go (finished job lists)
+    where
+      by-outcome : {n : ℕ} {run : Ran} → Outcome job (lists .results) n run → run .results ≡ withRows job (filled (run .answer)) (lists .results)
+      by-outcome (all-rows h) = unfold filled in refl
+      by-outcome (cut-short k r l h e) = unfold filled in refl
+
+      go : {run : Ran} → Finished job lists run → run .results ≡ withRows job (filled (run .answer)) (lists .results)
+      go (turned-down r e) = unfold filled withRows in refl
+      go (stepped p o) = by-outcome o
+
   -- the list is as long as it was
-  pub run-length : length (plainRun job results .results) ≡ length results
-  run-length = ap length (rows-stored job results) ∙ length-withRows (filled (plainRun job results .answer))
+  pub run-length : length (runOf job lists .ran .results) ≡ length (lists .results)
+  run-length = ap length rows-stored ∙ length-withRows job (lists .results) (filled (runOf job lists .ran .answer))
 
   -- bytes past the rows that are stored stay as they were: those of a refused step and of later ones, and all past the last step
-  pub run-untouched : (b : ℕ) → 48 * filled (plainRun job results .answer) ≤ b → getD (plainRun job results .results) b 0 ≡ getD results b 0
-  run-untouched b h = ap (λ (l : List ℕ). getD l b 0) (rows-stored job results) ∙ byte-withRows (filled (plainRun job results .answer)) b h
+  pub run-untouched : (b : ℕ) → 48 * filled (runOf job lists .ran .answer) ≤ b → getD (runOf job lists .ran .results) b 0 ≡ getD (lists .results) b 0
+  run-untouched b h = ap (λ (l : List ℕ). getD l b 0) rows-stored ∙ byte-withRows job (lists .results) (filled (runOf job lists .ran .answer)) b h
 
 -- a row that is stored
 pub record Stored (job : Job) (results : List ℕ) (i : ℕ) : Type 0 where
@@ -180,17 +182,20 @@ pub record Stored (job : Job) (results : List ℕ) (i : ℕ) : Type 0 where
   pub held : Holding results i (rowAt job i)
 
 -- every row before the place where it ends is its step's, also where a later step is refused
-pub run-rows : (job : Job) (results : List ℕ) (i : ℕ) → i < filled (plainRun job results .answer) → Stored job (plainRun job results .results) i
-run-rows job results i l = go (finished job results) l
+pub run-rows : (job : Job) (lists : Lent) (i : ℕ) → i < filled (runOf job lists .ran .answer) → Stored job (runOf job lists .ran .results) i
+run-rows job lists i l = go (finished job lists) l
   where
+    results : List ℕ
+    results = lists .results
+
     stored : (n : ℕ) → 6 * n ≤ wordCount results → ((j : ℕ) → j < n → HasRow job j) → i < n → Stored job (withRows job n results) i
     stored n w h l = record { has-row = h i l; held = rows-held job results n i w h l }
 
-    by-outcome : {run : Ran} → Passed job (resultsFine (job .run) results) → Outcome job results (stepCount (job .run)) run → i < filled (run .answer) → Stored job (run .results) i
-    by-outcome p (all-rows h) l = unfold filled in stored (stepCount (job .run)) (rows-fit results p) h l
-    by-outcome p (cut-short k r m h e) l = unfold filled in let w = rows-fit results p in stored k (omega arith) h l
+    by-outcome : {run : Ran} → Passed job (roomFine (job .run) lists) → Outcome job results (stepCount (job .run)) run → i < filled (run .answer) → Stored job (run .results) i
+    by-outcome p (all-rows h) l = unfold filled in stored (stepCount (job .run)) (rows-fit job lists p) h l
+    by-outcome p (cut-short k r m h e) l = unfold filled in let w = rows-fit job lists p in stored k (omega arith) h l
 
-    go : {run : Ran} → Finished job results run → i < filled (run .answer) → Stored job (run .results) i
+    go : {run : Ran} → Finished job lists run → i < filled (run .answer) → Stored job (run .results) i
     go (turned-down r e) l = unfold filled in absurd (omega arith)
     go (stepped p o) l = by-outcome p o l
 
@@ -211,31 +216,31 @@ number-above refusal.NoSector = omega arith
 number-above refusal.Reveal = omega arith
 number-above refusal.Line = omega arith
 
-pub not-accepted : (r : Refusal) (i : ℕ) → numberFor (Refused r i) ≡ 0 → ⊥
-unfolding numberFor
-not-accepted r i e = let h = number-above r in omega arith
-
 -- its steps all have rows, and it comes to this
 unfoldable pub done : Job → List ℕ → Ran
 done job results = let n = stepCount (job .run) in ran (Accepted n (sumTo job n)) (withRows job n results)
 
-pub record AcceptedRun (job : Job) (results : List ℕ) : Type 0 where
-  pub checks : Passed job (resultsFine (job .run) results)
+pub record AcceptedRun (job : Job) (lists : Lent) : Type 0 where
+  pub checks : Passed job (roomFine (job .run) lists)
   pub has-rows : (i : ℕ) → i < stepCount (job .run) → HasRow job i
-  pub comes-to : plainRun job results ≡ done job results
+  pub comes-to : runOf job lists .ran ≡ done job (lists .results)
 
-pub accepted-run : (job : Job) (results : List ℕ) → numberFor (plainRun job results .answer) ≡ 0 → AcceptedRun job results
-accepted-run job results e = go refl (finished job results) e
+pub accepted-run : (job : Job) (lists : Lent) → numberFor (runOf job lists .ran .answer) ≡ 0 → AcceptedRun job lists
+accepted-run job lists e = go refl (finished job lists) e
   where
-    by-outcome : {run : Ran} → plainRun job results ≡ run → Passed job (resultsFine (job .run) results) → Outcome job results (stepCount (job .run)) run → numberFor (run .answer) ≡ 0 → AcceptedRun job results
-    by-outcome k p (all-rows h) e = record { checks = p; has-rows = h; comes-to = unfold done in k }
-    by-outcome k p (cut-short i r l h s) e = absurd (not-accepted r i e)
+    refused : (r : Refusal) (i : ℕ) → numberFor (Refused r i) ≡ 0 → ⊥
+    refused r i e = unfold numberFor in let h = number-above r in omega arith
 
-    go : {run : Ran} → plainRun job results ≡ run → Finished job results run → numberFor (run .answer) ≡ 0 → AcceptedRun job results
-    go k (turned-down r c) e = absurd (not-accepted r 0 e)
+    by-outcome : {run : Ran} → runOf job lists .ran ≡ run → Passed job (roomFine (job .run) lists) → Outcome job (lists .results) (stepCount (job .run)) run → numberFor (run .answer) ≡ 0
+        → AcceptedRun job lists
+    by-outcome k p (all-rows h) e = record { checks = p; has-rows = h; comes-to = unfold done in k }
+    by-outcome k p (cut-short i r l h s) e = absurd (refused r i e)
+
+    go : {run : Ran} → runOf job lists .ran ≡ run → Finished job lists run → numberFor (run .answer) ≡ 0 → AcceptedRun job lists
+    go k (turned-down r c) e = absurd (refused r 0 e)
     go k (stepped p o) e = by-outcome k p o e
 
 -- its results hold every row
-pub done-rows : {job : Job} {results : List ℕ} → AcceptedRun job results → (i : ℕ) → i < stepCount (job .run) → Holding (done job results .results) i (rowAt job i)
+pub done-rows : {job : Job} {lists : Lent} → AcceptedRun job lists → (i : ℕ) → i < stepCount (job .run) → Holding (done job (lists .results) .results) i (rowAt job i)
 unfolding done
-done-rows {job} {results} a i h = rows-held job results (stepCount (job .run)) i (rows-fit results (a .checks)) (a .has-rows) h
+done-rows {job} {lists} a i h = rows-held job (lists .results) (stepCount (job .run)) i (rows-fit job lists (a .checks)) (a .has-rows) h

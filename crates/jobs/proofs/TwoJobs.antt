@@ -23,12 +23,11 @@ use Rattle.shading_laws.proofs.Answers.{answer-nonneg, answer-le-one, answer-no
 use Rattle.weather.specs.Weather.{readSeries}
 use Rattle.jobs.specs.Job.{Job, indexAt, readingAt}
 use Rattle.jobs.specs.Step.{sunAt, irradianceAt, shadingAt}
-use Rattle.jobs.specs.Run.{Ran, withRow, countFor, sumFor}
-use Rattle.jobs.specs.Comparison.{factorAt, directAt, countOf, sumOf, unshadedSum, IsAccepted, SameSeries, Alike, BoundedAlike, HoldsAll, SameObjects, NoObjects, NoNan, Doubles, Lawful, NoLarger, Compared, TwoJobsCompared}
+use Rattle.jobs.specs.Run.{Ran, Lent, withRow, countFor, sumFor}
+use Rattle.jobs.specs.Comparison.{factorAt, directAt, countOf, sumOf, unshadedSum, SameSeries, Alike, BoundedAlike, HoldsAll, SameObjects, NoObjects, NoNan, Doubles, Lawful, NoLarger, Compared, TwoJobsCompared}
 use Rattle.jobs.proofs.StepRows.{StepRow, step-row, row-fits}
 use Rattle.jobs.proofs.PassedChecks.{surface-accepted, near-accepted}
 use Rattle.jobs.proofs.EveryHour.{step-irradiance}
-use Rattle.jobs.proofs.WithTableLaws.{accepted-without}
 use Rattle.jobs.proofs.RunLaws.{rowAt, sumTo, done, AcceptedRun, accepted-run, done-rows}
 use Rattle.doubles.proofs.Exact.{one-times}
 use Rattle.jobs.proofs.Sums.{total, total-same, total-nonneg, total-mono, Part, Amount, part-nonneg, part-mono, part-le}
@@ -51,20 +50,20 @@ unfolding unshadedSum total
 unshaded-is run zero = refl
 unshaded-is run (suc n) = ap (λ (s : Float). s ⊕ directAt run n) (unshaded-is run n)
 
-module _ {job : Job} {results : List ℕ} (a : AcceptedRun job results) where
-  count-is : countOf (done job results) ≡ stepCount (job .run)
+module _ {job : Job} {lists : Lent} (a : AcceptedRun job lists) where
+  count-is : countOf (done job (lists .results)) ≡ stepCount (job .run)
   unfolding countOf countFor done
   count-is = refl
 
-  sum-done : sumOf (done job results) ≡ total (shaded job) (stepCount (job .run))
+  sum-done : sumOf (done job (lists .results)) ≡ total (shaded job) (stepCount (job .run))
   unfolding sumOf sumFor done
   sum-done = sum-is job (stepCount (job .run))
 
-  factor-is : (i : ℕ) → i < stepCount (job .run) → factorAt (done job results) i ≡ rowAt job i .factor
+  factor-is : (i : ℕ) → i < stepCount (job .run) → factorAt (done job (lists .results)) i ≡ rowAt job i .factor
   unfolding factorAt
   factor-is i h = done-rows a i h .factor
 
-  pub direct-is : (i : ℕ) → i < stepCount (job .run) → directAt (done job results) i ≡ rowAt job i .direct
+  pub direct-is : (i : ℕ) → i < stepCount (job .run) → directAt (done job (lists .results)) i ≡ rowAt job i .direct
   unfolding directAt
   direct-is i h = done-rows a i h .direct
 
@@ -81,7 +80,7 @@ module _ {job : Job} {results : List ℕ} (a : AcceptedRun job results) where
 
 -- ---- one run
 
-module _ {job : Job} {results : List ℕ} (a : AcceptedRun job results) (d : Doubles (job .surface)) (n : NoNan job) where
+module _ {job : Job} {lists : Lent} (a : AcceptedRun job lists) (d : Doubles (job .surface)) (n : NoNan job) where
   part : (i : ℕ) → i < stepCount (job .run) → Part (rowAt job i .factor)
   part i h = record {
     low = answer-nonneg (surface-accepted (a .checks) d) (n .at-step i h) (near-accepted (a .checks)) (rowAt job i .factor) (factor-answer a i h);
@@ -104,10 +103,10 @@ module _ {job : Job} {results : List ℕ} (a : AcceptedRun job results) (d : Dou
       subst Amount (sym (row-of a i h .direct)) (record { finite = parts .direct; low = parts .direct-from; fits = subst Fits (row-of a i h .direct) (row-fits (row-of a i h) .direct) })
 
   -- the unshaded sum is that of the rows' direct values
-  unshaded-done : unshadedSum (done job results) (stepCount (job .run)) ≡ total (λ (i : ℕ). rowAt job i .direct) (stepCount (job .run))
+  unshaded-done : unshadedSum (done job (lists .results)) (stepCount (job .run)) ≡ total (λ (i : ℕ). rowAt job i .direct) (stepCount (job .run))
   unshaded-done =
-      unshaded-is (done job results) (stepCount (job .run))
-      ∙ total-same (directAt (done job results)) (λ (i : ℕ). rowAt job i .direct) (stepCount (job .run)) (direct-is a)
+      unshaded-is (done job (lists .results)) (stepCount (job .run))
+      ∙ total-same (directAt (done job (lists .results))) (λ (i : ℕ). rowAt job i .direct) (stepCount (job .run)) (direct-is a)
 
   shaded-nonneg : (i : ℕ) → i < stepCount (job .run) → whole 0 ≼ shaded job i
   unfolding shaded
@@ -121,7 +120,7 @@ module _ {job : Job} {results : List ℕ} (a : AcceptedRun job results) (d : Dou
   unfolding shaded
   shaded-one o i h = ap (λ (x : Float). x ⊗ rowAt job i .direct) (one o i h) ∙ one-times (row-fits (row-of a i h) .direct)
 
-  lawful : Lawful job (done job results)
+  lawful : Lawful job (done job (lists .results))
   unfolding countOf countFor done
   lawful =
       let n : ℕ = stepCount (job .run) in
@@ -149,7 +148,7 @@ reading-alike {j} {k} l time =
       reflectivity = (l .reflectivities .values (indexAt j time) ∙ ap (doubleAt (k .reflectivity)) e) x;
     }
 
-module _ {j k : Job} {r s : List ℕ} (l : Alike j k) (a : AcceptedRun j r) (b : AcceptedRun k s) where
+module _ {j k : Job} {r s : Lent} (l : Alike j k) (a : AcceptedRun j r) (b : AcceptedRun k s) where
   counts-alike : stepCount (j .run) ≡ stepCount (k .run)
   counts-alike = ap stepCount (l .runs)
 
@@ -214,7 +213,7 @@ module _ {j k : Job} {r s : List ℕ} (l : Alike j k) (a : AcceptedRun j r) (b :
           rw (directs-alike i (of-first h)) (part-mono (part a d n i (of-first h)) (part b second-doubles m i h) (amount b second-doubles m i h) (factors-more o i (of-first h)))
 
       -- more objects: nowhere larger
-      no-larger : NoLarger (done k s) (done j r)
+      no-larger : NoLarger (done k (s .results)) (done j (r .results))
       unfolding countOf countFor done
       no-larger = record {
         factors = λ i h. rw (factor-is b i h, factor-is a i (of-first h)) (factors-more o i (of-first h));
@@ -242,9 +241,9 @@ bounded-back b = record {
   ends = λ i h. level-back (b .ends i (rw (b .lengths) h));
 }
 
-module _ {j k : Job} {r s : List ℕ} (l : Alike j k) (a : AcceptedRun j r) (b : AcceptedRun k s) (d : Doubles (j .surface)) (n : NoNan j) (m : NoNan k)
+module _ {j k : Job} {r s : Lent} (l : Alike j k) (a : AcceptedRun j r) (b : AcceptedRun k s) (d : Doubles (j .surface)) (n : NoNan j) (m : NoNan k)
     (c : BoundedAlike (j .sectors) (k .sectors)) where
-  compared : Compared j k (done j r) (done k s)
+  compared : Compared j k (done j (r .results)) (done k (s .results))
   unfolding countOf countFor done
   compared =
       let count : ℕ = stepCount (j .run) in
@@ -264,9 +263,7 @@ module _ {j k : Job} {r s : List ℕ} (l : Alike j k) (a : AcceptedRun j r) (b :
 
 pub two-jobs-compared : TwoJobsCompared
 two-jobs-compared j k r s c =
-    let p = accepted-without j r (c .first-accepted) in
-    let q = accepted-without k s (c .second-accepted) in
-    let a = accepted-run j (r .results) (subst IsAccepted p (c .first-accepted)) in
-    let b = accepted-run k (s .results) (subst IsAccepted q (c .second-accepted)) in
-    subst₂ (Compared j k) (sym (p ∙ a .comes-to)) (sym (q ∙ b .comes-to))
+    let a = accepted-run j r (c .first-accepted) in
+    let b = accepted-run k s (c .second-accepted) in
+    subst₂ (Compared j k) (sym (a .comes-to)) (sym (b .comes-to))
     (compared (c .alike) a b (c .doubles) (c .first-extents) (c .second-extents) (c .bounded))

@@ -1,27 +1,22 @@
 -- Days worked out once: the claim, proved. Assumes nothing.
-use mathlib.Core.Path.{_≡_, refl, ap, _∙_, subst}
+use mathlib.Core.Path.{_≡_, ap, _∙_, subst}
 use mathlib.Core.Bool.{Bool, _&&_}
 use mathlib.Core.List.{List}
 use Prim.Native.Nat.{ℕ, _+_, _/_, _≤_, _<_}
 use native.Mathlib.Omega.{arith}
-use borrow.Author.Tests.{leb-true}
-use lib.ListN.{length}
 use lib.Dec.{T}
 use lib.Ieee.Bits.{is-true}
-use lib.Ieee.Fits.{and-l}
 use Rattle.days.specs.Day.{dayOf}
 use Rattle.days.specs.Table.{dayAt, withDayTable}
 use Rattle.days.proofs.TableLaws.{table-read}
 use Rattle.simulation_time.specs.Steps.{stepCount}
 use Rattle.jobs.specs.declared.answers.Checked.{Checked}
-use Rattle.jobs.specs.declared.answers.Checked.the-variants.{Steps, Refused}
+use Rattle.jobs.specs.declared.answers.Checked.the-variants.{Steps}
 use Rattle.jobs.specs.Job.{Job}
 use Rattle.jobs.specs.JobChecks.{daysFine, resultsFine, checked}
 use Rattle.jobs.specs.Run.{Lent, roomFine, runChecked, daysLeft, runOf, plainRun}
-use Rattle.jobs.specs.Comparison.{IsAccepted}
 use Rattle.jobs.specs.WithTable.{dayOfStep, DaysWorkedOutOnce}
-use Rattle.jobs.proofs.PassedChecks.{Passed, passed, hour-below, day-in-year}
-use Rattle.jobs.proofs.RunLaws.{not-accepted}
+use Rattle.jobs.proofs.PassedChecks.{Passed, passed, days-fit, hour-below, day-in-year}
 
 module _ (job : Job) (lists : Lent) where
   pub same-without : T (daysFine (lists .days)) → runOf job lists .ran ≡ plainRun job (lists .results)
@@ -33,30 +28,12 @@ module _ (job : Job) (lists : Lent) where
   unfolding runOf daysLeft
   days-filled n e = ap (λ (checks : Checked). daysLeft checks (lists .days)) e
 
-  -- and it has room for the table
-  room-for-days : (n : ℕ) → checked job (roomFine (job .run) lists) ≡ Steps n → T (daysFine (lists .days))
-  unfolding roomFine
-  room-for-days n e = and-l (daysFine (lists .days)) (resultsFine (job .run) (lists .results)) (passed job (roomFine (job .run) lists) n e .0 .room-fine)
-
-  pub days-fit : (n : ℕ) → checked job (roomFine (job .run) lists) ≡ Steps n → 8784 ≤ length (lists .days)
-  unfolding daysFine
-  days-fit n e = leb-true 8784 (length (lists .days)) (is-true _ (room-for-days n e))
-
-  -- an accepted run is that without the table
-  pub accepted-without : IsAccepted (runOf job lists .ran) → runOf job lists .ran ≡ plainRun job (lists .results)
-  unfolding runOf
-  accepted-without a = same-without (go (checked job (roomFine (job .run) lists)) refl a)
-    where
-      go : (c : Checked) → checked job (roomFine (job .run) lists) ≡ c → IsAccepted (runChecked c job (lists .results)) → T (daysFine (lists .days))
-      go (Steps n) e a = room-for-days n e
-      go (Refused r) e a = unfold runChecked in absurd (not-accepted r 0 a)
-
   -- the record of a step's day
   days-read : (n : ℕ) → checked job (roomFine (job .run) lists) ≡ Steps n → Passed job (roomFine (job .run) lists) → (i : ℕ) → i < stepCount (job .run)
       → dayAt (runOf job lists .days) (dayOfStep job i) ≡ dayOf (dayOfStep job i + 1)
   days-read n e p i h =
       ap (λ (days : List ℕ). dayAt days (dayOfStep job i)) (days-filled n e)
-      ∙ table-read (lists .days) (days-fit n e) .day (dayOfStep job i) (omega (arith, hour-below p i h))
+      ∙ table-read (lists .days) (days-fit job lists p) .day (dayOfStep job i) (omega (arith, hour-below p i h))
 
 pub days-worked-out-once : DaysWorkedOutOnce
 days-worked-out-once job lists = record {

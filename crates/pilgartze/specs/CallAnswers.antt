@@ -12,7 +12,7 @@ use Rattle.objects.specs.declared.answers.FactorAnswer.the-variants.{Factor, Re
 use Rattle.objects.specs.Refusals.{numberOf}
 use Rattle.jobs.specs.declared.answers.RunAnswer.{RunAnswer}
 use Rattle.weather.specs.declared.Reading.{Reading}
-use Rattle.jobs.specs.Run.{Ran, numberFor, stepFor, countFor, sumFor}
+use Rattle.jobs.specs.Run.{Left, numberFor, stepFor, countFor, sumFor}
 use Rattle.single_steps.specs.Single.{Called, singleNumber}
 use Rattle.pilgartze.specs.declared.Answer.{Answer}
 use Rattle.pilgartze.specs.declared.ShadingFactor.{ShadingFactor}
@@ -25,10 +25,11 @@ unfolding whole
 factorFor (Factor x) = record { number = 0; factor = x }
 factorFor (Refused r) = record { number = numberOf r; factor = whole 0 }
 
--- ---- what a call leaves: its answer, and the results list at exit
+-- ---- what a call leaves: its answer, and the lists at exit that it was lent to store in
 
-unfoldable pub runLeaves : Ran → Answer × List ℕ
-runLeaves left = (answerFor (left .answer), left .results)
+-- the table of days, and the results
+unfoldable pub runLeaves : Left → Answer × List ℕ × List ℕ
+runLeaves left = (answerFor (left .ran .answer), left .days, left .ran .results)
 
 unfoldable pub callLeaves : Called → ℕ × List ℕ
 callLeaves left = (singleNumber (left .answer), left .results)

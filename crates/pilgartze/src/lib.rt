@@ -1,9 +1,10 @@
-// The library that a C program links. Each function checks all that it is given, ends, and touches nothing but the results.
+// The library that a C program links. Each function checks all that it is given, ends, and touches nothing but the results
+// and the table of days.
 // `include/pilgartze.h` says the same for C.
 ghost use mathlib.Core.Path.{_≡_};
 ghost use Rattle.shading.specs.Call.{factorCall};
 ghost use Rattle.jobs.specs.Job.{jobOf};
-ghost use Rattle.jobs.specs.Run.{runOf};
+ghost use Rattle.jobs.specs.Run.{lent, runOf};
 ghost use Rattle.jobs.specs.Comparison.{Doubles};
 ghost use Rattle.single_steps.specs.Single.{stepCall, irradianceCall};
 ghost use Rattle.pilgartze.specs.CallAnswers.{answerFor, factorFor, runLeaves, callLeaves, siteOf, timesOf, surfaceOf, readingOf};
@@ -100,15 +101,15 @@ fn surface_of(tilt: f64, orientation: f64, base_height: f64, height: f64, width:
     }
 }
 
-// The version of the library that is linked: 1.0.1, as the header's PILGARTZE_VERSION.
+// The version of the library that is linked: 2.0.0, as the header's PILGARTZE_VERSION.
 #[no_mangle]
 pub extern "C" fn pilgartze_version() -> u64
     ensures { λ r. ⌜ r ≡ version ⌝ }
 {
-    1000001
+    2000000
 }
 
-// A run: a row of six doubles for each step, and the sum of factor times direct. That height and width are doubles is what the claim on
+// A run: the table of days, a row of six doubles for each step, and the sum of factor times direct. That height and width are doubles is what the claim on
 // two jobs compared asks of them (`Comparison` of `jobs`).
 #[no_mangle]
 pub extern "C" fn pilgartze_run(
@@ -132,13 +133,14 @@ pub extern "C" fn pilgartze_run(
     reflectivity: &[u8],
     sectors: &[u8],
     window: &[u8],
+    days: &mut [u8],
     results: &mut [u8],
 ) -> Answer
-    ensures { λ r. ⌜ (r, now (results .exit)) ≡ runLeaves (runOf
+    ensures { λ r. ⌜ (r, now (days .exit), now (results .exit)) ≡ runLeaves (runOf
         (jobOf (siteOf latitude longitude timezone «start_day» «series_step» «leap_year» «direct_beam_conversion»)
         (timesOf start end step) (surfaceOf tilt orientation «base_height» height width)
         (now (diffuse .entry)) (now (direct .entry)) (now (reflectivity .entry)) (now (sectors .entry)) (now (window .entry)))
-        (now (results .entry))) ⌝ }
+        (lent (now (days .entry)) (now (results .entry)))) ⌝ }
     ensures { λ _. ⌜ Doubles (surfaceOf tilt orientation «base_height» height width) ⌝ }
 {
     let site = site_of(
@@ -165,6 +167,7 @@ pub extern "C" fn pilgartze_run(
         reflectivity,
         sectors,
         window,
+        days,
         results,
     ))
 }

@@ -23,7 +23,7 @@ use Rattle.single_steps.specs.Single.{timeFine, stepChecked, called, sto
 use Rattle.jobs.specs.JobChecks.{tried}
 use Rattle.jobs.specs.Job.{Job, readingAt}
 use Rattle.jobs.specs.Step.{stepAt}
-use Rattle.jobs.specs.Run.{putRow, runOf}
+use Rattle.jobs.specs.Run.{putRow, Lent, runOf}
 use Rattle.simulation_time.specs.Steps.{timeAt}
 use Rattle.jobs.proofs.RowStores.{Holding}
 use Rattle.jobs.proofs.RunLaws.{rowAt, filled, run-rows}
@@ -59,12 +59,12 @@ lists-passed site time surface reading sectors window results e =
     (is-true (sectorsFine sectors) (and-l (sectorsFine sectors) (windowFine window) t), is-true (windowFine window) (and-r (sectorsFine sectors) (windowFine window) t))
 
 -- A single-step call that is given what a run reads at a step, and passes its checks, stores the row that the run holds there.
-pub record RunsRow (job : Job) (r s : List ℕ) (i : ℕ) : Type 0 where
-  pub held : Holding (runOf job r .results) i (rowAt job i)
+pub record RunsRow (job : Job) (r : Lent) (s : List ℕ) (i : ℕ) : Type 0 where
+  pub held : Holding (runOf job r .ran .results) i (rowAt job i)
   pub stored : stepCall (job .site) (timeAt (job .run) i) (job .surface) (readingAt job (timeAt (job .run) i)) (job .sectors) (job .window) s
       ≡ called Accepted (putRow s 0 (rowAt job i))
 
-pub runs-row : (job : Job) (r s : List ℕ) (i : ℕ) → i < filled (runOf job r .answer)
+pub runs-row : (job : Job) (r : Lent) (s : List ℕ) (i : ℕ) → i < filled (runOf job r .ran .answer)
     → stepChecked (job .site) (timeAt (job .run) i) (job .surface) (readingAt job (timeAt (job .run) i)) (job .sectors) (job .window) s ≡ Accepted
     → RunsRow job r s i
 unfolding stepCall unlessRefused storedStep stepAt

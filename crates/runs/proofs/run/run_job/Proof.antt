@@ -9,8 +9,7 @@ use Rattle.simulation_time.specs.RunChecks.{runAccepted}
 use Rattle.object_checks.specs.Checks.{sectorsFine, windowFine}
 use Rattle.jobs.specs.Job.{Job, jobOf}
 use Rattle.jobs.specs.Run.{Lent, lent, roomFine, daysLeft, runOf, runChecked}
-use Rattle.jobs.proofs.PassedChecks.{passed}
-use Rattle.jobs.proofs.WithTableLaws.{days-fit}
+use Rattle.jobs.proofs.PassedChecks.{passed, days-fit}
 use borrow.Author.Needs.{needs}
 use Rattle.runs.proofs.run.run_job.Statement.{statement}
 use Rattle.runs.proofs.run.run_job.Tie as tie
@@ -35,14 +34,15 @@ lists c = lent (now (c .args .days)) (now (c .args .results))
 fill-days-requires : tie.Need-fill-days-requires
 fill-days-requires c κs =
     let s = c .before .before .before .before .before .before .before .before .before .before .before .before .before .before in
-    days-fit (job s) (lists s) _ (sym (c .before .before .before .before .check-job .ensures) ∙ c .before .before .answer2 .given .1)
+    let checks = sym (c .before .before .before .before .check-job .ensures) ∙ c .before .before .answer2 .given .1 in
+    days-fit (job s) (lists s) (passed (job s) (roomFine (s .args .run) (lists s)) _ checks .0)
 
 run-steps-requires : tie.Need-run-steps-requires
 run-steps-requires c κs =
     let s = c .before .before .before .before .before .before .before .before .before .before .before .before .before .before .before .before .before .before .before in
     let checks = sym (c .before .before .before .before .before .before .before .before .before .check-job .ensures) ∙ c .before .before .before .before .before .before .before .answer2 .given .1 in
     let p = passed (job s) (roomFine (s .args .run) (lists s)) _ checks in
-    let holds = subst HoldsDays (sym (c .before .before .before .before .fill-days .ensures)) (table-read (now (s .args .days)) (days-fit (job s) (lists s) _ checks)) in (
+    let holds = subst HoldsDays (sym (c .before .before .before .before .fill-days .ensures)) (table-read (now (s .args .days)) (days-fit (job s) (lists s) (p .0))) in (
       is-true (siteFine (s .args .site)) (p .0 .site-fine),
       (
         is-true (runAccepted (hoursInYear (s .args .site)) (s .args .run)) (p .0 .run-fine),
