@@ -4,7 +4,7 @@ ghost use mathlib.Core.Path.{_≡_};
 ghost use mathlib.Core.List.{[]};
 ghost use lib.ListN.{replicate};
 ghost use Rattle.doubles.specs.Arithmetic.{whole};
-ghost use Rattle.jobs.specs.Run.{runOf};
+ghost use Rattle.jobs.specs.Run.{lent, runOf};
 ghost use Rattle.lines.specs.Line.{wholeHorizon};
 ghost use Rattle.edges.specs.Shades.{southWall, factorAt, horizonWith, twoSectors, nearObstacle, windowWith, oneReveal, threeHours};
 use jobs::answers::RunAnswer;
@@ -89,7 +89,7 @@ pub fn two_sectors_factor(start: f64, azimuth: f64) -> FactorAnswer
 
 // A run from 0 to 3 by steps of 1.
 pub fn three_hours() -> RunAnswer
-    ensures { λ r. ⌜ r ≡ runOf threeHours (replicate 144 0) .answer ⌝ }
+    ensures { λ r. ⌜ r ≡ runOf threeHours (lent (replicate 8784 0) (replicate 144 0)) .ran .answer ⌝ }
 {
     let site = Site {
         latitude: 51.0,
@@ -107,6 +107,7 @@ pub fn three_hours() -> RunAnswer
     };
     let series = [0u8; 24];
     let sectors = whole_horizon();
+    let mut days = [0u8; 8784];
     let mut results = [0u8; 144];
     runs::run::run_job(
         site,
@@ -117,6 +118,7 @@ pub fn three_hours() -> RunAnswer
         &series,
         &sectors,
         b"",
+        &mut days,
         &mut results,
     )
 }

@@ -15,7 +15,7 @@ use Rattle.shading.specs.Call.{factorCall}
 use Rattle.sun.specs.declared.site.Site.{Site}
 use Rattle.simulation_time.specs.declared.run.Run.{Run}
 use Rattle.jobs.specs.Job.{Job, jobOf}
-use Rattle.jobs.specs.Run.{Ran, runOf, numberFor, stepFor, countFor, sumFor}
+use Rattle.jobs.specs.Run.{Ran, Lent, lent, runOf, numberFor, stepFor, countFor, sumFor}
 use Rattle.jobs.specs.declared.answers.RunAnswer.{RunAnswer}
 use Rattle.text.specs.Text.{sameText, linesOf}
 use Rattle.listing.specs.Listing.{body}
@@ -90,9 +90,9 @@ answerKept l answer = isRun l (numberFor answer) (stepFor answer) (countFor answ
 unfoldable pub runKept : List ℕ → List ℕ → Ran → Bool
 runKept l left ran = sameText (ran .results) left && answerKept l (ran .answer)
 
--- before the run every byte of the results is A5; as many are lent as there are afterwards, at most 1,024
-unfoldable pub lent : List ℕ → List ℕ
-lent left = take (length left) (replicate 1024 0xA5)
+-- before the run every byte of the lists is A5; as many of the results are lent as there are afterwards, at most 1,024
+unfoldable pub listsFor : List ℕ → Lent
+listsFor left = lent (replicate 8784 0xA5) (take (length left) (replicate 1024 0xA5))
 
 -- with the first three lists, behind which the other three follow from place `at` on
 unfoldable pub seriesKept : List ℕ → ℕ → List ℕ → List ℕ → List ℕ → Bool
@@ -100,7 +100,7 @@ seriesKept l at diffuse direct reflectivity =
     let a = listEnd l at (wordAt l 20) in
     let b = listEnd l a (wordAt l 21) in
     let left = part l b (listEnd l b (wordAt l 22)) in
-    runKept l left (runOf (keptJob l diffuse direct reflectivity (part l at a) (part l a b)) (lent left))
+    runKept l left (runOf (keptJob l diffuse direct reflectivity (part l at a) (part l a b)) (listsFor left) .ran)
 
 unfoldable pub runDiffers : List ℕ → Bool
 runDiffers l =

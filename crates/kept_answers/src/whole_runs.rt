@@ -2,8 +2,8 @@
 ghost use mathlib.Core.Path.{_≡_};
 ghost use Prim.Native.Nat.{_≤_};
 ghost use lib.ListN.{length};
-ghost use Rattle.jobs.specs.Run.{runOf};
-ghost use Rattle.kept_answers.specs.Differs.{wholeOf, siteOf, runAt, keptJob, isRun, answerKept, runKept, lent, seriesKept, runDiffers};
+ghost use Rattle.jobs.specs.Run.{lent, runOf};
+ghost use Rattle.kept_answers.specs.Differs.{wholeOf, siteOf, runAt, keptJob, isRun, answerKept, runKept, listsFor, seriesKept, runDiffers};
 use crate::parts::list_end;
 use crate::parts::surface_at;
 use jobs::answers::RunAnswer;
@@ -82,11 +82,12 @@ fn is_answered(
     sectors: &[u8],
     window: &[u8],
     left: &[u8],
+    days: &mut [u8],
     results: &mut [u8],
 ) -> bool
     ensures { λ r. ⌜ r ≡ runKept (now (kept .entry)) (now (left .entry))
         (runOf (keptJob (now (kept .entry)) (now (diffuse .entry)) (now (direct .entry)) (now (reflectivity .entry))
-        (now (sectors .entry)) (now (window .entry))) (now (results .entry))) ⌝ }
+        (now (sectors .entry)) (now (window .entry))) (lent (now (days .entry)) (now (results .entry))) .ran) ⌝ }
 {
     let answer = run_job(
         site_of(kept),
@@ -97,12 +98,13 @@ fn is_answered(
         reflectivity,
         sectors,
         window,
+        days,
         results,
     );
     same_text(results, left) & answers(kept, answer)
 }
 
-// As many bytes of results are lent as there are afterwards; at most 1,024.
+// As many bytes of results are lent as there are afterwards, at most 1,024, and a table of days.
 fn with_lists(
     kept: &[u8],
     diffuse: &[u8],
@@ -114,8 +116,9 @@ fn with_lists(
 ) -> bool
     ensures { λ r. ⌜ r ≡ runKept (now (kept .entry)) (now (left .entry))
         (runOf (keptJob (now (kept .entry)) (now (diffuse .entry)) (now (direct .entry)) (now (reflectivity .entry))
-        (now (sectors .entry)) (now (window .entry))) (lent (now (left .entry)))) ⌝ }
+        (now (sectors .entry)) (now (window .entry))) (listsFor (now (left .entry))) .ran) ⌝ }
 {
+    let mut days = [0xA5u8; 8784];
     let mut results = [0xA5u8; 1024];
     let n = least(left.len(), 1024);
     is_answered(
@@ -126,6 +129,7 @@ fn with_lists(
         sectors,
         window,
         left,
+        &mut days,
         &mut results[..n],
     )
 }

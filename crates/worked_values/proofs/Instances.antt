@@ -45,9 +45,9 @@ use Rattle.shading_laws.specs.Premises.{AllNumbers, NoNanExtent, Holds}
 use Rattle.jobs.specs.declared.answers.Checked.the-variants as check
 use Rattle.weather.specs.Weather.{inSeries, readSeries, readingFine}
 use Rattle.jobs.specs.Job.{Job}
-use Rattle.jobs.specs.JobChecks.{indicesFine, readingsFine, resultsFine, tried, checked}
+use Rattle.jobs.specs.JobChecks.{indicesFine, readingsFine, daysFine, resultsFine, tried, checked}
 use Rattle.jobs.specs.Step.{sunAt, shadingAt, rowWith, stepWith, stepAt}
-use Rattle.jobs.specs.Run.{numberFor, onRow, runFrom, runChecked, runOf}
+use Rattle.jobs.specs.Run.{numberFor, onRow, runFrom, runChecked, Lent, lent, roomFine, runOf}
 use Rattle.jobs.specs.Comparison.{sumOf, SameSeries, Alike, triple, sectorObjects, windowObject, windowObjects, HoldsAll, SameObjects, NoNan, Doubles, IsAccepted, Comparable}
 use Rattle.segments.proofs.SameWalks.{found-has}
 use Rattle.shading_laws.proofs.Members.{extents-into}
@@ -124,8 +124,8 @@ built = jobWith (zeros 1 ++ round ++ word 2 ++ wall ++ eaves ++ zeros 18) awning
 mixed : Job
 mixed = jobWith (minus-zero ++ round ++ word 3 ++ eaves ++ wall ++ eaves ++ zeros 15) (awning ++ awning)
 
-room : List ℕ
-room = zeros 12
+room : Lent
+room = lent (zeros 1098) (zeros 12)
 
 -- ---- all that the values are computed from: to unfold these names unfolds them
 
@@ -139,7 +139,7 @@ unfolding add sub mul div lt le neg eq ne isNan toUnsigned bits whole decimal of
 doubles = 0
 
 checks : ℕ
-unfolding lists doubles checked tried siteFine hoursInYear atAll indicesFine readingsFine readingFine resultsFine runAccepted runFine hoursFine hourFine times timesFrom
+unfolding lists doubles checked tried siteFine hoursInYear atAll indicesFine readingsFine readingFine daysFine resultsFine roomFine runAccepted runFine hoursFine hourFine times timesFrom
     stepCount stepsFrom goesOn currentHour seriesIndex inSeries readSeries within aboveZero surfaceFine firstFine recordsFine windowValuesFine windowRecordFine windowFine
     objectValuesFine objectFine objectUnused tripleFine boundsFine sectorRecordFine sectorsFine
 checks = 0
@@ -170,26 +170,26 @@ isFactor (factor.Refused r) = false
 answered : Job → Float → FactorAnswer
 answered job time = shadingAt (job .surface) (sunAt (job .site) time) (job .sectors) (job .window)
 
-two-steps : (job : Job) → checked job room ≡ check.Steps 2 → T (isFactor (answered job (job .run .start)))
-    → T (isFactor (answered job (job .run .start ⊕ job .run .step))) → IsAccepted (runOf job room)
+two-steps : (job : Job) → checked job (roomFine (job .run) room) ≡ check.Steps 2 → T (isFactor (answered job (job .run .start)))
+    → T (isFactor (answered job (job .run .start ⊕ job .run .step))) → IsAccepted (runOf job room .ran)
 unfolding answered runOf
 two-steps job c t u = go (answered job (job .run .start)) (answered job (job .run .start ⊕ job .run .step)) refl refl t u
   where
     go : (a b : FactorAnswer) → answered job (job .run .start) ≡ a → answered job (job .run .start ⊕ job .run .step) ≡ b
-        → T (isFactor a) → T (isFactor b) → IsAccepted (runOf job room)
+        → T (isFactor a) → T (isFactor b) → IsAccepted (runOf job room .ran)
     go (factor.Refused r) b e d t u = unfold isFactor in absurd t
     go (factor.Factor f) (factor.Refused r) e d t u = unfold isFactor in absurd u
     go (factor.Factor f) (factor.Factor g) e d t u = unfold runChecked runFrom onRow stepAt stepWith rowWith numberFor in rw (c, e, d)
 
-bare-accepted : IsAccepted (runOf bare room)
+bare-accepted : IsAccepted (runOf bare room .ran)
 unfolding answered isFactor checks shade
 bare-accepted = two-steps bare refl tt tt
 
-built-accepted : IsAccepted (runOf built room)
+built-accepted : IsAccepted (runOf built room .ran)
 unfolding answered isFactor checks shade
 built-accepted = two-steps built refl tt tt
 
-mixed-accepted : IsAccepted (runOf mixed room)
+mixed-accepted : IsAccepted (runOf mixed room .ran)
 unfolding answered isFactor checks shade
 mixed-accepted = two-steps mixed refl tt tt
 
@@ -366,9 +366,9 @@ same = record {
 -- ---- so the claim speaks of them
 
 -- the objects make no factor and no sum larger
-no-larger : sumOf (runOf built room) ≼ sumOf (runOf bare room)
+no-larger : sumOf (runOf built room .ran) ≼ sumOf (runOf bare room .ran)
 no-larger = two-jobs-compared bare built room room bare-built .second-more more .sums
 
 -- their order and number is all one
-same-sum : sumOf (runOf built room) ≡ sumOf (runOf mixed room)
+same-sum : sumOf (runOf built room .ran) ≡ sumOf (runOf mixed room .ran)
 same-sum = two-jobs-compared built mixed room room built-mixed .same-sums same

@@ -28,12 +28,15 @@ answers-requires c κs = tt
 same-length : tie.Need-same-length
 same-length c = search needs
 
+same-length-2 : tie.Need-same-length-2
+same-length-2 c = search needs
+
 returns : tie.Need-returns
 unfolding runKept
 returns c =
-    let a = c .before .before .before .before .before .before .before .before .before .before .before .before .before .before .before .before .before .before .args in
-    let e = rw (c .before .before .before .before .before .before .before .before .before .site-of .ensures, c .before .before .before .before .before .before .before .before .run-of .ensures, c .before .before .before .before .before .before .before .surface-at .ensures) at (c .before .before .before .before .before .run-job .ensures) in
-    rw (c .before .same-text .ensures, c .answers .ensures) (ap (runKept (now (a .kept)) (now (a .left))) e)
+    let a = c .before .before .before .before .before .before .before .before .before .before .before .before .before .before .before .before .before .before .before .before .before .before .args in
+    let e = rw (c .before .before .before .before .before .before .before .before .before .before .before .before .site-of .ensures, c .before .before .before .before .before .before .before .before .before .before .before .run-of .ensures, c .before .before .before .before .before .before .before .before .before .before .surface-at .ensures) at (c .before .before .before .before .before .before .before .run-job .ensures) in
+    rw (c .before .same-text .ensures, c .answers .ensures) (ap (runKept (now (a .kept)) (now (a .left))) (ap (λ x. x .ran) e))
 
 pub is-answered-spec : {M : Type 1} → statement M
 is-answered-spec =
@@ -46,4 +49,5 @@ is-answered-spec =
     same-text-requires
     answers-requires
     same-length
+    same-length-2
     returns)
