@@ -17,7 +17,8 @@ use Rattle.doubles.proofs.Bounds.{one-number}
 use Rattle.doubles.proofs.Intervals.{own-range, add-in, mul-in, as-range, constant, whole-bounded, int-bounded, more-bounded, add-bounded, sub-bounded, mul-bounded}
 use Rattle.angles.specs.Sine.{sine, cosine}
 use Rattle.angles.proofs.Laws.{sine-range, cosine-range}
-use Rattle.days.specs.Day.{orbitDeviation, solarDeclination, daysFrom, equationOfTime, extraTerrestrialRadiation}
+use Rattle.days.specs.Day.{orbitDeviation, solarDeclination, daysFrom, equationOfTime, extraTerrestrialRadiation, dayOf}
+use Rattle.days.specs.Table.{DayInRange}
 
 -- ---- declination
 
@@ -143,3 +144,9 @@ radiation-in n h =
     let ratio : InRange (decimal 96 2) (decimal 1034 3) (whole 1 ⊕ decimal 33 3 ⊗ cosine (toRadians (orbitDeviation n))) = add-in (own-range one-number) (as-range swing) tt in
     let constant-in : InRange (whole 1367) (whole 1367) (whole 1367) = own-range (record { holds = tt }) in
     mul-in constant-in ratio tt tt
+
+-- ---- all three
+
+pub day-in-range : (n : ℕ) → n ≤ 366 → DayInRange (dayOf n)
+unfolding dayOf
+day-in-range n h = record { declination = declination-bounded n h; equation = equation-bounded n h; radiation = radiation-in n h }

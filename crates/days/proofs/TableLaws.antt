@@ -1,6 +1,6 @@
 -- The table of days: stored record by record it is the definition's, and each day is read back from it as it was worked out.
 -- Assumes nothing.
-use mathlib.Core.Path.{_≡_, refl, sym, ap, ap₂, _∙_, subst₂}
+use mathlib.Core.Path.{_≡_, refl, sym, ap, ap₂, _∙_, subst, subst₂}
 use mathlib.Core.Bool.{Bool, cond}
 use mathlib.Core.List.{List, _++_}
 use Prim.Native.Nat.{ℕ, zero, suc, _+_, _-_, _*_, _/_, _≤_, _<_}
@@ -13,11 +13,12 @@ use lib.Ieee.Fits.{nan-fits, add-fits, sub-fits, mul-fits}
 use Rattle.doubles.specs.Order.{Fits}
 use Rattle.doubles.proofs.MinMax.{either-fits}
 use Rattle.words.specs.Words.{bytesOfDouble, wordCount, doubleAt, putDouble}
-use Rattle.words.proofs.Stores.{sets-append, getD-sets-before}
+use Rattle.words.proofs.Stores.{sets-append, getD-sets-before, getD-sets-behind}
 use Rattle.words.proofs.Laws.{length-double, double-same, put-double-in, length-putDouble, wordCount-putDouble, other-double, stored-double}
 use Rattle.days.specs.declared.Day.{Day}
 use Rattle.days.specs.Day.{solarDeclination, orbitDeviation, equationOfTime, extraTerrestrialRadiation, dayOf}
-use Rattle.days.specs.Table.{dayRecord, dayRecords, dayTable, withDayTable, dayAt, putDay, HoldsDays}
+use Rattle.days.proofs.Range.{day-in-range}
+use Rattle.days.specs.Table.{dayRecord, dayRecords, dayTable, withDayTable, dayAt, putDay, DayInRange, HoldsDays}
 
 -- ---- lengths
 
@@ -30,10 +31,6 @@ unfolding dayRecords
 length-records zero n = refl
 length-records (suc count) n =
     length-append (dayRecord (dayOf n)) (dayRecords count (n + 1)) ∙ omega (arith, length-record (dayOf n), length-records count (n + 1))
-
-pub length-table : length dayTable ≡ 8784
-unfolding dayTable
-length-table = length-records 366 1
 
 -- ---- a record stored
 
@@ -178,3 +175,19 @@ table-read l h = record {
       let n : 1 + i ≡ i + 1 = omega arith in
       ap (λ (m : List ℕ). dayAt m i) (sym (table-whole l h)) ∙ subst₂ (λ (a : ℕ) (d : ℕ). dayAt (sets l (24 * 0) (dayRecords 366 1)) a ≡ dayOf d) p n (records-read 366 1 0 i l (omega (arith, h)) b);
 }
+
+-- what is read there are numbers
+pub table-numbers : (l : List ℕ) → 8784 ≤ length l → (i : ℕ) → i < 366 → DayInRange (dayAt (withDayTable l) i)
+table-numbers l h i b = subst DayInRange (sym (table-read l h .day i b)) (day-in-range (i + 1) (omega (arith, b)))
+
+-- ---- what the table leaves
+
+module _ (l : List ℕ) (h : 8784 ≤ length l) where
+  pub length-with-table : length (withDayTable l) ≡ length l
+  length-with-table = ap length (sym (table-whole l h)) ∙ length-sets l (24 * 0) (dayRecords 366 1)
+
+  -- a byte behind it stays as it was
+  pub byte-behind : (b : ℕ) → 8784 ≤ b → getD (withDayTable l) b 0 ≡ getD l b 0
+  byte-behind b k =
+      ap (λ (m : List ℕ). getD m b 0) (sym (table-whole l h))
+      ∙ getD-sets-behind l b (24 * 0) (dayRecords 366 1) (omega (arith, k, length-records 366 1))

@@ -1,8 +1,10 @@
 -- The table of days: what depends on the day alone, for every day of the year. It is a list of bytes: 366 records of three doubles.
+use mathlib.Core.Path.{_≡_}
 use mathlib.Core.List.{List, [], _++_}
 use Prim.Native.Nat.{ℕ, zero, suc, _+_, _*_, _<_}
-use mathlib.Core.Path.{_≡_}
 use lib.ListN.{drop}
+use Rattle.doubles.specs.Arithmetic.{decimal, whole}
+use Rattle.doubles.specs.Order.{InRange, Bounded}
 use Rattle.words.specs.Words.{bytesOfDouble, doubleAt, putDouble}
 use Rattle.days.specs.declared.Day.{Day}
 use Rattle.days.specs.Day.{dayOf}
@@ -38,6 +40,12 @@ putDay days i day =
     let declination = putDouble days (3 * i) (day .declination) in
     let equation = putDouble declination (3 * i + 1) (day .«equation_of_time») in
     putDouble equation (3 * i + 2) (day .«extra_terrestrial_radiation»)
+
+-- where a day's values lie: none is NaN
+pub record DayInRange (day : Day) : Type 0 where
+  pub declination : Bounded (whole 28) (day .declination)
+  pub equation : Bounded (decimal 163 1) (day .«equation_of_time»)
+  pub radiation : InRange (whole 1300) (whole 1420) (day .«extra_terrestrial_radiation»)
 
 -- a list in which each of the 366 days can be read
 pub record HoldsDays (days : List ℕ) : Type 0 where

@@ -1,17 +1,19 @@
 -- Days worked out once: the claim, proved. Assumes nothing.
-use mathlib.Core.Path.{_≡_, ap, _∙_, subst}
+use mathlib.Core.Path.{_≡_, refl, sym, ap, _∙_, subst}
 use mathlib.Core.Bool.{Bool, _&&_}
 use mathlib.Core.List.{List}
-use Prim.Native.Nat.{ℕ, _+_, _/_, _≤_, _<_}
+use Prim.Native.Nat.{ℕ, _+_, _≤_, _<_}
 use native.Mathlib.Omega.{arith}
 use lib.Dec.{T}
+use lib.ListN.{length, getD}
 use lib.Ieee.Bits.{is-true}
 use Rattle.days.specs.Day.{dayOf}
 use Rattle.days.specs.Table.{dayAt, withDayTable}
-use Rattle.days.proofs.TableLaws.{table-read}
+use Rattle.days.proofs.TableLaws.{table-read, length-with-table, byte-behind}
 use Rattle.simulation_time.specs.Steps.{stepCount}
+use Rattle.objects.specs.declared.answers.Refusal.{Refusal}
 use Rattle.jobs.specs.declared.answers.Checked.{Checked}
-use Rattle.jobs.specs.declared.answers.Checked.the-variants.{Steps}
+use Rattle.jobs.specs.declared.answers.Checked.the-variants.{Steps, Refused}
 use Rattle.jobs.specs.Job.{Job}
 use Rattle.jobs.specs.JobChecks.{daysFine, resultsFine, checked}
 use Rattle.jobs.specs.Run.{Lent, roomFine, runChecked, daysLeft, runOf, plainRun}
@@ -35,13 +37,29 @@ module _ (job : Job) (lists : Lent) where
       ap (λ (days : List ℕ). dayAt days (dayOfStep job i)) (days-filled n e)
       ∙ table-read (lists .days) (days-fit job lists p) .day (dayOfStep job i) (omega (arith, hour-below p i h))
 
+  days-untouched : (r : Refusal) → checked job (roomFine (job .run) lists) ≡ Refused r → runOf job lists .days ≡ lists .days
+  unfolding runOf daysLeft
+  days-untouched r e = ap (λ (checks : Checked). daysLeft checks (lists .days)) e
+
+  -- filled or not: what holds of the list as it was, and of it with the table, holds of the list that is left
+  of-either : (P : List ℕ → Type 0) → P (lists .days) → (8784 ≤ length (lists .days) → P (withDayTable (lists .days))) → P (runOf job lists .days)
+  of-either P old new = go (checked job (roomFine (job .run) lists)) refl
+    where
+      go : (c : Checked) → checked job (roomFine (job .run) lists) ≡ c → P (runOf job lists .days)
+      go (Steps n) e = subst P (sym (days-filled n e)) (new (days-fit job lists (passed job (roomFine (job .run) lists) n e .0)))
+      go (Refused r) e = subst P (sym (days-untouched r e)) old
+
 pub days-worked-out-once : DaysWorkedOutOnce
 days-worked-out-once job lists = record {
   same-results = same-without job lists;
-  steps-read = λ n e.
+  table-filled = λ n e.
       let p = passed job (roomFine (job .run) lists) n e in
       record {
+        filled = days-filled job lists n e;
         day-in-year = λ i h. day-in-year (p .0) i (subst (λ (m : ℕ). i < m) (p .1) h);
         day-read = λ i h. days-read job lists n e (p .0) i (subst (λ (m : ℕ). i < m) (p .1) h);
       };
+  untouched = days-untouched job lists;
+  same-length = of-either job lists (λ (l : List ℕ). length l ≡ length (lists .days)) refl (length-with-table (lists .days));
+  bytes-behind = λ b k. of-either job lists (λ (l : List ℕ). getD l b 0 ≡ getD (lists .days) b 0) refl (λ h. byte-behind (lists .days) h b k);
 }

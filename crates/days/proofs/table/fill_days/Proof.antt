@@ -51,7 +51,7 @@ loop-again c =
       omega (arith, below),
       ap length stored ∙ length-putDay d i (dayOf (i + 1)) ∙ l .loop .inv .1,
       ap (λ (m : List ℕ). sets m (24 * (i + 1)) (dayRecords (366 - (i + 1)) (i + 1 + 1))) stored
-          ∙ record-next d i below (subst (λ (n : ℕ). 8784 ≤ n) (sym (l .loop .inv .1)) (s .pre)) ∙ l .loop .inv .2,
+          ∙ record-next d i (omega (arith, below)) (subst (λ (n : ℕ). 8784 ≤ n) (sym (l .loop .inv .1)) (s .pre)) ∙ l .loop .inv .2,
     )
 
 same-length : tie.Need-same-length Inv-loop μ-loop
