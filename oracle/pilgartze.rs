@@ -360,37 +360,21 @@ pub unsafe fn run_by(
     days: &mut [u8],
     results: &mut [u8],
 ) -> Answer {
-    call(
-        site.latitude,
-        site.longitude,
-        site.timezone,
-        site.start_day,
-        site.series_step,
-        site.leap_year,
-        site.direct_beam_conversion,
-        times.start,
-        times.end,
-        times.step,
-        surface.tilt,
-        surface.orientation,
-        surface.base_height,
-        surface.height,
-        surface.width,
-        weather.diffuse.as_ptr(),
-        weather.diffuse.len(),
-        weather.direct.as_ptr(),
-        weather.direct.len(),
-        weather.reflectivity.as_ptr(),
-        weather.reflectivity.len(),
-        shading.sectors.as_ptr(),
-        shading.sectors.len(),
-        shading.window.as_ptr(),
-        shading.window.len(),
-        days.as_mut_ptr(),
-        days.len(),
-        results.as_mut_ptr(),
-        results.len(),
-    )
+    #[rustfmt::skip] // a line for each struct or list
+    let answer = call(
+        site.latitude, site.longitude, site.timezone, site.start_day, site.series_step,
+        site.leap_year, site.direct_beam_conversion,
+        times.start, times.end, times.step,
+        surface.tilt, surface.orientation, surface.base_height, surface.height, surface.width,
+        weather.diffuse.as_ptr(), weather.diffuse.len(),
+        weather.direct.as_ptr(), weather.direct.len(),
+        weather.reflectivity.as_ptr(), weather.reflectivity.len(),
+        shading.sectors.as_ptr(), shading.sectors.len(),
+        shading.window.as_ptr(), shading.window.len(),
+        days.as_mut_ptr(), days.len(),
+        results.as_mut_ptr(), results.len(),
+    );
+    answer
 }
 
 pub unsafe fn step_by(

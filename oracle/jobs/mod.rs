@@ -115,25 +115,29 @@ pub fn shown_job(job: &Job) -> String {
     ];
     let mut lines = vec![whole];
     lines.extend(doubles.map(|(name, x)| format!("  {name:<11} {}", shown(x))));
-    let steps = steps_if_any(&job.site, &job.times);
-    for (list, name) in ["diffuse", "direct", "reflectivity"].iter().enumerate() {
-        let series = doubles_of(&job.series[list]);
-        let used = steps
-            .iter()
-            .take(8)
-            .map(|step| match series.get(step.index) {
-                Some(&x) => format!("{}: {}", step.index, shown(x)),
-                None => format!("{}: none", step.index),
-            });
-        let used: Vec<String> = used.collect();
-        let len = job.series[list].len();
-        lines.push(format!("  {name}, {len} bytes, {}", used.join(", ")));
-    }
+    let names = ["diffuse", "direct", "reflectivity"];
+    let series = names.iter().zip(&job.series);
+    lines.extend(series.map(|(name, series)| shown_series(name, series, job)));
     let (days, results) = (job.days.len(), job.results.len());
     lines.push(format!("  table of days, {days} bytes"));
     lines.push(format!("  results, {results} bytes"));
     lines.push(shown_objects(&job.surface, &job.sectors, &job.window));
     lines.join("\n")
+}
+
+/// A series' length, and what the first steps read of it.
+fn shown_series(name: &str, series: &[u8], job: &Job) -> String {
+    let doubles = doubles_of(series);
+    let steps = steps_if_any(&job.site, &job.times);
+    let read = steps
+        .iter()
+        .take(8)
+        .map(|step| match doubles.get(step.index) {
+            Some(&x) => format!("{}: {}", step.index, shown(x)),
+            None => format!("{}: none", step.index),
+        });
+    let read: Vec<String> = read.collect();
+    format!("  {name}, {} bytes, {}", series.len(), read.join(", "))
 }
 
 fn shown_objects(surface: &Surface, sectors: &[u8], window: &[u8]) -> String {

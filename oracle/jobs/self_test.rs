@@ -83,13 +83,40 @@ fn plain_engine(settings: &Settings, plan: Plan) -> Outcome {
     }
 }
 
+/// How many wrong engines there are, all of which are found.
+fn engines_found(settings: &Settings, plan: Plan) -> Result<usize, String> {
+    let days = Fixed::days();
+    let mut count = 0;
+    for engine in &wrong::engines() {
+        let plan = match engine.by {
+            By::All => plan,
+            By::Days => alone(plan, &days),
+        };
+        found(settings, plan, engine)?;
+        count += 1;
+    }
+    for law in LAWS {
+        let plan = Plan {
+            compared: false,
+            years: 0,
+            laws: &[law],
+            ..plan
+        };
+        for engine in &wrong::lawless_engines(law) {
+            found(settings, plan, engine)?;
+            count += 1;
+        }
+    }
+    Ok(count)
+}
+
 pub fn run(seed: u64) -> Outcome {
     let settings = Settings {
         seed,
         count: JOBS,
         print: false,
     };
-    let (fixed, days) = (Fixed::all(), Fixed::days());
+    let fixed = Fixed::all();
     let plan = Plan {
         fixed: &fixed,
         jobs: JOBS,
@@ -101,27 +128,7 @@ pub fn run(seed: u64) -> Outcome {
     step_counts()?;
     nan_is_told()?;
     plain_engine(&settings, plan)?;
-    let mut count = 0;
-    for engine in &wrong::engines() {
-        let plan = match engine.by {
-            By::All => plan,
-            By::Days => alone(plan, &days),
-        };
-        found(&settings, plan, engine)?;
-        count += 1;
-    }
-    for law in LAWS {
-        let plan = Plan {
-            compared: false,
-            years: 0,
-            laws: &[law],
-            ..plan
-        };
-        for engine in &wrong::lawless_engines(law) {
-            found(&settings, plan, engine)?;
-            count += 1;
-        }
-    }
+    let count = engines_found(&settings, plan)?;
     println!("self-test: {count} wrong engines found");
     Ok(())
 }
