@@ -124,7 +124,7 @@ impl Lent {
         self.turn += 1;
         let starts: [*mut u8; 7] = std::array::from_fn(|k| {
             let back = self.at_back(k);
-            self.pages[k].put(call, back, lists[k], lists[RESULTS].len())
+            self.pages[k].put(call, back, lists[k], lists[DAYS_LIST].len())
         });
         let read = |k: usize| unsafe { std::slice::from_raw_parts(starts[k], lists[k].len()) };
         let written = [DAYS_LIST, RESULTS]
