@@ -3,7 +3,7 @@
 use crate::pilgartze::{self, *};
 use crate::{Job, Row, Series};
 
-/// A job as the library takes it: lists of bytes, and room for the results.
+/// A job as the library takes it: lists of bytes, and room for the days and the results.
 pub struct Lent<'a> {
     job: &'a Job,
     diffuse: Vec<u8>,
@@ -11,6 +11,7 @@ pub struct Lent<'a> {
     reflectivity: Vec<u8>,
     sectors: Vec<u8>,
     window: Vec<u8>,
+    days: Vec<u8>,
     results: Vec<u8>,
 }
 
@@ -54,6 +55,7 @@ impl<'a> Lent<'a> {
                     window_object(kind, size, distance, through)
                 })
                 .collect(),
+            days: vec![0; DAYS_LENGTH],
             results: vec![0; steps * size_of::<Row>()],
         }
     }
@@ -74,8 +76,8 @@ impl<'a> Lent<'a> {
             sectors: &self.sectors,
             window: &self.window,
         };
-        let results = &mut self.results;
-        match pilgartze::run(&SITE, &times, &SURFACE, weather, shading, results) {
+        let (days, results) = (&mut self.days, &mut self.results);
+        match pilgartze::run(&SITE, &times, &SURFACE, weather, shading, days, results) {
             Ok(Accepted { count, sum }) => Ok((count, sum)),
             Err(Refused { refusal, step }) => Err(format!("{refusal} at step {step}")),
         }

@@ -273,7 +273,7 @@ fn measure_quarter_hours(lists: Lists) {
     );
 }
 
-/// The library alone: a year, and a step by itself.
+/// The library alone: a year, a run of one step, and the step by itself.
 fn measure_alone(lists: Lists) -> Result<(), String> {
     let (year, hour) = (lists.year(1.0), lists.one_step());
     let mut lent = Lent::new(&year, HOURS);
@@ -281,6 +281,13 @@ fn measure_alone(lists: Lists) -> Result<(), String> {
     let name = format!("a year of hours, µs: {}", lists.name());
     measure::alone(&name, sum, || rattle(&mut lent));
     let mut lent = Lent::new(&hour, 1);
+    let (_, sum) = lent.run()?;
+    let name = format!("a run of one step, µs: {}", lists.name());
+    measure::alone(&name, sum, || {
+        repeated(|| {
+            black_box(black_box(&mut lent).run()).unwrap();
+        })
+    });
     lent.step()?;
     let factor = lent.rows()[0][5];
     let name = format!("`pilgartze_step`, µs: {}", lists.name());

@@ -15,6 +15,7 @@ mod numbers;
 #[allow(dead_code)] // the library itself is not linked here
 mod pilgartze;
 mod probes;
+#[allow(dead_code)] // tables of days are lent by the other program
 mod random;
 mod self_test;
 #[allow(dead_code)] // the factor is compared by the other program

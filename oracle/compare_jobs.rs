@@ -37,7 +37,7 @@ mod published;
 
 use comparison::{whole_number, Outcome, Settings};
 use jobs::lent::LIBRARY;
-use jobs::Plan;
+use jobs::{Fixed, Plan};
 use pilgartze::FACTOR;
 use shading::laws::LAWS;
 use std::process::ExitCode;
@@ -94,13 +94,12 @@ fn run(arguments: &Arguments) -> Outcome {
         .jobs
         .unwrap_or((settings.count * 3).div_ceil(1000));
     println!("seed {}, {jobs} random jobs", settings.seed);
-    let (edges, walks) = (jobs::edges::all(), jobs::edges::walks());
+    let fixed = Fixed::all();
     let plan = Plan {
-        edges: &edges,
-        walks: &walks,
+        fixed: &fixed,
         jobs,
         years: YEARS,
-        aimed: Plan::aimed_for(edges.len() + walks.len() + YEARS),
+        aimed: Plan::aimed_for(&fixed, YEARS),
         compared: true,
         laws: &LAWS,
     };

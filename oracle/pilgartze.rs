@@ -6,7 +6,7 @@
 //!
 //! `examples/from_rust.rs` is such a program. `include/pilgartze.h` says what each field is and what
 //! range it has, `docs/FORMATS.md` draws the lists. Nothing has to be checked before a call: what is
-//! out of range is refused, and only the results are written to.
+//! out of range is refused, and only the results and a run's table of days are written to.
 
 use std::fmt;
 
@@ -112,6 +112,13 @@ pub const ROW: usize = 6;
 /// Those that `irradiance` stores: the first five, then sky, circumsolar, horizontal, ground.
 pub const IRRADIANCE_ROW: usize = 9;
 
+/// The doubles of a day: declination, equation of time, extra-terrestrial radiation.
+pub const DAY: usize = 3;
+/// The days of the table that a run fills, in either year; the first is 1 January.
+pub const DAYS: usize = 366;
+/// The table's bytes.
+pub const DAYS_LENGTH: usize = 8 * DAY * DAYS;
+
 /// Why a call is turned down, by the specification's numbers.
 #[derive(Clone, Copy, Debug, PartialEq, Eq)]
 #[repr(u64)]
@@ -213,13 +220,15 @@ impl FactorAnswer {
 
 // --- The calls ---
 
-/// All steps of a run, a row for each in the results.
+/// All steps of a run, a row for each in the results. Days is room for the table of days, of
+/// `DAYS_LENGTH` bytes or more; what was in it does not matter.
 pub fn run(
     site: &Site,
     times: &RunTimes,
     surface: &Surface,
     weather: Weather,
     shading: Shading,
+    days: &mut [u8],
     results: &mut [u8],
 ) -> Result<Accepted, Refused> {
     unsafe {
@@ -230,6 +239,7 @@ pub fn run(
             surface,
             weather,
             shading,
+            days,
             results,
         )
     }
@@ -307,7 +317,8 @@ functions! {
         orientation: f64, base_height: f64, height: f64, width: f64, diffuse: *const u8,
         diffuse_length: usize, direct: *const u8, direct_length: usize, reflectivity: *const u8,
         reflectivity_length: usize, sectors: *const u8, sectors_length: usize, window: *const u8,
-        window_length: usize, results: *mut u8, results_length: usize,
+        window_length: usize, days: *mut u8, days_length: usize, results: *mut u8,
+        results_length: usize,
     ) -> Answer as RunCall;
     fn pilgartze_step(
         latitude: f64, longitude: f64, timezone: i64, start_day: u64, series_step: f64,
@@ -336,7 +347,8 @@ pub const IRRADIANCE: IrradianceCall = pilgartze_irradiance;
 pub const FACTOR: FactorCall = pilgartze_factor;
 
 // The same calls by a function in the place of the archive's own; the comparison has such functions.
-// Each must read and write nothing but the lists that it is lent, and write to the results alone.
+// Each must read and write nothing but the lists that it is lent, and write to the table of days and
+// the results alone.
 
 pub unsafe fn run_by(
     call: RunCall,
@@ -345,37 +357,24 @@ pub unsafe fn run_by(
     surface: &Surface,
     weather: Weather,
     shading: Shading,
+    days: &mut [u8],
     results: &mut [u8],
 ) -> Answer {
-    call(
-        site.latitude,
-        site.longitude,
-        site.timezone,
-        site.start_day,
-        site.series_step,
-        site.leap_year,
-        site.direct_beam_conversion,
-        times.start,
-        times.end,
-        times.step,
-        surface.tilt,
-        surface.orientation,
-        surface.base_height,
-        surface.height,
-        surface.width,
-        weather.diffuse.as_ptr(),
-        weather.diffuse.len(),
-        weather.direct.as_ptr(),
-        weather.direct.len(),
-        weather.reflectivity.as_ptr(),
-        weather.reflectivity.len(),
-        shading.sectors.as_ptr(),
-        shading.sectors.len(),
-        shading.window.as_ptr(),
-        shading.window.len(),
-        results.as_mut_ptr(),
-        results.len(),
-    )
+    #[rustfmt::skip] // a line for each struct or list
+    let answer = call(
+        site.latitude, site.longitude, site.timezone, site.start_day, site.series_step,
+        site.leap_year, site.direct_beam_conversion,
+        times.start, times.end, times.step,
+        surface.tilt, surface.orientation, surface.base_height, surface.height, surface.width,
+        weather.diffuse.as_ptr(), weather.diffuse.len(),
+        weather.direct.as_ptr(), weather.direct.len(),
+        weather.reflectivity.as_ptr(), weather.reflectivity.len(),
+        shading.sectors.as_ptr(), shading.sectors.len(),
+        shading.window.as_ptr(), shading.window.len(),
+        days.as_mut_ptr(), days.len(),
+        results.as_mut_ptr(), results.len(),
+    );
+    answer
 }
 
 pub unsafe fn step_by(

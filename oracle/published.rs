@@ -15,6 +15,8 @@ include!(env!("ORACLE_PUBLISHED_ITEMS"));
 pub mod beyond;
 #[path = "published/conditions.rs"]
 pub mod conditions;
+#[path = "published/days.rs"]
+pub mod days;
 #[path = "published/interface.rs"]
 pub mod interface;
 #[path = "published/irradiance.rs"]

@@ -15,6 +15,11 @@ impl Random {
         Random { state }
     }
 
+    /// Another stream, which goes by this one and leaves its cases alone.
+    pub fn beside(&self, name: &str) -> Self {
+        Random::new(self.state, name)
+    }
+
     pub fn word(&mut self) -> u64 {
         self.state = self.state.wrapping_add(0x9E37_79B9_7F4A_7C15);
         let mut z = self.state;
@@ -26,6 +31,13 @@ impl Random {
     /// A whole number below `bound` (which is above 0).
     pub fn below(&mut self, bound: usize) -> usize {
         ((self.word() as u128 * bound as u128) >> 64) as usize
+    }
+
+    pub fn bytes(&mut self, len: usize) -> Vec<u8> {
+        let words = (0..len.div_ceil(8)).flat_map(|_| self.word().to_le_bytes());
+        let mut bytes: Vec<u8> = words.collect();
+        bytes.truncate(len);
+        bytes
     }
 
     /// A double from `low` to `high`, uniform, with all 53 bits.

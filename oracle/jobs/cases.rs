@@ -1,5 +1,6 @@
 //! Random jobs: most of them accepted, with the sun on the surface and partly in the shade.
 
+use super::tables::any_former;
 use crate::published::jobs::*;
 use crate::published::shading::{Numbers, ALTITUDE, AZIMUTH, ORIENTATION, TILT};
 use crate::random::{ulps_from, Random, NAN_PATTERNS};
@@ -45,6 +46,8 @@ impl Target {
 
 pub struct Maker {
     pub random: Random,
+    /// For tables of days, so that all else is as it would be without them.
+    table_random: Random,
     pub aims: Aims,
     target: Option<Target>,
     judge: Judge,
@@ -89,6 +92,7 @@ impl Maker {
         }
         let judge = Judge::new();
         Maker {
+            table_random: random.beside("tables of days"),
             random,
             aims: Aims::Seldom,
             target: None,
@@ -294,14 +298,22 @@ impl Maker {
             _ => 0,
         };
         job.results = self.bytes(8 * ROW * steps.len() + more);
+        job.days = self.any_table();
     }
 
     /// Random bytes, which a call is to leave where it stores nothing.
     pub fn bytes(&mut self, len: usize) -> Vec<u8> {
-        let words = (0..len.div_ceil(8)).flat_map(|_| self.random.word().to_le_bytes());
-        let mut bytes: Vec<u8> = words.collect();
-        bytes.truncate(len);
-        bytes
+        self.random.bytes(len)
+    }
+
+    /// Room for a table of days, now and then with some bytes more.
+    fn any_table(&mut self) -> Vec<u8> {
+        let more = match self.table_random.below(8) {
+            0 => self.table_random.below(9),
+            1 => self.table_random.below(400),
+            _ => 0,
+        };
+        any_former(&mut self.table_random, DAYS_LENGTH + more)
     }
 
     // --- Jobs ---
@@ -328,6 +340,7 @@ impl Maker {
             series: [vec![], vec![], vec![]],
             sectors,
             window,
+            days: vec![],
             results: vec![],
         };
         self.fit(&mut job);
@@ -432,7 +445,8 @@ impl Maker {
         job
     }
 
-    /// Six in ten are sound; the others are damaged in one place, or in two or three.
+    /// Six in ten are sound; the others are damaged in one place, or in two or three. One in forty
+    /// has a table of days that is too short.
     pub fn any_job(&mut self) -> Job {
         let mut job = self.sound_job();
         let damages = match self.random.below(20) {
@@ -444,6 +458,10 @@ impl Maker {
         for _ in 0..damages {
             let damage = self.one_of(&DAMAGES);
             damage(self, &mut job);
+        }
+        if self.table_random.below(40) == 0 {
+            let len = self.table_random.below(DAYS_LENGTH);
+            job.days.truncate(len);
         }
         job
     }

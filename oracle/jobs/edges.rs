@@ -16,8 +16,8 @@ pub fn plain_jobs(maker: &mut Maker) -> Vec<Job> {
     let mut jobs = vec![];
     while jobs.len() < 2 {
         let job = maker.sound_job();
-        let mut results = job.results.clone();
-        let answer = judge.run(&job, &mut results);
+        let (mut days, mut results) = (job.days.clone(), job.results.clone());
+        let answer = judge.run(&job, &mut days, &mut results);
         let rows = doubles_of(&results);
         let shaded = rows.chunks_exact(ROW).take(answer.count as usize);
         let shaded = shaded.filter(|row| 0.0 < row[5] && row[5] < 1.0 && row[2] > 1.0);
@@ -151,7 +151,7 @@ fn readings(jobs: &mut Vec<Job>, job: &Job) {
 }
 
 /// Sectors without objects.
-fn sectors_of(bounds: &[(f64, f64)]) -> Vec<u8> {
+pub fn sectors_of(bounds: &[(f64, f64)]) -> Vec<u8> {
     let sectors = bounds.iter().map(|&(start, end)| sector(start, end, &[]));
     let scene = Scene {
         numbers: [0.0; 7],
@@ -162,7 +162,7 @@ fn sectors_of(bounds: &[(f64, f64)]) -> Vec<u8> {
 }
 
 /// The fault that leads to this number where there is no other.
-fn fault(job: &mut Job, number: u32, variant: usize) {
+pub fn fault(job: &mut Job, number: u32, variant: usize) {
     match number {
         1 => job.site.latitude = [91.0, f64::NAN][variant],
         2 if variant == 0 => job.times[2] = 0.0,
@@ -355,7 +355,7 @@ pub fn under_the_sun() -> Vec<Job> {
 }
 
 /// The job with one of its steps alone, the sun square on the surface but for the altitude.
-fn one_step(job: &Job, maker: &mut Maker) -> (Job, Numbers) {
+pub fn one_step(job: &Job, maker: &mut Maker) -> (Job, Numbers) {
     let mut job = job.clone();
     let steps = steps_of(&job.site, &job.times);
     let step = steps[steps.len() / 2];

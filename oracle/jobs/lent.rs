@@ -72,21 +72,26 @@ impl Pages {
     }
 }
 
-/// What a call gives and what it leaves in the results.
+/// What a call gives and what it leaves in the table of days, of a run, and in the results.
 pub struct Left<T> {
     pub answer: T,
+    pub days: Vec<u8>,
     pub results: Vec<u8>,
 }
 
 /// A side of the comparison, with pages for the lists.
 pub struct Lent {
     library: Library,
-    /// Diffuse, direct, reflectivity, sectors, window, results.
-    pages: [Pages; 6],
+    /// Diffuse, direct, reflectivity, sectors, window, days, results.
+    pages: [Pages; 7],
     turn: usize,
+    /// The end of its pages at which the table of days stands, where that is not by turns.
+    pub days_side: Option<Side>,
 }
 
-const RESULTS: usize = 5;
+const ONLY_READ: usize = 5;
+const DAYS_LIST: usize = 5;
+const RESULTS: usize = 6;
 
 impl Lent {
     /// For lists of at most that many bytes.
@@ -95,6 +100,16 @@ impl Lent {
             library,
             pages: std::array::from_fn(|_| Pages::holding(most)),
             turn: 0,
+            days_side: None,
+        }
+    }
+
+    /// Whether a list stands at the back of its pages; all 128 patterns come in 128 turns, as 41 is
+    /// odd.
+    fn at_back(&self, list: usize) -> bool {
+        match self.days_side {
+            Some(side) if list == DAYS_LIST => side == Side::Back,
+            _ => self.turn * 41 >> list & 1 == 1,
         }
     }
 
@@ -103,22 +118,21 @@ impl Lent {
     fn with<T>(
         &mut self,
         call: &'static str,
-        lists: [&[u8]; 6],
-        function: impl FnOnce(&Library, [&[u8]; 5], &mut [u8]) -> T,
+        lists: [&[u8]; 7],
+        function: impl FnOnce(&Library, [&[u8]; ONLY_READ], [&mut [u8]; 2]) -> T,
     ) -> Result<Left<T>, String> {
         self.turn += 1;
-        // 41 is odd, so that all 64 patterns of sides come in 64 turns
-        let sides = self.turn * 41;
-        let starts: [*mut u8; 6] = std::array::from_fn(|k| {
-            self.pages[k].put(call, sides >> k & 1 == 1, lists[k], lists[RESULTS].len())
+        let starts: [*mut u8; 7] = std::array::from_fn(|k| {
+            let back = self.at_back(k);
+            self.pages[k].put(call, back, lists[k], lists[DAYS_LIST].len())
         });
         let read = |k: usize| unsafe { std::slice::from_raw_parts(starts[k], lists[k].len()) };
-        let len = lists[RESULTS].len();
-        let results = unsafe { std::slice::from_raw_parts_mut(starts[RESULTS], len) };
-        let answer = function(&self.library, std::array::from_fn(read), results);
+        let written = [DAYS_LIST, RESULTS]
+            .map(|k| unsafe { std::slice::from_raw_parts_mut(starts[k], lists[k].len()) });
+        let answer = function(&self.library, std::array::from_fn(read), written);
         // whatever the call was promised not to do, its pages are read anew
         let pages = std::hint::black_box(&mut self.pages);
-        for k in 0..RESULTS {
+        for k in 0..ONLY_READ {
             if pages[k].list() != lists[k] {
                 return Err(format!(
                     "{call} changes a list that it only reads, number {k}"
@@ -128,8 +142,12 @@ impl Lent {
         if !pages.iter_mut().all(Pages::beside_is_left) {
             return Err(format!("{call} writes beside a list"));
         }
-        let results = pages[RESULTS].list().to_vec();
-        Ok(Left { answer, results })
+        let [days, results] = [DAYS_LIST, RESULTS].map(|k| pages[k].list().to_vec());
+        Ok(Left {
+            answer,
+            days,
+            results,
+        })
     }
 
     pub fn run(&mut self, job: &Job) -> Result<Left<RunAnswer>, String> {
@@ -137,9 +155,16 @@ impl Lent {
         let times = RunTimes { start, end, step };
         let surface = surface_of(job.surface);
         let [diffuse, direct, reflectivity] = &job.series;
-        let (sectors, window, results) = (&job.sectors, &job.window, &job.results);
-        let lists: [&[u8]; 6] = [diffuse, direct, reflectivity, sectors, window, results];
-        self.with("run", lists, |library, lent, results| {
+        let lists: [&[u8]; 7] = [
+            diffuse,
+            direct,
+            reflectivity,
+            &job.sectors,
+            &job.window,
+            &job.days,
+            &job.results,
+        ];
+        self.with("run", lists, |library, lent, [days, results]| {
             let [diffuse, direct, reflectivity, sectors, window] = lent;
             let weather = Weather {
                 diffuse,
@@ -147,8 +172,12 @@ impl Lent {
                 reflectivity,
             };
             let shading = Shading { sectors, window };
-            let call = library.run;
-            unsafe { run_by(call, &job.site, &times, &surface, weather, shading, results) }
+            let (call, site) = (library.run, &job.site);
+            unsafe {
+                run_by(
+                    call, site, &times, &surface, weather, shading, days, results,
+                )
+            }
         })
     }
 
@@ -157,8 +186,8 @@ impl Lent {
         let surface = surface_of(single.surface);
         let reading = reading_of(single.readings);
         let (sectors, window, results) = (&single.sectors, &single.window, &single.results);
-        let lists: [&[u8]; 6] = [&[], &[], &[], sectors, window, results];
-        self.with("step", lists, |library, lent, results| {
+        let lists: [&[u8]; 7] = [&[], &[], &[], sectors, window, &[], results];
+        self.with("step", lists, |library, lent, [_, results]| {
             let [.., sectors, window] = lent;
             let shading = Shading { sectors, window };
             let call = library.step;
@@ -170,8 +199,8 @@ impl Lent {
         let Single { site, time, .. } = single;
         let surface = surface_of(single.surface);
         let reading = reading_of(single.readings);
-        let lists: [&[u8]; 6] = [&[], &[], &[], &[], &[], &single.results];
-        self.with("irradiance", lists, |library, _, results| {
+        let lists: [&[u8]; 7] = [&[], &[], &[], &[], &[], &[], &single.results];
+        self.with("irradiance", lists, |library, _, [_, results]| {
             let call = library.irradiance;
             unsafe { irradiance_by(call, site, *time, &surface, &reading, results) }
         })

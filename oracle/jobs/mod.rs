@@ -1,14 +1,18 @@
 //! Whole jobs and single steps through the library: the specification's checks and the published
-//! Rust against Rattle, every number, step, count, sum and byte of the results.
+//! Rust against Rattle, every number, step, count, sum and byte of the results and of the table of
+//! days.
 
 pub mod cases;
 pub mod edges;
 pub mod laws;
 pub mod lent;
 pub mod self_test;
+pub mod tables;
 pub mod wrong;
 
 use crate::comparison::{same, shown, Outcome, Settings, Tally, With};
+use crate::guarded::Side;
+use crate::pilgartze::DAY;
 use crate::published::beyond::{Aimed, Sums};
 use crate::published::jobs::*;
 use crate::published::walk::End;
@@ -20,13 +24,49 @@ use crate::stand_ins::Beyond;
 use cases::{Aims, Maker, MOST_BYTES};
 use laws::{try_laws, Pairs};
 use lent::{Left, Lent, Library};
+use tables::Tables;
+
+/// Jobs that are the same whatever the seed.
+#[derive(Default)]
+pub struct Fixed {
+    pub edges: Vec<Job>,
+    /// Jobs of one step, which is called by itself too.
+    pub walks: Vec<Job>,
+    /// Jobs with tables of days of every length and contents, lent at either end of their pages.
+    pub tables: Vec<Job>,
+    /// Jobs about the first and the last days of the year.
+    pub turns: Vec<Job>,
+}
+
+impl Fixed {
+    pub fn all() -> Self {
+        Fixed {
+            edges: edges::all(),
+            walks: edges::walks(),
+            ..Fixed::days()
+        }
+    }
+
+    /// Those about the table of days.
+    pub fn days() -> Self {
+        let mut tables = tables::lengths();
+        tables.extend(tables::formers());
+        Fixed {
+            tables,
+            turns: tables::turns_of_the_year(),
+            ..Fixed::default()
+        }
+    }
+
+    fn runs(&self) -> usize {
+        self.edges.len() + self.walks.len() + 2 * self.tables.len() + self.turns.len()
+    }
+}
 
 /// What is to be tried.
 #[derive(Clone, Copy)]
 pub struct Plan<'a> {
-    pub edges: &'a [Job],
-    /// Jobs of one step, which is called by itself too.
-    pub walks: &'a [Job],
+    pub fixed: &'a Fixed,
     /// Random jobs; nine in twenty are aimed at the sun, so that a third is left when some of them,
     /// and of their single steps, are damaged.
     pub jobs: usize,
@@ -46,8 +86,8 @@ const SHORT_BY_NEW: usize = 200;
 impl Plan<'_> {
     /// So many short jobs at the sun that at least a third of all are aimed there: somewhat more
     /// than one for every two that are not random.
-    pub fn aimed_for(fixed: usize) -> usize {
-        fixed * 3 / 5
+    pub fn aimed_for(fixed: &Fixed, years: usize) -> usize {
+        (fixed.runs() + years) * 3 / 5
     }
 }
 
@@ -75,23 +115,29 @@ pub fn shown_job(job: &Job) -> String {
     ];
     let mut lines = vec![whole];
     lines.extend(doubles.map(|(name, x)| format!("  {name:<11} {}", shown(x))));
-    let steps = steps_if_any(&job.site, &job.times);
-    for (list, name) in ["diffuse", "direct", "reflectivity"].iter().enumerate() {
-        let series = doubles_of(&job.series[list]);
-        let used = steps
-            .iter()
-            .take(8)
-            .map(|step| match series.get(step.index) {
-                Some(&x) => format!("{}: {}", step.index, shown(x)),
-                None => format!("{}: none", step.index),
-            });
-        let used: Vec<String> = used.collect();
-        let len = job.series[list].len();
-        lines.push(format!("  {name}, {len} bytes, {}", used.join(", ")));
-    }
-    lines.push(format!("  results, {} bytes", job.results.len()));
+    let names = ["diffuse", "direct", "reflectivity"];
+    let series = names.iter().zip(&job.series);
+    lines.extend(series.map(|(name, series)| shown_series(name, series, job)));
+    let (days, results) = (job.days.len(), job.results.len());
+    lines.push(format!("  table of days, {days} bytes"));
+    lines.push(format!("  results, {results} bytes"));
     lines.push(shown_objects(&job.surface, &job.sectors, &job.window));
     lines.join("\n")
+}
+
+/// A series' length, and what the first steps read of it.
+fn shown_series(name: &str, series: &[u8], job: &Job) -> String {
+    let doubles = doubles_of(series);
+    let steps = steps_if_any(&job.site, &job.times);
+    let read = steps
+        .iter()
+        .take(8)
+        .map(|step| match doubles.get(step.index) {
+            Some(&x) => format!("{}: {}", step.index, shown(x)),
+            None => format!("{}: none", step.index),
+        });
+    let read: Vec<String> = read.collect();
+    format!("  {name}, {} bytes, {}", series.len(), read.join(", "))
 }
 
 fn shown_objects(surface: &Surface, sectors: &[u8], window: &[u8]) -> String {
@@ -114,6 +160,7 @@ fn shown_single(single: &Single) -> String {
         series: single.readings.map(|x| x.to_le_bytes().to_vec()),
         sectors: single.sectors.clone(),
         window: single.window.clone(),
+        days: vec![],
         results: single.results.clone(),
     };
     let [d, b, r] = single.readings.map(shown);
@@ -133,21 +180,22 @@ fn shown_answer(answer: &RunAnswer) -> String {
     )
 }
 
-fn first_other_byte(right: &[u8], got: &[u8]) -> String {
+/// The first byte of a list that differs, and the double it is of, by the doubles of a record.
+fn first_other_byte(list: &str, doubles: usize, right: &[u8], got: &[u8]) -> String {
     match (0..right.len()).find(|&at| right[at] != got[at]) {
         Some(at) => {
-            let (row, column) = (at / (8 * ROW), at / 8 % ROW);
+            let (record, double) = (at / (8 * doubles), at / 8 % doubles);
             let word = |bytes: &[u8]| match bytes.get(at / 8 * 8..at / 8 * 8 + 8) {
                 Some(word) => shown(f64::from_le_bytes(word.try_into().unwrap())),
-                None => String::from("a part word"),
+                None => format!("byte {:02X}", bytes[at]),
             };
             format!(
-                "results, byte {at} (row {row}, double {column} of a run): Rust {}, Rattle {}",
+                "{list}, byte {at} (record {record}, double {double}): Rust {}, Rattle {}",
                 word(right),
                 word(got)
             )
         }
-        None => String::from("results as they should be"),
+        None => format!("{list}: no difference"),
     }
 }
 
@@ -157,15 +205,25 @@ fn answers_same(a: &RunAnswer, b: &RunAnswer) -> bool {
     (a.number, a.step, a.count) == (b.number, b.step, b.count) && same(a.sum, b.sum)
 }
 
-/// What the judge says of a job, and what it leaves in the results.
+/// What the judge says of a job, and what it leaves in the table of days and in the results.
 fn judged(judge: &mut Judge, job: &Job) -> Left<RunAnswer> {
-    let mut results = job.results.clone();
-    let answer = judge.run(job, &mut results);
-    Left { answer, results }
+    let (mut days, mut results) = (job.days.clone(), job.results.clone());
+    let answer = judge.run(job, &mut days, &mut results);
+    Left {
+        answer,
+        days,
+        results,
+    }
 }
 
-fn same_left(right: &Left<RunAnswer>, got: &Left<RunAnswer>) -> bool {
-    answers_same(&right.answer, &got.answer) && right.results == got.results
+/// What differs, if anything: the run, or else its table of days alone.
+fn other_part(right: &Left<RunAnswer>, got: &Left<RunAnswer>) -> Option<&'static str> {
+    match () {
+        _ if !answers_same(&right.answer, &got.answer) => Some("run"),
+        _ if right.results != got.results => Some("run"),
+        _ if right.days != got.days => Some("run's table of days"),
+        _ => None,
+    }
 }
 
 /// A difference, with the smallest job by which it was found.
@@ -173,7 +231,7 @@ fn difference(job: &Job, judge: &mut Judge, lent: &mut Lent) -> String {
     let mut differ = |job: &Job| {
         let right = judged(judge, job);
         let got = lent.run(job).ok()?;
-        (!same_left(&right, &got)).then_some((right, got))
+        other_part(&right, &got).map(|_| (right, got))
     };
     let mut smallest = job.clone();
     while let Some(smaller) = smaller_jobs(&smallest)
@@ -184,11 +242,12 @@ fn difference(job: &Job, judge: &mut Judge, lent: &mut Lent) -> String {
     }
     match differ(&smallest) {
         Some((right, got)) => format!(
-            "{}\n  Rust   {}\n  Rattle {}\n  {}",
+            "{}\n  Rust   {}\n  Rattle {}\n  {}\n  {}",
             shown_job(&smallest),
             shown_answer(&right.answer),
             shown_answer(&got.answer),
-            first_other_byte(&right.results, &got.results),
+            first_other_byte("results", ROW, &right.results, &got.results),
+            first_other_byte("table of days", DAY, &right.days, &got.days),
         ),
         None => format!("{}\n  differs once and not again", shown_job(job)),
     }
@@ -354,6 +413,7 @@ struct Met {
     rows: u64,
     run_walks: Walks,
     step_walks: Walks,
+    tables: Tables,
 }
 
 impl Met {
@@ -377,6 +437,7 @@ impl Met {
         let rows = doubles_of(&right.results);
         for (step, row) in steps.iter().zip(rows.chunks_exact(ROW)) {
             self.leap_day += (step.hour >= 8760) as u64;
+            self.tables.note_row(&job.site, step.hour, row[0]);
             self.before_series += (step.time < 24.0 * job.site.start_day as f64) as u64;
             self.shaded += (0.0 < row[5] && row[5] < 1.0 && row[2] > 0.0) as u64;
             self.dark += (row[5] == 0.0) as u64;
@@ -425,6 +486,7 @@ impl Met {
             }
             settings.detail(what, *count);
         }
+        self.tables.report(settings)?;
         self.runs.report(settings, "run")?;
         self.runs.report_walks(settings, "run")?;
         self.steps.report(settings, "step")?;
@@ -455,10 +517,10 @@ impl Comparison<'_> {
         let got = self.lent.run(job)?;
         if self.plan.compared {
             let right = judged(&mut self.judge, job);
-            if !same_left(&right, &got) {
+            if let Some(part) = other_part(&right, &got) {
                 let words = difference(job, &mut self.judge, &mut self.lent);
                 let cases = self.tally.compared;
-                return Err(format!("run differs after {cases} cases\n{words}"));
+                return Err(format!("{part} differs after {cases} cases\n{words}"));
             }
             rows_are_numbers(job, &right)?;
             self.met.note(job, &right);
@@ -469,6 +531,7 @@ impl Comparison<'_> {
                 by_new(job, &right)?;
                 self.by_new += 1;
             }
+            self.met.tables.note(&mut self.judge, job, &right);
             self.tally.both_nan += right.answer.sum.is_nan() as u64;
         }
         self.tally.compared += 1;
@@ -486,6 +549,32 @@ impl Comparison<'_> {
             true => self.singles(maker, job, aimed),
             false => Ok(()),
         }
+    }
+
+    /// Those that are the same whatever the seed.
+    fn fixed_jobs(&mut self, maker: &mut Maker) -> Outcome {
+        let fixed = self.plan.fixed;
+        for job in &fixed.edges {
+            self.job_and_singles(maker, job, false)?;
+        }
+        for job in &fixed.walks {
+            self.job(job, None, true)?;
+            if self.plan.compared {
+                self.step(&maker.sound_single_of(job, ROW), None)?;
+            }
+        }
+        for job in &fixed.turns {
+            self.job_and_singles(maker, job, true)?;
+        }
+        for (job, side) in fixed.tables.iter().flat_map(|job| {
+            let sides = [Side::Back, Side::Front];
+            sides.map(|side| (job, side))
+        }) {
+            self.lent.days_side = Some(side);
+            self.job(job, None, false)?;
+        }
+        self.lent.days_side = None;
+        Ok(())
     }
 
     /// The random ones, and those that are all aimed at the sun.
@@ -571,7 +660,7 @@ impl Comparison<'_> {
             self.tally.compared,
             shown_single(single),
             got.answer,
-            first_other_byte(&results, &got.results),
+            first_other_byte("results", row, &results, &got.results),
         ))
     }
 }
@@ -597,15 +686,7 @@ pub fn section(settings: &Settings, library: &Library, plan: Plan) -> Outcome {
         years_accepted: 0,
     };
     let mut maker = Maker::new(settings.random("jobs"));
-    for job in plan.edges {
-        all.job_and_singles(&mut maker, job, false)?;
-    }
-    for job in plan.walks {
-        all.job(job, None, true)?;
-        if plan.compared {
-            all.step(&maker.sound_single_of(job, ROW), None)?;
-        }
-    }
+    all.fixed_jobs(&mut maker)?;
     all.random_jobs(&mut maker)?;
     for turn in 0..plan.years {
         let job = maker.whole_year(turn);

@@ -1,22 +1,20 @@
 //! The comparison of jobs tried on itself: the plain engine must pass, and each wrong one must be
 //! found. The library is not called.
 
-use super::{edges, must_be_numbers, section, wrong, Plan};
+use super::wrong::{By, Wrong};
+use super::{must_be_numbers, section, wrong, Fixed, Plan};
 use crate::comparison::{Outcome, Settings};
-use crate::published::jobs::{steps_of, Job, JobSite};
+use crate::published::jobs::{steps_of, JobSite};
 use crate::shading::laws::LAWS;
 
 /// Random jobs for each engine.
 const JOBS: usize = 3_000;
 
-fn found(
-    settings: &Settings,
-    plan: Plan,
-    (call, what, library): &wrong::Wrong,
-) -> Result<(), String> {
-    match section(settings, library, plan) {
+fn found(settings: &Settings, plan: Plan, wrong: &Wrong) -> Result<(), String> {
+    let Wrong { told, what, .. } = wrong;
+    match section(settings, &wrong.library, plan) {
         Ok(()) => Err(format!("self-test: {what} was not found")),
-        Err(words) if words.starts_with(&format!("{call} ")) => Ok(()),
+        Err(words) if words.starts_with(&format!("{told} ")) => Ok(()),
         Err(words) => Err(format!(
             "self-test: {what} was found in the wrong place: {words}"
         )),
@@ -59,26 +57,57 @@ fn nan_is_told() -> Outcome {
     }
 }
 
+/// The plan with these jobs and no others.
+fn alone<'a>(plan: Plan<'a>, fixed: &'a Fixed) -> Plan<'a> {
+    Plan {
+        fixed,
+        jobs: 0,
+        years: 0,
+        aimed: 0,
+        ..plan
+    }
+}
+
 /// The plain engine passes with all laws, and a comparison of nothing is an error.
 fn plain_engine(settings: &Settings, plan: Plan) -> Outcome {
     let right = wrong::without_flaw();
     let laws = &LAWS;
     section(settings, &right, Plan { laws, ..plan })
         .map_err(|words| format!("self-test, the plain engine: {words}"))?;
-    let nothing = Plan {
-        edges: &[],
-        walks: &[],
-        jobs: 0,
-        years: 0,
-        aimed: 0,
-        ..plan
-    };
-    match section(settings, &right, nothing) {
+    let nothing = Fixed::default();
+    match section(settings, &right, alone(plan, &nothing)) {
         Ok(()) => Err(String::from(
             "self-test: a comparison of nothing must be an error",
         )),
         Err(_) => Ok(()),
     }
+}
+
+/// How many wrong engines there are, all of which are found.
+fn engines_found(settings: &Settings, plan: Plan) -> Result<usize, String> {
+    let days = Fixed::days();
+    let mut count = 0;
+    for engine in &wrong::engines() {
+        let plan = match engine.by {
+            By::All => plan,
+            By::Days => alone(plan, &days),
+        };
+        found(settings, plan, engine)?;
+        count += 1;
+    }
+    for law in LAWS {
+        let plan = Plan {
+            compared: false,
+            years: 0,
+            laws: &[law],
+            ..plan
+        };
+        for engine in &wrong::lawless_engines(law) {
+            found(settings, plan, engine)?;
+            count += 1;
+        }
+    }
+    Ok(count)
 }
 
 pub fn run(seed: u64) -> Outcome {
@@ -87,37 +116,19 @@ pub fn run(seed: u64) -> Outcome {
         count: JOBS,
         print: false,
     };
-    let edges: Vec<Job> = edges::all();
-    let walks: Vec<Job> = edges::walks();
+    let fixed = Fixed::all();
     let plan = Plan {
-        edges: &edges,
-        walks: &walks,
+        fixed: &fixed,
         jobs: JOBS,
         years: 1,
-        aimed: Plan::aimed_for(edges.len() + walks.len() + 1),
+        aimed: Plan::aimed_for(&fixed, 1),
         compared: true,
         laws: &[],
     };
     step_counts()?;
     nan_is_told()?;
     plain_engine(&settings, plan)?;
-    let mut count = 0;
-    for engine in &wrong::engines() {
-        found(&settings, plan, engine)?;
-        count += 1;
-    }
-    for law in LAWS {
-        let alone = Plan {
-            compared: false,
-            years: 0,
-            laws: &[law],
-            ..plan
-        };
-        for engine in &wrong::lawless_engines(law) {
-            found(&settings, alone, engine)?;
-            count += 1;
-        }
-    }
+    let count = engines_found(&settings, plan)?;
     println!("self-test: {count} wrong engines found");
     Ok(())
 }

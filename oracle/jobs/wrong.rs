@@ -4,6 +4,8 @@
 //! is asked for; a step's row is the judge's own.
 
 use super::lent::Library;
+use crate::pilgartze::{DAY, DAYS};
+use crate::published::days::{day_in, day_table, DayValues};
 use crate::published::jobs::*;
 use crate::published::shading::{MOST_SECTORS, MOST_WINDOW_OBJECTS, SECTOR_WORDS, WINDOW_WORDS};
 use crate::published::wrong::Otherwise;
@@ -12,12 +14,26 @@ use crate::shading::call::{Call, Scene};
 use std::cell::RefCell;
 use Flaw::*;
 
-/// The call under which an engine must be found, its name for messages, and the engine.
-pub type Wrong = (&'static str, &'static str, Library);
+/// The jobs by which an engine must be found.
+#[derive(Clone, Copy, PartialEq)]
+pub enum By {
+    All,
+    /// Those about the table of days alone.
+    Days,
+}
+
+pub struct Wrong {
+    pub by: By,
+    /// The call, or its part, under which the difference must be told.
+    pub told: &'static str,
+    /// The flaw's name, for messages.
+    pub what: &'static str,
+    pub library: Library,
+}
 
 /// The flaws, and a side of the comparison for each.
 macro_rules! flaws {
-    ($($call:literal: $($flaw:ident),* $(,)?;)*) => {
+    ($($by:ident $told:literal: $($flaw:ident),* $(,)?;)*) => {
         #[derive(Clone, Copy, PartialEq)]
         #[repr(u8)]
         pub enum Flaw {
@@ -26,19 +42,20 @@ macro_rules! flaws {
             $($($flaw,)*)*
         }
 
-        /// What the comparison has to find, with the call that differs.
+        /// What the comparison has to find.
         pub fn engines() -> Vec<Wrong> {
-            vec![$($((
-                $call,
-                stringify!($flaw),
-                only($call, engine::<{ Flaw::$flaw as u8 }>()),
-            ),)*)*]
+            vec![$($(Wrong {
+                by: By::$by,
+                told: $told,
+                what: stringify!($flaw),
+                library: only($told, engine::<{ Flaw::$flaw as u8 }>()),
+            },)*)*]
         }
     };
 }
 
 flaws! {
-    "run":
+    All "run":
         // lazy ones
         RefusesAll,
         NoSectorWithoutWalk,
@@ -110,7 +127,46 @@ flaws! {
         SumOfDirect,
         SeriesWrittenTo,
         WritesBeside;
-    "step":
+    Days "run":
+        // a table that is too short
+        ShortTableTaken,
+        ShortTableTakenWithNoSteps,
+        ShortTableFirst,
+        ShortTableBeforeReading,
+        ShortTableAfterTheSteps,
+        PartWordInTable,
+        TableOf365Taken,
+        TableOf365TakenInACommonYear,
+        ExactTableRefused,
+        // what the hours read
+        HoursByTheFormerTable,
+        HoursByTheFormerTableIfItsFirstDayFits,
+        FirstDayReadsTheSecond,
+        LastDayOfACommonYearReadsTheNext,
+        LeapDayReadsTheDayBefore,
+        LeapDayEquationOfTheDayBefore,
+        LeapDayRadiationOfTheDayBefore,
+        WritesBesideTheTable;
+    Days "run's table of days":
+        // when it is filled
+        TableFilledBeforeTheChecks,
+        TableFilledBeforeTheResultsCheck,
+        ShortTableFilledInPart,
+        TableLeftOnRefusalAtAStep,
+        TableLeftOnRefusalAtStep0,
+        TableLeftWithNoSteps,
+        TableLeftInACommonYear,
+        TableLeftWhereItsFirstDayFits,
+        TableClearedOnRefusal,
+        // what is stored
+        TableOf365,
+        TableOfTheYear,
+        TableOfTheSteps,
+        TableFromDay0,
+        TableColumnsSwapped,
+        LastRecordAnUlpOff,
+        BytePastTheTableTouched;
+    All "step":
         StepStoresOnRefusal,
         StepAtTheYearsEnd,
         StepResultsUnchecked,
@@ -125,7 +181,7 @@ flaws! {
         StepUnderfootNan,
         StepSquareNan,
         StepSquareFromBehindNan;
-    "irradiance":
+    All "irradiance":
         BreakdownLeftOut,
         IrradianceResultsShort,
         ConversionIgnored,
@@ -360,12 +416,17 @@ impl Plain {
         words < ROW * rows && !self.is(ResultsNeverTooShort)
     }
 
-    fn checked(&self, job: &Job, results: usize) -> Result<Checked, u64> {
+    fn checked(&self, job: &Job, days: usize, results: usize) -> Result<Checked, u64> {
+        if self.is(ShortTableFirst) && days < DAYS_LENGTH {
+            return Err(7);
+        }
         let steps = self.fields_checked(job)?;
         let series = [0, 1, 2].map(|list: usize| self.series(&job.series[list]));
-        let too_short = self.results_too_short(results, steps.len());
+        let table_short = self.table_too_short(&job.site, days, steps.len());
+        let too_short = self.results_too_short(results, steps.len()) || table_short;
         match self.series_checked(&series, &steps) {
             Some(6) if self.is(ResultsBeforeReading) && too_short => return Err(7),
+            Some(6) if self.is(ShortTableBeforeReading) && table_short => return Err(7),
             Some(number) => return Err(number),
             None if too_short => return Err(7),
             None => {}
@@ -379,6 +440,117 @@ impl Plain {
             readings
         };
         Ok(steps.iter().map(|step| (*step, readings(step))).collect())
+    }
+
+    // --- The table of days ---
+
+    fn table_too_short(&self, site: &JobSite, days: usize, steps: usize) -> bool {
+        let of_365 = self.is(TableOf365Taken)
+            || self.is(TableOf365TakenInACommonYear) && site.leap_year == 0;
+        let needed = match () {
+            _ if self.is(ShortTableTaken) || self.is(ShortTableAfterTheSteps) => 0,
+            _ if self.is(ShortTableTakenWithNoSteps) && steps == 0 => 0,
+            _ if self.is(PartWordInTable) => DAYS_LENGTH - 7,
+            _ if of_365 => DAYS_LENGTH - 8 * DAY,
+            _ if self.is(ExactTableRefused) => DAYS_LENGTH + 1,
+            _ => DAYS_LENGTH,
+        };
+        days < needed
+    }
+
+    /// The record that is stored at some place; none where its bytes are left.
+    fn day_stored(&self, day: u32, job: &Job, steps: &Checked) -> Option<DayValues> {
+        let last = DAYS as u32 - 1;
+        let common = job.site.leap_year == 0;
+        let of_365 = self.is(TableOf365) || self.is(TableOfTheYear) && common;
+        let of_a_step = steps.iter().any(|(step, _)| step.hour / 24 == day);
+        if of_365 && day == last || self.is(TableOfTheSteps) && !of_a_step {
+            return None;
+        }
+        let before = if day == 0 { last } else { day - 1 };
+        let mut values = match self.is(TableFromDay0) {
+            true => day_in(day_table(), before),
+            false => day_in(day_table(), day),
+        };
+        if self.is(TableColumnsSwapped) {
+            values.swap(0, 1);
+        }
+        if self.is(LastRecordAnUlpOff) && day == last {
+            values[2] = ulps_from(values[2], 1);
+        }
+        Some(values)
+    }
+
+    /// Stores as much of the table as there is room for.
+    fn fill(&self, job: &Job, steps: &Checked, days: &mut [u8]) {
+        for day in 0..DAYS as u32 {
+            if let Some(values) = self.day_stored(day, job, steps) {
+                self.store(days, DAY * day as usize, &values);
+            }
+        }
+        if let (Some(byte), true) = (days.get_mut(DAYS_LENGTH), self.is(BytePastTheTableTouched)) {
+            *byte ^= 1;
+        }
+    }
+
+    /// What becomes of the table where the checks refuse.
+    fn table_of_refused(&self, number: u64, job: &Job, days: &mut [u8]) {
+        let whole = days.len() >= DAYS_LENGTH;
+        let filled = self.is(TableFilledBeforeTheChecks) && whole
+            || self.is(TableFilledBeforeTheResultsCheck) && whole && number == 7
+            || self.is(ShortTableFilledInPart) && !whole && number == 7;
+        if filled {
+            self.fill(job, &vec![], days);
+        }
+        if self.is(TableClearedOnRefusal) {
+            days.fill(0);
+        }
+    }
+
+    /// Whether the table is as it was after a run that passed the checks.
+    fn table_left(&self, job: &Job, answer: &RunAnswer, steps: &Checked) -> bool {
+        let refused = answer.number != 0;
+        let first_fits = job.days.starts_with(&day_table()[..8 * DAY]);
+        self.is(TableLeftOnRefusalAtAStep) && refused
+            || self.is(TableLeftOnRefusalAtStep0) && refused && answer.step == 0
+            || self.is(TableLeftWithNoSteps) && steps.is_empty()
+            || self.is(TableLeftInACommonYear) && job.site.leap_year == 0
+            || self.is(TableLeftWhereItsFirstDayFits) && first_fits
+    }
+
+    /// The day whose record an hour reads.
+    fn day_read(&self, site: &JobSite, day: u32) -> u32 {
+        let last = DAYS as u32 - 1;
+        match day {
+            0 if self.is(FirstDayReadsTheSecond) => 1,
+            _ if self.is(LastDayOfACommonYearReadsTheNext) => {
+                day + (day + 1 == last && site.leap_year == 0) as u32
+            }
+            _ => day - (self.is(LeapDayReadsTheDayBefore) && day == last) as u32,
+        }
+    }
+
+    /// What an hour has for its day, where that is the flaw.
+    fn other_day(&self, job: &Job, hour: u32) -> Option<DayValues> {
+        let day = hour / 24;
+        let first_fits = job.days.starts_with(&day_table()[..8 * DAY]);
+        if self.is(HoursByTheFormerTable)
+            || self.is(HoursByTheFormerTableIfItsFirstDayFits) && first_fits
+        {
+            return Some(day_in(&job.days, day));
+        }
+        let right = day_in(day_table(), day);
+        let mut values = day_in(day_table(), self.day_read(&job.site, day));
+        if day + 1 == DAYS as u32 {
+            let [_, equation, radiation] = day_in(day_table(), day - 1);
+            if self.is(LeapDayEquationOfTheDayBefore) {
+                values[1] = equation;
+            }
+            if self.is(LeapDayRadiationOfTheDayBefore) {
+                values[2] = radiation;
+            }
+        }
+        (values != right).then_some(values)
     }
 
     // --- The run ---
@@ -455,7 +627,14 @@ impl Plain {
         }
         // the judge panics at an hour past the leap year's
         let hour = step.hour.min(8783);
-        let mut row = self.row_at(judge, &job.site, &job.surface, hour, readings);
+        let (site, surface) = (&job.site, &job.surface);
+        let mut row = match self.other_day(job, hour) {
+            Some(day) => {
+                let doubles = judge.hour_by_day(site, surface, hour, readings, day);
+                judge.row_of(surface, doubles)
+            }
+            None => self.row_at(judge, site, surface, hour, readings),
+        };
         if let (Ok(row), true) = (&mut row, self.is(FactorOneAlways)) {
             row[5] = 1.0;
         }
@@ -531,14 +710,35 @@ impl Plain {
         self.accepted(&rows)
     }
 
-    fn run(&self, judge: &mut Judge, job: &Job, results: &mut [u8]) -> RunAnswer {
+    fn run(&self, judge: &mut Judge, job: &Job, days: &mut [u8], results: &mut [u8]) -> RunAnswer {
         if self.is(RefusesAll) {
             return refused(1, 0);
         }
-        let steps = match self.checked(job, results.len()) {
+        let steps = match self.checked(job, days.len(), results.len()) {
             Ok(steps) => steps,
-            Err(number) => return self.refused(number, 0, 0.0),
+            Err(number) => {
+                self.table_of_refused(number, job, days);
+                return self.refused(number, 0, 0.0);
+            }
         };
+        let answer = self.steps_run(judge, job, &steps, results);
+        if self.is(ShortTableAfterTheSteps) && days.len() < DAYS_LENGTH {
+            return self.refused(7, 0, 0.0);
+        }
+        if !self.table_left(job, &answer, &steps) {
+            self.fill(job, &steps, days);
+        }
+        answer
+    }
+
+    /// A run that passed the checks.
+    fn steps_run(
+        &self,
+        judge: &mut Judge,
+        job: &Job,
+        steps: &Checked,
+        results: &mut [u8],
+    ) -> RunAnswer {
         judge.lend(self.lists(job).unwrap());
         let walked = self.walked(&job.sectors, [FirstSectorNotWalked, LastSectorNotWalked]);
         if walked.len() < job.sectors.len() {
@@ -548,7 +748,7 @@ impl Plain {
         if self.is(RowsClearedFirst) {
             results[..8 * ROW * steps.len()].fill(0);
         }
-        let answer = self.rows(judge, job, &steps, results);
+        let answer = self.rows(judge, job, steps, results);
         let refused = answer.number != 0;
         if self.is(StoresNothing) || self.is(EarlierRowsTakenBack) && refused {
             results.copy_from_slice(&before);
@@ -649,6 +849,13 @@ unsafe fn list(start: *const u8, len: usize) -> Vec<u8> {
     std::slice::from_raw_parts(start, len).to_vec()
 }
 
+/// Changes the byte beside a list at which there is no guard page.
+unsafe fn write_beside(start: *mut u8, len: usize) {
+    let end = start.add(len);
+    let guarded = end as usize % crate::guarded::PAGE == 0;
+    *(if guarded { start.sub(1) } else { end }) ^= 1;
+}
+
 /// The three calls with what they are given made into records.
 macro_rules! extern_calls {
     ($run:ident, $step:ident, $irradiance:ident, $flaw:ident, $answers:expr) => {
@@ -678,6 +885,8 @@ macro_rules! extern_calls {
             sectors_len: usize,
             window: *const u8,
             window_len: usize,
+            days: *mut u8,
+            days_len: usize,
             results: *mut u8,
             results_len: usize,
         ) -> RunAnswer {
@@ -700,18 +909,21 @@ macro_rules! extern_calls {
                 ],
                 sectors: list(sectors, sectors_len),
                 window: list(window, window_len),
+                days: list(days, days_len),
                 results: vec![],
             };
             if $flaw == SeriesWrittenTo as u8 && direct_len > 100 {
                 direct.cast_mut().add(50).write(job.series[1][50] ^ 1);
             }
             if $flaw == WritesBeside as u8 {
-                let end = results.add(results_len);
-                let guarded = end as usize % crate::guarded::PAGE == 0;
-                *(if guarded { results.sub(1) } else { end }) ^= 1;
+                write_beside(results, results_len);
             }
+            if $flaw == WritesBesideTheTable as u8 {
+                write_beside(days, days_len);
+            }
+            let days = std::slice::from_raw_parts_mut(days, days_len);
             let results = std::slice::from_raw_parts_mut(results, results_len);
-            JUDGE.with_borrow_mut(|judge| $answers.0(judge, &job, results))
+            JUDGE.with_borrow_mut(|judge| $answers.0(judge, &job, days, results))
         }
 
         unsafe extern "C" fn $step<const $flaw: u8>(
@@ -804,14 +1016,14 @@ macro_rules! extern_calls {
 
 /// What answers a run, a step and an irradiance.
 struct Answers(
-    fn(&mut Judge, &Job, &mut [u8]) -> RunAnswer,
+    fn(&mut Judge, &Job, &mut [u8], &mut [u8]) -> RunAnswer,
     fn(&mut Judge, &Single, &mut [u8]) -> u64,
     fn(&mut Judge, &Single, &mut [u8]) -> u64,
 );
 
 fn plain<const FLAW: u8>() -> Answers {
     Answers(
-        |judge, job, results| Plain { flaw: FLAW }.run(judge, job, results),
+        |judge, job, days, results| Plain { flaw: FLAW }.run(judge, job, days, results),
         |judge, single, results| Plain { flaw: FLAW }.step(judge, single, results),
         |judge, single, results| Plain { flaw: FLAW }.irradiance(judge, single, results),
     )
@@ -834,12 +1046,12 @@ fn engine<const FLAW: u8>() -> Library {
 }
 
 /// The flaw in one of the calls, the others without it.
-fn only(call: &str, flawed: Library) -> Library {
+fn only(told: &str, flawed: Library) -> Library {
     let mut library = without_flaw();
-    match call {
-        "run" => library.run = flawed.run,
+    match told {
         "step" => library.step = flawed.step,
-        _ => library.irradiance = flawed.irradiance,
+        "irradiance" => library.irradiance = flawed.irradiance,
+        _ => library.run = flawed.run,
     }
     library
 }
@@ -905,9 +1117,14 @@ fn lawless_factor(way: u8, mut factor: f64, objects: usize) -> f64 {
     factor
 }
 
-fn lawless_run<const WAY: u8>(judge: &mut Judge, job: &Job, results: &mut [u8]) -> RunAnswer {
+fn lawless_run<const WAY: u8>(
+    judge: &mut Judge,
+    job: &Job,
+    days: &mut [u8],
+    results: &mut [u8],
+) -> RunAnswer {
     let (job, objects) = objects_left_out(WAY, job);
-    let mut answer = judge.run(&job, results);
+    let mut answer = judge.run(&job, days, results);
     if answer.number != 0 {
         return answer;
     }
@@ -939,11 +1156,16 @@ pub fn lawless_engines(law: crate::shading::laws::Law) -> Vec<Wrong> {
     use crate::shading::laws::Law;
     macro_rules! ways {
         ($($way:ident),*) => {
-            vec![$(("run", stringify!($way), Library {
-                run: run_by::<{ Lawless::$way as u8 }>,
-                step: step_by::<{ Lawless::$way as u8 }>,
-                irradiance: irradiance_by::<{ Lawless::$way as u8 }>,
-            })),*]
+            vec![$(Wrong {
+                by: By::All,
+                told: "run",
+                what: stringify!($way),
+                library: Library {
+                    run: run_by::<{ Lawless::$way as u8 }>,
+                    step: step_by::<{ Lawless::$way as u8 }>,
+                    irradiance: irradiance_by::<{ Lawless::$way as u8 }>,
+                },
+            }),*]
         };
     }
     match law {

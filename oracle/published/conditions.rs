@@ -4,6 +4,7 @@
 //! `ExternalConditions::new` works out every hour of a year, which takes milliseconds; for one hour
 //! the fields that are read are enough.
 
+use super::days::{day_values, DayValues};
 use super::*;
 use crate::probes::{ProbeHour, YEAR, YEAR_COLUMNS};
 
@@ -86,28 +87,37 @@ impl OneHour {
     /// What `ExternalConditions::new` works out for that hour, put at place 0 of the record's
     /// lists, so that it is the hour of the first step.
     pub fn fill(&self, record: &mut ExternalConditions) {
+        self.fill_by(self.day(), record);
+    }
+
+    /// What the day alone decides.
+    pub(super) fn day(&self) -> DayValues {
+        day_values(self.hour / 24)
+    }
+
+    /// The same by the values of some day.
+    pub(super) fn fill_by(&self, day: DayValues, record: &mut ExternalConditions) {
         record.latitude = self.site.latitude;
         record.longitude = self.site.longitude;
         record.timezone = self.site.timezone;
         record.diffuse_horizontal_radiations[0] = self.diffuse;
         record.solar_reflectivity_of_ground[0] = self.reflectivity;
-        self.fill_sun(record);
-        self.fill_sky(record);
+        self.fill_sun(day, record);
+        self.fill_sky(day, record);
     }
 
     /// The sun's angles.
-    pub(super) fn fill_sun(&self, record: &mut ExternalConditions) {
+    fn fill_sun(&self, day: DayValues, record: &mut ExternalConditions) {
         let Site {
             latitude,
             longitude,
             timezone,
             ..
         } = self.site;
-        let (day, hour_of_day) = (self.hour / 24, self.hour % 24);
-        let declination = init_solar_declination(init_earth_orbit_deviation(day));
+        let [declination, equation_of_time, _] = day;
         let solar_time = init_solar_time(
-            hour_of_day,
-            init_equation_of_time(day),
+            self.hour % 24,
+            equation_of_time,
             init_time_shift(timezone, longitude),
             self.hour,
         );
@@ -123,15 +133,15 @@ impl OneHour {
     }
 
     /// The beam and the coefficients of brightness, by the sun's angles that the record holds.
-    pub(super) fn fill_sky(&self, record: &mut ExternalConditions) {
+    pub(super) fn fill_sky(&self, day: DayValues, record: &mut ExternalConditions) {
         let (altitude, zenith) = (record.solar_altitudes[0], record.solar_zenith_angles[0]);
         let beam = init_direct_beam_radiation(self.site.conversion_needed, self.direct, altitude);
         let clearness = init_dimensionless_clearness_parameter(self.diffuse, beam, altitude);
-        let deviation = init_earth_orbit_deviation(self.hour / 24);
+        let [_, _, radiation] = day;
         let delta = init_dimensionless_sky_brightness_parameter(
             init_air_mass(altitude),
             self.diffuse,
-            init_extra_terrestrial_radiation(deviation),
+            radiation,
         );
 
         record.direct_beam_radiations[0] = beam;

@@ -5,11 +5,14 @@
 //! the record of a whole year takes milliseconds; `rows_by_new` has the same rows by the latter.
 
 use super::conditions::{sun_at, OneHour, Site, FIRST_STEP};
+use super::days::{fill_days, DayValues};
 use super::shading::{sectors_of, window_of, within};
 use super::walk::{walked, Walked};
 use super::wrong::Otherwise;
 use super::*;
-pub use crate::pilgartze::{doubles_of, Answer as RunAnswer, Site as JobSite, IRRADIANCE_ROW, ROW};
+pub use crate::pilgartze::{
+    doubles_of, Answer as RunAnswer, Site as JobSite, DAYS_LENGTH, IRRADIANCE_ROW, ROW,
+};
 use crate::random::Random;
 use crate::stand_ins::{beyond_in, Beyond};
 use crate::support::refusal_number;
@@ -23,7 +26,7 @@ pub type Surface = [f64; 5];
 /// Diffuse, direct, reflectivity.
 pub type Readings = [f64; 3];
 
-/// What a run is given; the results list as it is lent.
+/// What a run is given; the table of days and the results list as they are lent.
 #[derive(Clone, PartialEq)]
 pub struct Job {
     pub site: JobSite,
@@ -32,6 +35,7 @@ pub struct Job {
     pub series: [Vec<u8>; 3],
     pub sectors: Vec<u8>,
     pub window: Vec<u8>,
+    pub days: Vec<u8>,
     pub results: Vec<u8>,
 }
 
@@ -163,8 +167,8 @@ pub fn lists_of(sectors: &[u8], window: &[u8]) -> Option<Lists> {
 }
 
 /// Checks 1 to 7 of a run, in number order: its steps with their readings and its lists, or the
-/// number.
-fn checked(job: &Job, results: usize) -> Result<(Vec<(Step, Readings)>, Lists), u64> {
+/// number. Days and results are the lengths that are lent.
+fn checked(job: &Job, days: usize, results: usize) -> Result<(Vec<(Step, Readings)>, Lists), u64> {
     if !site_fine(&job.site) {
         return Err(1);
     }
@@ -191,7 +195,8 @@ fn checked(job: &Job, results: usize) -> Result<(Vec<(Step, Readings)>, Lists), 
             return Err(6);
         }
     }
-    if results / 8 < ROW * steps.len() {
+    // "a list shorter than 8,784 bytes is refusal 7, in a run with no steps too"
+    if days < DAYS_LENGTH || results / 8 < ROW * steps.len() {
         return Err(7);
     }
     let steps = steps.into_iter().map(|step| (step, readings(&step)));
@@ -359,6 +364,20 @@ impl Judge {
         answer.doubles()
     }
 
+    /// The same for an engine that has other values of the day.
+    pub fn hour_by_day(
+        &mut self,
+        site: &JobSite,
+        surface: &Surface,
+        hour: u32,
+        readings: Readings,
+        day: DayValues,
+    ) -> [f64; IRRADIANCE_ROW] {
+        let one = one_hour(site, surface, hour, readings);
+        one.fill_by(day, &mut self.conditions);
+        one.answer(&self.conditions).doubles()
+    }
+
     /// The same for an engine that takes a sum beyond ±1 otherwise.
     pub fn hour_otherwise(
         &mut self,
@@ -407,12 +426,14 @@ impl Judge {
         Ok([altitude, azimuth, direct, diffuse, total, factor?])
     }
 
-    pub fn run(&mut self, job: &Job, results: &mut [u8]) -> RunAnswer {
+    /// A run, and what it leaves in the table of days and in the results.
+    pub fn run(&mut self, job: &Job, days: &mut [u8], results: &mut [u8]) -> RunAnswer {
         self.forget();
-        let (steps, lists) = match checked(job, results.len()) {
+        let (steps, lists) = match checked(job, days.len(), results.len()) {
             Ok(all) => all,
             Err(number) => return refused(number, 0),
         };
+        fill_days(days);
         self.lend(lists);
         let mut sum = 0.0;
         for (k, &(step, readings)) in steps.iter().enumerate() {

@@ -4,6 +4,7 @@
 use super::conditions::{
     angle, hours_of_a_year, sector, sun_at, whole_year, OneHour, Series, Site, FIRST_STEP,
 };
+use super::days::{day_in, day_table};
 use super::*;
 use crate::comparison::{same, shown, Outcome, Settings};
 use crate::random::{ulps_from, Random, NAN_PATTERNS};
@@ -127,6 +128,11 @@ fn sun(checks: &mut Checks) -> Outcome {
 
     // day numbers count from 1, the functions' days from 0
     checks.equal("equation of time, n = 359", init_equation_of_time(358), 0.0)?;
+    checks.equal(
+        "equation of time, n = 366, in the table",
+        day_in(day_table(), 365)[1],
+        0.45 * 7.0,
+    )?;
     checks.equal(
         "equation of time, n = 20",
         init_equation_of_time(19),
@@ -445,6 +451,7 @@ fn whole_years(checks: &mut Checks) -> Outcome {
             "an altitude for each hour",
             year.solar_altitudes.len() == hours,
         )?;
+        days_of_a_year(checks, &year, hours / 24)?;
         let (mut steps, mut sunny) = (0, 0);
         for step in run.iter() {
             steps += 1;
@@ -458,6 +465,19 @@ fn whole_years(checks: &mut Checks) -> Outcome {
         )?;
     }
     checks.done("whole years")
+}
+
+/// The table of days against the declinations of a year's record, place by place.
+fn days_of_a_year(checks: &mut Checks, year: &ExternalConditions, days: usize) -> Outcome {
+    checks.holds(
+        "a declination for each day",
+        year.solar_declinations.len() == days,
+    )?;
+    for (day, &declination) in year.solar_declinations.iter().enumerate() {
+        let [of_table, ..] = day_in(day_table(), day as u32);
+        checks.equal("a day's declination", of_table, declination)?;
+    }
+    Ok(())
 }
 
 const YEAR_SITE: Site = Site {

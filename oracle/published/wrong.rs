@@ -487,7 +487,7 @@ impl OneHour {
             record.solar_hour_angles[0],
             altitude,
         );
-        self.fill_sky(record);
+        self.fill_sky(self.day(), record);
     }
 
     /// The irradiance in which a sum beyond ±1 is taken otherwise; the record then holds that hour.

@@ -52,7 +52,7 @@ fn record_of(job: &Job, answer: &RunAnswer, left: &[u8]) -> Record {
     record
 }
 
-/// The record of a job, if it is short, with its answer.
+/// The record of a job, if it is short, with its answer. Its table of days has room.
 fn record(judge: &mut Judge, mut job: Job) -> Option<(Record, RunAnswer)> {
     let results = job.results.len();
     let timezone_is_double =
@@ -62,7 +62,7 @@ fn record(judge: &mut Judge, mut job: Job) -> Option<(Record, RunAnswer)> {
     }
     job.results = vec![FILL; results];
     let mut left = job.results.clone();
-    let answer = judge.run(&job, &mut left);
+    let answer = judge.run(&job, &mut [FILL; DAYS_LENGTH], &mut left);
     let record = record_of(&job, &answer, &left);
     (record.len() <= LONGEST).then_some((record, answer))
 }
@@ -142,7 +142,7 @@ fn walks(file: &mut File) {
     for (walked, job) in all_ends().zip(edges::walks()) {
         if [0, 1, 18, MOST_SECTORS - 1].contains(&walked.place) {
             let mut left = vec![FILL; 8 * ROW];
-            let answer = judge.run(&job, &mut left);
+            let answer = judge.run(&job, &mut [FILL; DAYS_LENGTH], &mut left);
             file.push(&record_of(&job, &answer, &left));
         }
     }
