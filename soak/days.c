@@ -16,7 +16,7 @@ static void any_former(source *from, uint8_t *former, size_t length)
  * table from before in which one byte is not right, as in one that is lent again and was written to. */
 void lay_former_days(const soak *in, desk *on, size_t length, uint8_t fill)
 {
-    source from = source_of(in->turn, fill);
+    source from = source_of(in->seed + in->turn, fill);
     switch (fill % 3) {
     case 0:
         memset(on->former, fill, length + BESIDE);
