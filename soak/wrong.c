@@ -82,7 +82,24 @@ static void fill_days(uint8_t *days)
               0, &none, 0, days, PILGARTZE_DAYS_LENGTH, &none, 0);
 }
 
-static void before_run(LIST(direct), LIST(reflectivity), LIST(sectors), LIST(window), DAYS_LIST)
+static void before_days(DAYS_LIST)
+{
+    if (flaw("reads_past_the_days")) {
+        read_at(days + days_length);
+    }
+    if (flaw("reads_before_the_days")) {
+        read_at(days - 1);
+    }
+    /* on the same page, where no guard sees it */
+    if (flaw("stores_a_byte_before_the_days") && (uintptr_t)days % 4096 != 0) {
+        days[-1] ^= 1;
+    }
+    if (flaw("days_filled_before_the_checks") && days_length >= PILGARTZE_DAYS_LENGTH) {
+        fill_days(days);
+    }
+}
+
+static void before_run(LIST(direct), LIST(reflectivity), LIST(sectors), LIST(window))
 {
     if (flaw("changes_a_series")) {
         change(direct, direct_length);
@@ -96,15 +113,6 @@ static void before_run(LIST(direct), LIST(reflectivity), LIST(sectors), LIST(win
     }
     if (flaw("reads_before_the_sectors")) {
         read_at(sectors - 1);
-    }
-    if (flaw("reads_past_the_days")) {
-        read_at(days + days_length);
-    }
-    if (flaw("stores_a_byte_before_the_days")) {
-        days[-1] ^= 1;
-    }
-    if (flaw("days_filled_before_the_checks") && days_length >= PILGARTZE_DAYS_LENGTH) {
-        fill_days(days);
     }
     if (flaw("deep_stack")) {
         go_deep();
@@ -401,7 +409,8 @@ pilgartze_answer pilgartze_run(RUN_ARGUMENTS, DAYS_LIST, RESULTS_LIST)
     pilgartze_day_table former = {{{0.0, 0.0, 0.0}}};
     pilgartze_answer answer;
     memcpy(&former, days, room);
-    before_run(direct, direct_length, reflectivity, reflectivity_length, OBJECTS, DAYS);
+    before_run(direct, direct_length, reflectivity, reflectivity_length, OBJECTS);
+    before_days(DAYS);
     answer = run_with_wrong_days(SITE, start, end, step, SURFACE, SERIES, OBJECTS, DAYS, RESULTS);
     if (room == PILGARTZE_DAYS_LENGTH) {
         wrong_table(&former, &answer, leap_year, DAYS);
