@@ -65,6 +65,8 @@ const char *wrong_walk(soak *in, enum call call, const job *of, double altitude,
 int tell_walks(const soak *in);
 /* Puts the sun of the single step into the job, for the factor. */
 void sun_of_step(soak *in, job *of);
+/* A table of days that is too short. */
+void try_short_days(soak *in, source *from, const job *of);
 /* Two threads at once, with the same lists. */
 void try_threads(soak *in, source *from, const job *of);
 /* One list lent for all three series. */

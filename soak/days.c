@@ -84,6 +84,23 @@ void count_days(soak *in, const job *of, const pilgartze_answer *answer)
     in->days_at_step_0 += number >= PILGARTZE_REFUSED_GAP && answer->step == 0 ? 1 : 0;
 }
 
+/* The job with a table long enough and with one too short, by a byte as often as by any number: refused 7, but 1 to 6
+ * come before. The lists stand on the first desk already. */
+void try_short_days(soak *in, source *from, const job *of)
+{
+    job changed = *of;
+    pilgartze_answer answer;
+    uint64_t number;
+    changed.days = PILGARTZE_DAYS_LENGTH;
+    number = tried(in, &in->first, RUN, &changed, 1, 0).number;
+    number = number == 0 || number > PILGARTZE_REFUSED_RESULTS ? PILGARTZE_REFUSED_RESULTS : number;
+    changed.days -= one_in(from, 2) ? 1 : 1 + random_below(from, PILGARTZE_DAYS_LENGTH);
+    answer = tried(in, &in->first, RUN, &changed, 1, (uint8_t)random_word(from));
+    if (answer.number != number) {
+        failed(in, "with a short table of days not the number that it should be", RUN, &changed, &answer);
+    }
+}
+
 /* ---- The first table ------------------------------------------------------------------------------------------ */
 
 static void take_table(soak *in, const job *of, uint8_t fill, uint8_t *into)

@@ -61,6 +61,9 @@ static void one_turn(soak *in, job *made)
     if (one_in(&from, 2)) {
         try_step_of_run(in, &from, made);
     }
+    if (one_in(&from, 4)) {
+        try_short_days(in, &from, made);
+    }
     if (one_in(&from, 16)) {
         try_threads(in, &from, made);
     }

@@ -418,6 +418,9 @@ pilgartze_answer pilgartze_run(RUN_ARGUMENTS, DAYS_LIST, RESULTS_LIST)
     if (answer.number == 0 && answer.count > 0) {
         results[0] ^= bits_from_before(old, &former);
     }
+    if (flaw("short_days_before_all_else") && days_length < PILGARTZE_DAYS_LENGTH) {
+        answer = (pilgartze_answer){PILGARTZE_REFUSED_RESULTS, 0, 0, 0.0};
+    }
     if (flaw("takes_one_list_for_none") && diffuse == direct && diffuse_length <= ROW * PILGARTZE_MOST_STEPS) {
         answer = (pilgartze_answer){PILGARTZE_REFUSED_SITE, 0, 0, 0.0};
     }
