@@ -5,7 +5,7 @@
 #include <stdio.h>
 
 #define MOST_NUMBERS 16
-#define MOST_LISTS 6
+#define MOST_LISTS 7
 
 /* What the last call brought: its numbers and its lists, in order. */
 static struct {
@@ -76,8 +76,8 @@ pilgartze_answer pilgartze_run(
     uint64_t direct_beam_conversion, double start, double end, double step, double tilt, double orientation,
     double base_height, double height, double width, const uint8_t *diffuse, size_t diffuse_length,
     const uint8_t *direct, size_t direct_length, const uint8_t *reflectivity, size_t reflectivity_length,
-    const uint8_t *sectors, size_t sectors_length, const uint8_t *window, size_t window_length, uint8_t *results,
-    size_t results_length)
+    const uint8_t *sectors, size_t sectors_length, const uint8_t *window, size_t window_length, uint8_t *days,
+    size_t days_length, uint8_t *results, size_t results_length)
 {
     const pilgartze_answer answer = {101, 102, 103, 104.5};
     record_site(latitude, longitude, timezone, start_day, series_step, leap_year, direct_beam_conversion);
@@ -88,6 +88,7 @@ pilgartze_answer pilgartze_run(
     list(reflectivity, reflectivity_length);
     list(sectors, sectors_length);
     list(window, window_length);
+    list(days, days_length);
     list(results, results_length);
     return answer;
 }
@@ -148,6 +149,7 @@ static const double direct[5] = {0, 0, 0, 0, 0};
 static const double reflectivity[5] = {0, 0, 0, 0, 0};
 static pilgartze_sector sectors[3];
 static pilgartze_window_object objects[2];
+static pilgartze_day_table days;
 static pilgartze_row rows[4];
 
 static void check_numbers(const char *what, const double *expected, int count)
@@ -168,14 +170,16 @@ static void check_run(const pilgartze_weather *weather, const pilgartze_shading 
 {
     static const double expected[15] = {1.5,  2.5,  -3,   4,    5.5,  6,    7,   11.5,
                                         12.5, 13.5, 21.5, 22.5, 23.5, 24.5, 25.5};
-    const pilgartze_answer answer = pilgartze_run_job(&site, &run, &surface, weather, shading, rows, 4);
+    const pilgartze_answer answer = pilgartze_run_job(&site, &run, &surface, weather, shading, &days, rows, 4);
     check_numbers("run", expected, 15);
     check_list("run", 0, diffuse, 40);
     check_list("run", 1, direct, 40);
     check_list("run", 2, reflectivity, 40);
     check_list("run", 3, sectors, 648);
     check_list("run", 4, objects, 64);
-    check_list("run", 5, rows, 192);
+    check_list("run", 5, &days, 8784);
+    check_list("run", 6, rows, 192);
+    check(call.list_count == 7, "run's lists", 0);
     check(answer.number == 101 && answer.step == 102 && answer.count == 103 && answer.sum == 104.5, "run's answer", 0);
 }
 
@@ -204,29 +208,33 @@ static void check_factor(const pilgartze_shading *shading)
     check(answer.number == 107 && answer.factor == 108.5, "factor's answer", 0);
 }
 
-static void check_empty(const char *what, int count)
+static void check_empty(const char *what, int first, int end)
 {
     int i;
-    check(call.list_count == count, what, -1);
-    for (i = 0; i < count; i++) {
+    for (i = first; i < end; i++) {
         check(call.lists[i] != NULL, what, i);
         check(call.lengths[i] == 0, what, i);
     }
 }
 
-/* Empty lists that are NULL: any pointer but NULL, and length 0. A count of -1 wraps to no small length. */
+/* Empty lists that are NULL: any pointer but NULL, and length 0. The table of days is never empty. A count of -1 wraps
+ * to no small length. */
 static void check_empty_lists(void)
 {
     const pilgartze_weather no_weather = {NULL, NULL, NULL, 0};
     const pilgartze_shading no_shading = {NULL, 0, NULL, 0};
     const pilgartze_shading wrong = {sectors, (size_t)1 << 61, objects, (size_t)-1};
-    pilgartze_run_job(&site, &run, &surface, &no_weather, &no_shading, NULL, 0);
-    check_empty("empty run", 6);
+    pilgartze_run_job(&site, &run, &surface, &no_weather, &no_shading, &days, NULL, 0);
+    check_empty("empty run", 0, 5);
+    check_list("empty run", 5, &days, 8784);
+    check_empty("empty run", 6, 7);
+    check(call.list_count == 7, "empty run", -1);
     pilgartze_step_at(&site, 41.5, &surface, &reading, &no_shading, &rows[0]);
-    call.list_count = 2;
-    check_empty("empty step", 2);
+    check_empty("empty step", 0, 2);
+    check(call.list_count == 3, "empty step", -1);
     pilgartze_factor_at(51.5, 52.5, &surface, &no_shading);
-    check_empty("empty factor", 2);
+    check_empty("empty factor", 0, 2);
+    check(call.list_count == 2, "empty factor", -1);
     pilgartze_factor_at(51.5, 52.5, &surface, &wrong);
     check(call.lengths[0] > 36 * 216 && call.lengths[1] > 16 * 32, "wrong counts", 0);
 }
@@ -289,13 +297,17 @@ static void check_results(void)
     static const double stored[9] = {1, 2, 3, 4, 5, 6, 7, 8, 9};
     pilgartze_row row;
     pilgartze_breakdown all;
+    pilgartze_day_table table;
     memcpy(&row, stored, sizeof row);
     memcpy(&all, stored, sizeof all);
+    memcpy((char *)&table + 24 * 365, stored, 24);
     check(row.altitude == 1 && row.azimuth == 2 && row.direct == 3, "row", 0);
     check(row.diffuse == 4 && row.total == 5 && row.factor == 6, "row", 3);
     check(all.altitude == 1 && all.azimuth == 2 && all.direct == 3, "breakdown", 0);
     check(all.diffuse == 4 && all.total == 5 && all.sky == 6, "breakdown", 3);
     check(all.circumsolar == 7 && all.horizontal == 8 && all.ground == 9, "breakdown", 6);
+    check(table.days[365].declination == 1 && table.days[365].equation_of_time == 2, "day", 0);
+    check(table.days[365].extra_terrestrial_radiation == 3 && PILGARTZE_DAYS == 366, "day", 2);
 }
 
 static void check_refusal_words(void)

@@ -1,6 +1,6 @@
 /* A test of the library through include/pilgartze.h: that it is of the header's version; that the four calls agree with
- * each other, bit for bit; some factors that are known; and each refusal, with what is then stored. Good C99 and good
- * C++11.
+ * each other, bit for bit; some factors that are known; the table of days; and each refusal, with what is then stored.
+ * Good C99 and good C++11.
  *
  * With any argument it prints some results of its job in place of the test: what examples/from_python.py prints. */
 #include "pilgartze.h"
@@ -26,6 +26,8 @@ typedef struct job {
 } job;
 
 static pilgartze_row rows[STEPS];
+static pilgartze_day_table days;
+static pilgartze_day_table filled; /* as the good job leaves it */
 static int failures = 0;
 static int checks = 0;
 
@@ -76,7 +78,8 @@ static pilgartze_answer run_job(const job *of)
     const pilgartze_weather weather = {of->diffuse, of->direct, of->reflectivity, of->hours};
     const pilgartze_shading shading = shading_of(of);
     memset(rows, UNTOUCHED, sizeof rows);
-    return pilgartze_run_job(&of->site, &of->run, &of->surface, &weather, &shading, rows, of->row_count);
+    memset(&days, UNTOUCHED, sizeof days);
+    return pilgartze_run_job(&of->site, &of->run, &of->surface, &weather, &shading, &days, rows, of->row_count);
 }
 
 /* ---- The version ---------------------------------------------------------------------------------------------- */
@@ -153,13 +156,13 @@ static void check_factors(void)
     check(level_sun(&open, &reveal).number == PILGARTZE_REFUSED_REVEAL, "reveal", 0);
 }
 
-/* ---- Refusals ------------------------------------------------------------------------------------------------- */
+/* ---- What is left as it was ----------------------------------------------------------------------------------- */
 
-static int untouched(size_t from)
+static int all_untouched(const void *from, size_t length)
 {
-    const uint8_t *bytes = (const uint8_t *)rows;
+    const uint8_t *const bytes = (const uint8_t *)from;
     size_t i;
-    for (i = from * sizeof rows[0]; i < sizeof rows; i++) {
+    for (i = 0; i < length; i++) {
         if (bytes[i] != UNTOUCHED) {
             return 0;
         }
@@ -167,13 +170,103 @@ static int untouched(size_t from)
     return 1;
 }
 
+static int untouched(size_t from)
+{
+    return all_untouched(rows + from, (STEPS - from) * sizeof rows[0]);
+}
+
+/* A refused run, with its rows and its table. */
 static void check_refused(const job *spoilt, uint64_t number)
 {
     const pilgartze_answer answer = run_job(spoilt);
     check(answer.number == number && answer.count == 0 && answer.sum == 0.0, "refusal", (int)number);
     check(number >= PILGARTZE_REFUSED_GAP || answer.step == 0, "refused before the first step", (int)number);
     check(answer.step < STEPS && untouched((size_t)answer.step), "untouched", (int)number);
+    check(number >= PILGARTZE_REFUSED_GAP ? same(&days, &filled, sizeof days) : all_untouched(&days, sizeof days),
+          "days of a refused run", (int)number);
 }
+
+/* ---- The table of days ---------------------------------------------------------------------------------------- */
+
+/* The number of the job with a list of that length for the table. */
+static uint64_t run_lent(const job *of, uint8_t *list, size_t length)
+{
+    const pilgartze_site *const site = &of->site;
+    const pilgartze_surface *const surface = &of->surface;
+    const size_t series = of->hours * sizeof(double);
+    return pilgartze_run(
+               site->latitude, site->longitude, site->timezone, site->start_day, site->series_step, site->leap_year,
+               site->direct_beam_conversion, of->run.start, of->run.end, of->run.step, surface->tilt,
+               surface->orientation, surface->base_height, surface->height, surface->width,
+               (const uint8_t *)of->diffuse, series, (const uint8_t *)of->direct, series,
+               (const uint8_t *)of->reflectivity, series, (const uint8_t *)of->sectors, sizeof of->sectors,
+               (const uint8_t *)of->window, sizeof of->window, list, length, (uint8_t *)rows, sizeof rows)
+        .number;
+}
+
+/* Midsummer, midwinter, and the earth nearest to the sun and farthest from it, by day of the year from 1. */
+static void check_days(void)
+{
+    const job made = good_job();
+    int i;
+    run_job(&made);
+    filled = days;
+    for (i = 0; i < PILGARTZE_DAYS; i++) {
+        const pilgartze_day_values *const day = &filled.days[i];
+        check(day->declination >= -28.0 && day->declination <= 28.0, "declination", i);
+        check(day->equation_of_time >= -16.3 && day->equation_of_time <= 16.3, "equation of time", i);
+        check(day->extra_terrestrial_radiation >= 1300.0 && day->extra_terrestrial_radiation <= 1420.0, "radiation", i);
+    }
+    check(filled.days[173 - 1].declination > 23.3 && filled.days[173 - 1].declination < 23.5, "midsummer", 0);
+    check(filled.days[356 - 1].declination > -23.5 && filled.days[356 - 1].declination < -23.3, "midwinter", 0);
+    check(filled.days[3 - 1].extra_terrestrial_radiation > 1410.0, "nearest", 0);
+    check(filled.days[185 - 1].extra_terrestrial_radiation < 1330.0, "farthest", 0);
+}
+
+/* The table is the same whatever was in it, in either year, with no steps, and where a run is refused at step 0. */
+static void check_filled(void)
+{
+    job other = good_job();
+    uint8_t list[PILGARTZE_DAYS_LENGTH];
+    memset(list, 0x00, sizeof list);
+    check(run_lent(&other, list, sizeof list) == 0 && same(list, &filled, sizeof list), "over zeros", 0);
+    list[sizeof list - 1] ^= 1;
+    check(run_lent(&other, list, sizeof list) == 0 && same(list, &filled, sizeof list), "over a table", 0);
+    memset(list, 0xFF, sizeof list);
+    check(run_lent(&other, list, sizeof list) == 0 && same(list, &filled, sizeof list), "over ones", 0);
+    other.site.leap_year = 1;
+    check(run_job(&other).number == 0 && same(&days, &filled, sizeof days), "days of a leap year", 0);
+    other.run.end = other.run.start;
+    check(run_job(&other).number == 0 && same(&days, &filled, sizeof days), "days of no steps", 0);
+    check(untouched(0), "rows of no steps", 0);
+    other = good_job();
+    other.run.start += 10.0;
+    other.window[1] = pilgartze_reveal(0.1, 0.0);
+    check_refused(&other, PILGARTZE_REFUSED_REVEAL);
+    check(untouched(0), "refused at step 0", 0);
+}
+
+/* Bytes behind the table stay as they were; a list one byte too short is refused, for no steps too. */
+static void check_lengths(void)
+{
+    const size_t length = PILGARTZE_DAYS_LENGTH;
+    job made = good_job();
+    uint8_t list[PILGARTZE_DAYS_LENGTH + 100];
+    memset(list, UNTOUCHED, sizeof list);
+    check(run_lent(&made, list + 1, length + 99) == 0, "long list", 0);
+    check(same(list + 1, &filled, length) && all_untouched(list + 1 + length, 99), "long list", 1);
+    memset(list, UNTOUCHED, sizeof list);
+    memset(rows, UNTOUCHED, sizeof rows);
+    check(run_lent(&made, list, length - 1) == PILGARTZE_REFUSED_RESULTS, "short list", 0);
+    check(untouched(0), "rows of a short list", 0);
+    made.run.end = made.run.start;
+    check(run_lent(&made, list, length - 1) == PILGARTZE_REFUSED_RESULTS, "short list, no steps", 0);
+    check(all_untouched(list, sizeof list), "short list", 1);
+    made.surface.width = 0.0;
+    check(run_lent(&made, list, 0) == PILGARTZE_REFUSED_SURFACE, "no list, and no width", 0);
+}
+
+/* ---- Refusals ------------------------------------------------------------------------------------------------- */
 
 /* 1 to 7: nothing is stored. */
 static void check_early_refusals(void)
@@ -274,6 +367,9 @@ int main(int argc, char **argv)
     check_version();
     check_agreement();
     check_factors();
+    check_days();
+    check_filled();
+    check_lengths();
     check_early_refusals();
     check_late_refusals();
     check_single_refusals();

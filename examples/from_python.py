@@ -13,6 +13,7 @@ from ctypes import c_double, c_int64, c_size_t, c_uint64, c_void_p
 
 HOURS = 96
 STEPS = 192
+DAYS = 366
 
 # include/pilgartze.h says what each field means.
 SITE = (51.06, -1.31, 0, 170, 1.0, 0, 0)
@@ -39,6 +40,10 @@ class Row(ctypes.Structure):
     _fields_ = [(name, c_double) for name in ("altitude", "azimuth", "direct", "diffuse", "total", "factor")]
 
 
+class DayValues(ctypes.Structure):
+    _fields_ = [(name, c_double) for name in ("declination", "equation_of_time", "extra_terrestrial_radiation")]
+
+
 class Answer(ctypes.Structure):
     _fields_ = [("number", c_uint64), ("step", c_uint64), ("count", c_uint64), ("sum", c_double)]
 
@@ -58,7 +63,7 @@ def load(path):
     one_list = [c_void_p, c_size_t]
     library.pilgartze_version.argtypes = []
     library.pilgartze_version.restype = c_uint64
-    library.pilgartze_run.argtypes = site + [c_double] * 3 + surface + one_list * 6
+    library.pilgartze_run.argtypes = site + [c_double] * 3 + surface + one_list * 7
     library.pilgartze_run.restype = Answer
     library.pilgartze_factor.argtypes = [c_double] * 2 + surface + one_list * 2
     library.pilgartze_factor.restype = FactorAnswer
@@ -99,8 +104,9 @@ def print_run(library, depth):
     direct = series(7.5 * i for i in range(HOURS))
     reflectivity = series([0.2] * HOURS)
     sectors, window = make_shading(depth)
+    days = (DayValues * DAYS)()
     rows = (Row * STEPS)()
-    lists = lent(diffuse, direct, reflectivity, sectors, window, rows)
+    lists = lent(diffuse, direct, reflectivity, sectors, window, days, rows)
     answer = library.pilgartze_run(*SITE, *RUN, *SURFACE, *lists)
     if answer.number != 0:
         sys.exit(f"turned down by number {answer.number} at step {answer.step}")

@@ -7,6 +7,8 @@ mod pilgartze;
 use pilgartze::*;
 
 const HOURS: usize = 24;
+/// Of the table of days that a run fills: 366 records of three doubles.
+const TABLE: usize = 8 * 3 * 366;
 
 const SITE: Site = Site {
     latitude: 51.5,
@@ -41,8 +43,17 @@ fn main() {
         sectors: &sector(0.0, 360.0, &[]),
         window: &window_object(1, 0.5, 0.1, 0.0),
     };
+    let mut days = vec![0; TABLE];
     let mut results = vec![0; 8 * ROW * HOURS];
-    match run(&SITE, &times, &WINDOW, weather, shading, &mut results) {
+    match run(
+        &SITE,
+        &times,
+        &WINDOW,
+        weather,
+        shading,
+        &mut days,
+        &mut results,
+    ) {
         Ok(Accepted { count, sum }) => println!("{count} steps, {sum:.1} Wh/m2 of direct sun"),
         Err(Refused { refusal, step }) => println!("{refusal} at step {step}"),
     }

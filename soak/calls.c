@@ -9,8 +9,8 @@ static pilgartze_answer run_of(const job *of, const lent *at)
         site->direct_beam_conversion, of->run.start, of->run.end, of->run.step, surface->tilt, surface->orientation,
         surface->base_height, surface->height, surface->width, at->lists[DIFFUSE], of->lengths[DIFFUSE],
         at->lists[DIRECT], of->lengths[DIRECT], at->lists[REFLECTIVITY], of->lengths[REFLECTIVITY],
-        at->lists[SECTORS], of->lengths[SECTORS], at->lists[WINDOW], of->lengths[WINDOW], at->results,
-        of->results[RUN]);
+        at->lists[SECTORS], of->lengths[SECTORS], at->lists[WINDOW], of->lengths[WINDOW], at->days, of->days,
+        at->results, of->results[RUN]);
 }
 
 static uint64_t step_of(const job *of, const lent *at)
@@ -77,13 +77,22 @@ int can_give(enum call call, uint64_t number)
     return number < PILGARTZE_REFUSED_LINE && marks[call][number] == 'x';
 }
 
+/* Whether a run with this answer came as far as its steps. */
+static int came_to_steps(const pilgartze_answer *answer)
+{
+    return answer->number == 0 || answer->number >= PILGARTZE_REFUSED_GAP;
+}
+
+size_t days_stored_by(const pilgartze_answer *answer)
+{
+    return came_to_steps(answer) ? PILGARTZE_DAYS_LENGTH : 0;
+}
+
 size_t stored_by(enum call call, const pilgartze_answer *answer)
 {
     if (call == RUN) {
         const uint64_t rows = answer->number == 0 ? answer->count : answer->step;
-        return answer->number == 0 || answer->number >= PILGARTZE_REFUSED_GAP
-                   ? (size_t)rows * sizeof(pilgartze_row)
-                   : 0;
+        return came_to_steps(answer) ? (size_t)rows * sizeof(pilgartze_row) : 0;
     }
     if (answer->number != 0 || call == FACTOR) {
         return 0;

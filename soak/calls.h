@@ -7,6 +7,7 @@
 /* Where the lists are for one call. */
 typedef struct lent {
     const uint8_t *lists[LISTS];
+    uint8_t *days;
     uint8_t *results;
 } lent;
 
@@ -18,5 +19,7 @@ const char *name_of(enum call call);
 int can_give(enum call call, uint64_t number);
 /* How many bytes of the results a call stores that gave this answer. */
 size_t stored_by(enum call call, const pilgartze_answer *answer);
+/* How many bytes of the table of days a run stores that gave this answer. */
+size_t days_stored_by(const pilgartze_answer *answer);
 
 #endif

@@ -37,11 +37,12 @@ static const char *wrong_refusal(enum call call, const job *of, const pilgartze_
 
 static const char *wrong_answer(enum call call, const job *of, const pilgartze_answer *answer)
 {
+    const char *const wrong = call == RUN ? wrong_length(of, answer->number) : NULL;
     if (!can_give(call, answer->number)) {
         return "a number that this call does not give";
     }
-    if (answer->number != 0) {
-        return wrong_refusal(call, of, answer);
+    if (wrong != NULL || answer->number != 0) {
+        return wrong != NULL ? wrong : wrong_refusal(call, of, answer);
     }
     if (answer->step != 0) {
         return "accepted, and the step is not 0";
@@ -125,7 +126,10 @@ static const char *wrong_results(soak *in, const desk *on, enum call call, const
     if (!on->locked && !lists_kept(on, of)) {
         return "a list that is only read is not as it was";
     }
-    wrong = wrong_words(on->at.results, stored);
+    wrong = call == RUN ? wrong_days(in, on, of, answer) : NULL;
+    if (wrong == NULL) {
+        wrong = wrong_words(on->at.results, stored);
+    }
     if (wrong == NULL && (call == RUN || call == STEP)) {
         wrong = wrong_rows(in, on->at.results, call, of, answer);
     }
@@ -142,6 +146,9 @@ pilgartze_answer tried(soak *in, desk *on, enum call call, const job *of, int at
     pilgartze_answer answer;
     const char *wrong;
     lay_results(on, of->results[call], at_the_end, fill);
+    if (call == RUN) {
+        lay_former_days(in, on, of->days, fill);
+    }
     watched_call(name_of(call));
     answer = answer_to(call, of, &on->at);
     wrong = fegetround() == FE_TONEAREST ? wrong_answer(call, of, &answer) : "doubles are rounded in another way";
@@ -152,10 +159,13 @@ pilgartze_answer tried(soak *in, desk *on, enum call call, const job *of, int at
         failed(in, wrong, call, of, &answer);
     }
     in->seen[call][answer.number] += 1;
+    if (call == RUN) {
+        count_days(in, of, &answer);
+    }
     return answer;
 }
 
-/* Once on each desk, with all lists and the results against other ends and with other bytes in the results. */
+/* Once on each desk, with all lists against other ends, and with other bytes in the results and in the days. */
 static void try_twice(soak *in, enum call call, const job *of, int at_the_end, uint8_t fill)
 {
     const pilgartze_answer first = tried(in, &in->first, call, of, at_the_end, fill);

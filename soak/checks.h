@@ -18,6 +18,7 @@ typedef struct soak {
     uint64_t turn;
     int on_the_heap;
     desk first, second;
+    uint8_t days[PILGARTZE_DAYS_LENGTH]; /* the table of the first run */
     uint64_t seen[CALLS][PILGARTZE_REFUSED_LINE];
     uint64_t walks[CALLS][NO_SECTOR][PILGARTZE_MOST_SECTORS]; /* inside the beam, by place */
     uint64_t sound;            /* sound jobs */
@@ -31,6 +32,10 @@ typedef struct soak {
     uint64_t steps;            /* steps of a run that were called by themselves */
     uint64_t shared;           /* runs that were lent one list for all series */
     uint64_t threads;          /* calls that two threads made at once */
+    uint64_t days_at_step_0;   /* runs refused at step 0, with the table of days filled */
+    uint64_t days_no_steps;    /* accepted runs with no steps, with the same */
+    uint64_t short_days;       /* runs refused with a table that was too short */
+    uint64_t short_no_steps;   /* of these, with no steps */
 } soak;
 
 /* Ends the program, after it has told what does not hold of which call of which job. */
@@ -38,6 +43,16 @@ void failed(const soak *in, const char *what, enum call call, const job *of, con
 
 /* Makes the call from that desk, and looks at the answer and at every byte. */
 pilgartze_answer tried(soak *in, desk *on, enum call call, const job *of, int at_the_end, uint8_t fill);
+/* Takes the table of days of the first run, to which all later ones are held. */
+void learn_days(soak *in);
+/* Makes a table of days of that length, with former bytes by the fill. */
+void lay_former_days(const soak *in, desk *on, size_t length, uint8_t fill);
+/* What is wrong with the table after a run, or NULL. */
+const char *wrong_days(const soak *in, const desk *on, const job *of, const pilgartze_answer *answer);
+/* What is wrong with a run's number by the lengths of the table and the results, or NULL. */
+const char *wrong_length(const job *of, uint64_t number);
+/* Counts what became of the table. */
+void count_days(soak *in, const job *of, const pilgartze_answer *answer);
 /* All four calls, each twice. */
 void try_calls(soak *in, source *from, const job *of);
 /* Some step of a run by itself. */
@@ -50,6 +65,8 @@ const char *wrong_walk(soak *in, enum call call, const job *of, double altitude,
 int tell_walks(const soak *in);
 /* Puts the sun of the single step into the job, for the factor. */
 void sun_of_step(soak *in, job *of);
+/* A table of days that is too short. */
+void try_short_days(soak *in, source *from, const job *of);
 /* Two threads at once, with the same lists. */
 void try_threads(soak *in, source *from, const job *of);
 /* One list lent for all three series. */

@@ -3,8 +3,18 @@
 #include <stdio.h>
 #include <stdlib.h>
 
-/* So many bytes are looked at beside results that have no guard there. */
-#define BESIDE ((size_t)64)
+/* A new block in the place of an old one. */
+static uint8_t *block(const uint8_t *old, size_t length)
+{
+    uint8_t *made;
+    free((void *)(uintptr_t)old);
+    made = malloc(length == 0 ? 1 : length);
+    if (made == NULL) {
+        perror("soak: no memory for the lists");
+        exit(2);
+    }
+    return made;
+}
 
 desk new_desk(int on_the_heap)
 {
@@ -17,20 +27,9 @@ desk new_desk(int on_the_heap)
     }
     if (!on_the_heap) {
         made.results = pages_for(MOST_RESULTS + BESIDE);
+        made.days = pages_for(MOST_DAYS + BESIDE);
     }
-    return made;
-}
-
-/* A new block in the place of an old one. */
-static uint8_t *block(const uint8_t *old, size_t length)
-{
-    uint8_t *made;
-    free((void *)(uintptr_t)old);
-    made = malloc(length == 0 ? 1 : length);
-    if (made == NULL) {
-        perror("soak: no memory for the lists");
-        exit(2);
-    }
+    made.former = block(NULL, MOST_DAYS + BESIDE + 7);
     return made;
 }
 
@@ -66,6 +65,24 @@ void lay_results(desk *on, size_t length, int at_the_end, uint8_t fill)
     memset(on->at.results - (at_the_end ? BESIDE : 0), fill, length + BESIDE);
 }
 
+/* Before a table that stands against the end of its pages, else behind it. */
+static uint8_t *beside_days(const desk *on, size_t length)
+{
+    return on->days_at_the_end ? on->at.days - BESIDE : on->at.days + length;
+}
+
+void lay_days(desk *on, size_t length, int at_the_end)
+{
+    on->days_at_the_end = at_the_end;
+    if (on->on_the_heap) {
+        on->at.days = block(on->at.days, length);
+    } else {
+        on->at.days = on->days.writable + offset_in(&on->days, at_the_end, length);
+        memcpy(beside_days(on, length), on->former + length, BESIDE);
+    }
+    memcpy(on->at.days, on->former, length);
+}
+
 int lists_kept(const desk *on, const job *of)
 {
     int list;
@@ -88,4 +105,11 @@ int results_kept(const desk *on, size_t from, size_t length)
     const size_t behind = on->on_the_heap || on->at_the_end ? 0 : BESIDE;
     return all_are(on->at.results - before, before, on->fill) &&
            all_are(on->at.results + from, length - from + behind, on->fill);
+}
+
+int days_kept(const desk *on, size_t from, size_t length)
+{
+    const size_t beside = on->on_the_heap ? 0 : BESIDE;
+    return memcmp(on->at.days + from, on->former + from, length - from) == 0 &&
+           (beside == 0 || memcmp(beside_days(on, length), on->former + length, beside) == 0);
 }

@@ -15,6 +15,7 @@ enum call { RUN, STEP, IRRADIANCE, FACTOR, CALLS };
 #define MOST_SECTORS ((size_t)30 * 1000)
 #define MOST_WINDOW ((size_t)4 * 1000)
 #define MOST_RESULTS (sizeof(pilgartze_row) * PILGARTZE_MOST_STEPS + 1000)
+#define MOST_DAYS ((size_t)2 * PILGARTZE_DAYS_LENGTH)
 
 typedef struct job {
     pilgartze_site site;
@@ -27,11 +28,14 @@ typedef struct job {
     uint8_t *lists[LISTS];
     size_t lengths[LISTS];
     size_t results[CALLS]; /* the lengths of the results lists */
+    size_t days;           /* the length of the run's table of days */
 } job;
 
 size_t most_of(enum list list);
 /* Takes the room for the lists. */
 job job_with_room(void);
+/* The numbers of a day on a surface that faces the ground, so that no step needs a sector; no lists. */
+job bare_job(void);
 
 /* The run's steps, by include/pilgartze.h: how many, when, and which value of the series; for runs in range only. */
 size_t step_count(const pilgartze_run_times *run);

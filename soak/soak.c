@@ -61,6 +61,9 @@ static void one_turn(soak *in, job *made)
     if (one_in(&from, 2)) {
         try_step_of_run(in, &from, made);
     }
+    if (one_in(&from, 4)) {
+        try_short_days(in, &from, made);
+    }
     if (one_in(&from, 16)) {
         try_threads(in, &from, made);
     }
@@ -121,6 +124,24 @@ static void tell_aimed(const soak *in)
            (unsigned long long)in->overhead_refused);
 }
 
+static void tell_days(const soak *in)
+{
+    printf("table of days: filled by %llu runs that were refused at step 0 and by %llu with no steps; too short in "
+           "%llu runs, %llu of them with no steps\n",
+           (unsigned long long)in->days_at_step_0, (unsigned long long)in->days_no_steps,
+           (unsigned long long)in->short_days, (unsigned long long)in->short_no_steps);
+}
+
+/* Of tables that are not like those of most runs there must have been some of each kind. */
+static int too_few_days(const soak *in)
+{
+    if (in->days_at_step_0 == 0 || in->days_no_steps == 0 || in->short_days == 0 || in->short_no_steps == 0) {
+        printf("soak: a kind of table of days was never lent\n");
+        return 1;
+    }
+    return 0;
+}
+
 /* A third of the sound jobs must have been aimed well, and the sun overhead must have been shaded and refused. */
 static int too_seldom_aimed(const soak *in)
 {
@@ -141,6 +162,7 @@ static int told(const soak *in, const options *by)
            (unsigned long long)in->steps, (unsigned long long)in->shaded, (unsigned long long)in->shared,
            (unsigned long long)in->threads);
     tell_aimed(in);
+    tell_days(in);
     if (by->jobs == 1) {
         return 0;
     }
@@ -148,7 +170,7 @@ static int told(const soak *in, const options *by)
         printf("soak: something was never seen, numbers and walks: %d\n", unseen);
         return 1;
     }
-    return too_seldom_aimed(in);
+    return too_seldom_aimed(in) + too_few_days(in) > 0;
 }
 
 int main(int count, char **words)
@@ -164,6 +186,7 @@ int main(int count, char **words)
     in.first = new_desk(in.on_the_heap);
     in.second = new_desk(in.on_the_heap);
     watch((long)by.patience);
+    learn_days(&in);
     if (!in.on_the_heap) {
         try_stack(&in, by.stack);
         try_wide_lists(&in);

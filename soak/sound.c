@@ -31,6 +31,19 @@ job job_with_room(void)
     return made;
 }
 
+job bare_job(void)
+{
+    job made;
+    memset(&made, 0, sizeof made);
+    made.site.series_step = 1.0;
+    made.run.end = 24.0;
+    made.run.step = 1.0;
+    made.surface.tilt = 180.0;
+    made.surface.height = 1.0;
+    made.surface.width = 1.0;
+    return made;
+}
+
 /* ---- Steps ---------------------------------------------------------------------------------------------------- */
 
 size_t step_count(const pilgartze_run_times *run)
@@ -249,6 +262,7 @@ void sound_job(source *from, job *made, int years)
     made->results[STEP] = sizeof(pilgartze_row) + (one_in(from, 2) ? random_below(from, 100) : 0);
     made->results[IRRADIANCE] = sizeof(pilgartze_breakdown) + (one_in(from, 2) ? random_below(from, 100) : 0);
     made->results[FACTOR] = 0;
+    made->days = PILGARTZE_DAYS_LENGTH + (one_in(from, 2) ? random_below(from, 100) : 0);
     if (one_in(from, 2)) {
         aim(from, made);
     }

@@ -95,7 +95,7 @@ static void any_bytes(source *from, uint8_t *list, size_t length)
 /* A length about the one that is there, none, any, or far too long. */
 static size_t odd_length(source *from, size_t length, size_t most)
 {
-    static const size_t records[] = {1, 7, 8, 9, 32, 48, 72, 216};
+    static const size_t records[] = {1, 7, 8, 9, 24, 32, 48, 72, 216};
     const size_t by = records[random_below(from, COUNT(records))];
     switch (random_below(from, 8)) {
     case 0:
@@ -128,6 +128,11 @@ static void spoil_results(source *from, job *made)
 {
     const enum call call = (enum call)random_below(from, FACTOR);
     made->results[call] = odd_length(from, made->results[call], one_in(from, 50) ? MOST_RESULTS : 5000);
+}
+
+static void spoil_days(source *from, job *made)
+{
+    made->days = odd_length(from, made->days, MOST_DAYS);
 }
 
 /* Bytes of a list, in one place. */
@@ -192,8 +197,8 @@ static void reveal_put_in(source *from, job *made)
 void spoil(source *from, job *made)
 {
     static void (*const ways[])(source *, job *) = {
-        spoil_double, spoil_double,  spoil_double, spoil_double, spoil_whole_number, spoil_times,   aim,
-        spoil_length, spoil_results, spoil_bytes,  spoil_word,   spoil_bound,        reveal_put_in,
+        spoil_double, spoil_double,  spoil_double, spoil_double, spoil_whole_number, spoil_times, aim,
+        spoil_length, spoil_results, spoil_days,   spoil_bytes,  spoil_word,         spoil_bound, reveal_put_in,
     };
     ways[random_below(from, COUNT(ways))](from, made);
 }
@@ -218,6 +223,7 @@ static void scramble_lists(source *from, job *made)
     for (list = 0; list < FACTOR; list++) {
         made->results[list] = random_below(from, 1000);
     }
+    made->days = random_below(from, MOST_DAYS);
 }
 
 void scramble(source *from, job *made, size_t part)
@@ -271,8 +277,8 @@ void tell_job(const job *of)
     for (i = 0; i < sizeof words / 8; i++) {
         printf(" %016llX", (unsigned long long)words[i]);
     }
-    printf("\n  results, bytes: run %zu, step %zu, irradiance %zu\n", of->results[RUN], of->results[STEP],
-           of->results[IRRADIANCE]);
+    printf("\n  results, bytes: run %zu, step %zu, irradiance %zu; days: %zu\n", of->results[RUN], of->results[STEP],
+           of->results[IRRADIANCE], of->days);
     for (i = 0; i < LISTS; i++) {
         tell_list(names[i], of->lists[i], of->lengths[i]);
     }

@@ -1,4 +1,4 @@
-/* Two threads that call at once: the same lists, results of their own. */
+/* Two threads that call at once: the same lists, results and a table of days of their own. */
 #define _POSIX_C_SOURCE 200809L
 #include "checks.h"
 
@@ -14,6 +14,7 @@ typedef struct known {
 } known;
 
 typedef struct worker {
+    const soak *in;
     enum call call;
     const known *calls; /* two */
     size_t first;       /* with which it begins */
@@ -27,7 +28,8 @@ static int as_known(const worker *me, const known *which, const pilgartze_answer
 {
     const size_t stored = stored_by(me->call, &which->answer);
     return same_answer(answer, &which->answer) && memcmp(me->on->at.results, which->left->at.results, stored) == 0 &&
-           results_kept(me->on, stored, which->of.results[me->call]);
+           results_kept(me->on, stored, which->of.results[me->call]) &&
+           (me->call != RUN || wrong_days(me->in, me->on, &which->of, answer) == NULL);
 }
 
 static void *work(void *given)
@@ -38,8 +40,12 @@ static void *work(void *given)
     for (i = 0; i < me->times && me->wrong == 0; i++) {
         const size_t place = (me->first + i) % 2;
         const known *const which = &me->calls[place];
+        const uint8_t fill = (uint8_t)(37 * i + 101 * me->first); /* another in each thread */
         pilgartze_answer answer;
-        lay_results(me->on, which->of.results[me->call], me->first == 0, (uint8_t)(i * 37));
+        lay_results(me->on, which->of.results[me->call], me->first == 0, fill);
+        if (me->call == RUN) {
+            lay_former_days(me->in, me->on, which->of.days, fill);
+        }
         answer = answer_to(me->call, &which->of, &me->on->at);
         me->wrong = as_known(me, which, &answer) ? 0 : 1 + (int)place;
     }
@@ -80,7 +86,7 @@ static void try_call(soak *in, enum call call, known calls[2], size_t times)
     for (i = 0; i < 2; i++) {
         desks[i] = made ? desks[i] : new_desk(in->on_the_heap);
         memcpy(desks[i].at.lists, in->first.at.lists, sizeof desks[i].at.lists);
-        both[i] = (worker){call, calls, (size_t)i, times, &desks[i], NULL, 0};
+        both[i] = (worker){in, call, calls, (size_t)i, times, &desks[i], NULL, 0};
         calls[i].answer = tried(in, i == 0 ? &in->first : &in->second, call, &calls[i].of, 1, 0);
         calls[i].left = i == 0 ? &in->first : &in->second;
     }

@@ -166,6 +166,7 @@ static void one_step(source *from, job *made)
     made->results[RUN] = sizeof(pilgartze_row);
     made->results[STEP] = sizeof(pilgartze_row);
     made->results[IRRADIANCE] = sizeof(pilgartze_breakdown);
+    made->days = PILGARTZE_DAYS_LENGTH;
 }
 
 void sun_of_step(soak *in, job *of)

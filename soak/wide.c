@@ -3,19 +3,6 @@
 
 #define WIDE ((((size_t)1) << 32) + 216)
 
-static job wide_job(void)
-{
-    job made;
-    memset(&made, 0, sizeof made);
-    made.site.series_step = 1.0;
-    made.run.end = 24.0;
-    made.run.step = 1.0;
-    made.surface.tilt = 180.0;
-    made.surface.height = 1.0;
-    made.surface.width = 1.0;
-    return made;
-}
-
 static void expect(const soak *in, const job *of, const lent *at, enum call call, uint64_t number)
 {
     pilgartze_answer answer;
@@ -26,13 +13,13 @@ static void expect(const soak *in, const job *of, const lent *at, enum call call
     }
 }
 
-/* The surface faces the ground, so that no step needs a sector. Series and results may be as long as they like; sectors
- * and window objects are too many then. */
+/* Series, table of days and results may be as long as they like; sectors and window objects are too many then. */
 void try_wide_lists(soak *in)
 {
     const pages zeros = wide_pages(WIDE, 1);
     const pages room = wide_pages(WIDE, 0);
-    job of = wide_job();
+    const pages table = wide_pages(WIDE, 0);
+    job of = bare_job();
     lent at;
     int list;
     for (list = 0; list < LISTS; list++) {
@@ -40,6 +27,8 @@ void try_wide_lists(soak *in)
         of.lists[list] = zeros.readable;
         of.lengths[list] = list <= REFLECTIVITY ? WIDE - 216 + (size_t)list : 0;
     }
+    at.days = table.writable;
+    of.days = WIDE - 216;
     at.results = room.writable;
     for (list = 0; list < FACTOR; list++) {
         of.results[list] = WIDE - 216;

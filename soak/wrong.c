@@ -20,16 +20,19 @@
 #define READING diffuse, direct, reflectivity
 #define OBJECT_LISTS LIST(sectors), LIST(window)
 #define OBJECTS sectors, sectors_length, window, window_length
+#define DAYS_LIST uint8_t *days, size_t days_length
+#define DAYS days, days_length
 #define RESULTS_LIST uint8_t *results, size_t results_length
 #define RESULTS results, results_length
+#define RUN_ARGUMENTS SITE_NUMBERS, double start, double end, double step, SURFACE_NUMBERS, SERIES_LISTS, OBJECT_LISTS
 
-pilgartze_answer sound_run(SITE_NUMBERS, double start, double end, double step, SURFACE_NUMBERS, SERIES_LISTS,
-                           OBJECT_LISTS, RESULTS_LIST);
+pilgartze_answer sound_run(RUN_ARGUMENTS, DAYS_LIST, RESULTS_LIST);
 uint64_t sound_step(SITE_NUMBERS, double time, SURFACE_NUMBERS, READINGS, OBJECT_LISTS, RESULTS_LIST);
 uint64_t sound_irradiance(SITE_NUMBERS, double time, SURFACE_NUMBERS, READINGS, RESULTS_LIST);
 pilgartze_factor_answer sound_factor(double altitude, double azimuth, SURFACE_NUMBERS, OBJECT_LISTS);
 
 #define ROW sizeof(pilgartze_row)
+#define DAY sizeof(pilgartze_day_values)
 
 /* Whether that is the flaw of this run. */
 static int flaw(const char *name)
@@ -69,6 +72,31 @@ static void wait_a_little(void)
 {
     const struct timespec little = {0, 20000};
     nanosleep(&little, NULL);
+}
+
+/* As a run with no steps does. */
+static void fill_days(uint8_t *days)
+{
+    uint8_t none = 0;
+    sound_run(0.0, 0.0, 0, 0, 1.0, 0, 0, 1.0, 1.0, 1.0, 90.0, 0.0, 0.0, 1.0, 1.0, &none, 0, &none, 0, &none, 0, &none,
+              0, &none, 0, days, PILGARTZE_DAYS_LENGTH, &none, 0);
+}
+
+static void before_days(DAYS_LIST)
+{
+    if (flaw("reads_past_the_days")) {
+        read_at(days + days_length);
+    }
+    if (flaw("reads_before_the_days")) {
+        read_at(days - 1);
+    }
+    /* on the same page, where no guard sees it */
+    if (flaw("stores_a_byte_before_the_days") && (uintptr_t)days % 4096 != 0) {
+        days[-1] ^= 1;
+    }
+    if (flaw("days_filled_before_the_checks") && days_length >= PILGARTZE_DAYS_LENGTH) {
+        fill_days(days);
+    }
 }
 
 static void before_run(LIST(direct), LIST(reflectivity), LIST(sectors), LIST(window))
@@ -208,6 +236,74 @@ static pilgartze_answer wrong_answer(pilgartze_answer answer, uint8_t *results)
     return answer;
 }
 
+/* ---- The table of days ---------------------------------------------------------------------------------------- */
+
+static size_t wrong_days_length(size_t length)
+{
+    if (flaw("days_one_byte_longer_wanted") && length == PILGARTZE_DAYS_LENGTH) {
+        return length - 1;
+    }
+    return flaw("days_length_of_32_bits") ? (uint32_t)length : length;
+}
+
+/* Lets the table be what it was, from that day on. */
+static void leave_days(const pilgartze_day_table *former, size_t day, uint8_t *days)
+{
+    memcpy(days + DAY * day, &former->days[day], DAY * (PILGARTZE_DAYS - day));
+}
+
+/* A table that is not filled, where all of it should be. */
+static void leave_some_days(const pilgartze_day_table *former, const pilgartze_answer *answer, uint64_t leap_year,
+                            uint8_t *days)
+{
+    const int no_steps = answer->number == 0 && answer->count == 0;
+    if ((flaw("days_not_filled_where_refused") && answer->number != 0) ||
+        (flaw("days_not_filled_for_no_steps") && no_steps) ||
+        (flaw("days_not_filled_twice") && memcmp(days, former, DAY) == 0)) {
+        leave_days(former, 0, days);
+    }
+    if (flaw("day_366_not_filled") || (flaw("day_366_left_in_a_common_year") && leap_year == 0)) {
+        leave_days(former, 365, days);
+    }
+}
+
+static void wrong_values_of_days(uint8_t *days)
+{
+    const double nan = nan_double();
+    size_t at;
+    for (at = 0; at < PILGARTZE_DAYS_LENGTH && flaw("day_values_exchanged"); at += DAY) {
+        pilgartze_day_values day;
+        memcpy(&day, days + at, sizeof day);
+        memcpy(days + at, &day.equation_of_time, 8);
+        memcpy(days + at + 8, &day.declination, 8);
+    }
+    if (flaw("nan_on_the_last_day")) {
+        memcpy(days + PILGARTZE_DAYS_LENGTH - 8, &nan, sizeof nan);
+    }
+}
+
+/* The list has room for the table. */
+static void wrong_table(const pilgartze_day_table *former, const pilgartze_answer *answer, uint64_t leap_year,
+                        DAYS_LIST)
+{
+    if (answer->number == 0 || answer->number >= PILGARTZE_REFUSED_GAP) {
+        leave_some_days(former, answer, leap_year, days);
+        wrong_values_of_days(days);
+        if (flaw("stores_behind_the_days") && days_length > PILGARTZE_DAYS_LENGTH) {
+            days[PILGARTZE_DAYS_LENGTH] ^= 1;
+        }
+    }
+}
+
+/* The bits by which what was in the results or in the table before changes the first row. */
+static uint8_t bits_from_before(uint8_t old, const pilgartze_day_table *former)
+{
+    if (flaw("reads_the_former_days")) {
+        return *(const uint8_t *)former;
+    }
+    return flaw("reads_the_results") ? old % 2 : 0;
+}
+
 /* ---- The calls ------------------------------------------------------------------------------------------------ */
 
 #define SECTOR sizeof(pilgartze_sector)
@@ -260,32 +356,72 @@ static void store_nan_irradiance(uint8_t *results)
 
 #define SHORT(length) (flaw("lengths_of_32_bits") ? (uint32_t)(length) : (length))
 
-pilgartze_answer pilgartze_run(SITE_NUMBERS, double start, double end, double step, SURFACE_NUMBERS, SERIES_LISTS,
-                               OBJECT_LISTS, RESULTS_LIST)
+/* The sound run, with the sectors and the lengths that a flaw makes of them. */
+static pilgartze_answer run_with_wrong_lists(RUN_ARGUMENTS, DAYS_LIST, RESULTS_LIST)
 {
-    static uint8_t buffer[ROW * PILGARTZE_MOST_STEPS + 2000];
-    const int buffered = flaw("one_buffer_for_all_threads") && results_length <= sizeof buffer;
-    const uint8_t old = results_length > 0 ? results[0] : 0;
-    uint8_t *const into = buffered ? buffer : results;
     const int first = flaw("first_sector_not_walked");
     const int last = flaw("last_sector_not_walked");
+    return sound_run(SITE, start, end, step, SURFACE, diffuse, SHORT(diffuse_length), direct, SHORT(direct_length),
+                     reflectivity, SHORT(reflectivity_length), sectors + left_out(first, sectors_length),
+                     walked(first, last, sectors_length), window, window_length, days, wrong_days_length(days_length),
+                     results, SHORT(results_length));
+}
+
+/* The same by way of buffers that all threads share. */
+static pilgartze_answer run_with_buffers(RUN_ARGUMENTS, DAYS_LIST, RESULTS_LIST)
+{
+    static uint8_t rows[ROW * PILGARTZE_MOST_STEPS + 2000];
+    static uint8_t table[3 * PILGARTZE_DAYS_LENGTH];
+    uint8_t *const lent_days = days;
+    uint8_t *const lent_results = results;
     pilgartze_answer answer;
-    before_run(direct, direct_length, reflectivity, reflectivity_length, OBJECTS);
-    if (buffered) {
-        memcpy(buffer, results, results_length);
+    if (flaw("one_buffer_for_all_threads") && results_length <= sizeof rows) {
+        results = memcpy(rows, results, results_length);
     }
-    answer = sound_run(SITE, start, end, step, SURFACE, diffuse, SHORT(diffuse_length), direct, SHORT(direct_length),
-                       reflectivity, SHORT(reflectivity_length),
-                       sectors + left_out(first, sectors_length), walked(first, last, sectors_length), window,
-                       window_length, into, SHORT(results_length));
-    if (buffered) {
+    if (flaw("one_table_for_all_threads") && days_length <= sizeof table) {
+        days = memcpy(table, days, days_length);
+    }
+    answer = run_with_wrong_lists(SITE, start, end, step, SURFACE, SERIES, OBJECTS, DAYS, RESULTS);
+    if (results != lent_results || days != lent_days) {
         wait_a_little();
-        memcpy(results, buffer, results_length);
+        memmove(lent_results, results, results_length);
+        memmove(lent_days, days, days_length);
     }
-    if (flaw("reads_the_results") && answer.number == 0 && answer.count > 0 && old % 2 == 1) {
-        results[0] ^= 1;
+    return answer;
+}
+
+/* With a table of its own where a flaw takes one that is too short. */
+static pilgartze_answer run_with_wrong_days(RUN_ARGUMENTS, DAYS_LIST, RESULTS_LIST)
+{
+    pilgartze_day_table own;
+    const int taken = flaw("short_days_accepted") || (flaw("short_days_accepted_for_no_steps") && start == end);
+    if (taken && days_length < sizeof own) {
+        days = (uint8_t *)&own;
+        days_length = sizeof own;
     }
-    if (flaw("takes_one_list_for_none") && diffuse == direct && diffuse_length <= sizeof buffer) {
+    return run_with_buffers(SITE, start, end, step, SURFACE, SERIES, OBJECTS, DAYS, RESULTS);
+}
+
+pilgartze_answer pilgartze_run(RUN_ARGUMENTS, DAYS_LIST, RESULTS_LIST)
+{
+    const uint8_t old = results_length > 0 ? results[0] : 0;
+    const size_t room = days_length < PILGARTZE_DAYS_LENGTH ? days_length : PILGARTZE_DAYS_LENGTH;
+    pilgartze_day_table former = {{{0.0, 0.0, 0.0}}};
+    pilgartze_answer answer;
+    memcpy(&former, days, room);
+    before_run(direct, direct_length, reflectivity, reflectivity_length, OBJECTS);
+    before_days(DAYS);
+    answer = run_with_wrong_days(SITE, start, end, step, SURFACE, SERIES, OBJECTS, DAYS, RESULTS);
+    if (room == PILGARTZE_DAYS_LENGTH) {
+        wrong_table(&former, &answer, leap_year, DAYS);
+    }
+    if (answer.number == 0 && answer.count > 0) {
+        results[0] ^= bits_from_before(old, &former);
+    }
+    if (flaw("short_days_before_all_else") && days_length < PILGARTZE_DAYS_LENGTH) {
+        answer = (pilgartze_answer){PILGARTZE_REFUSED_RESULTS, 0, 0, 0.0};
+    }
+    if (flaw("takes_one_list_for_none") && diffuse == direct && diffuse_length <= ROW * PILGARTZE_MOST_STEPS) {
         answer = (pilgartze_answer){PILGARTZE_REFUSED_SITE, 0, 0, 0.0};
     }
     wrong_stores(&answer, RESULTS);
