@@ -39,11 +39,12 @@ use std::path::Path;
 use std::process::ExitCode;
 
 fn write(folder: &Path, settings: &Settings) -> Result<(), String> {
-    let files: [(&str, fn(&Settings) -> Result<File, String>); 4] = [
+    let files: [(&str, fn(&Settings) -> Result<File, String>); 5] = [
         ("runs", replay::runs::file),
         ("factors", replay::factors::file),
         ("leaves", replay::leaves::file),
         ("listings", replay::listings::file),
+        ("days", replay::days::file),
     ];
     for (name, file) in files {
         let file = file(settings)?;

@@ -1,5 +1,6 @@
 //! Answers of the published Rust, as the program `replay` reads them.
 
+pub mod days;
 pub mod factors;
 pub mod file;
 pub mod leaves;

@@ -10,6 +10,7 @@ use Rattle.doubles.specs.Arithmetic.{whole}
 use Rattle.words.specs.Words.{wordAt, doubleAt}
 use Rattle.objects.specs.declared.answers.FactorAnswer.{FactorAnswer}
 use Rattle.objects.specs.declared.answers.FactorAnswer.the-variants.{Factor, Refused}
+use Rattle.days.specs.Table.{withDayTable}
 use Rattle.objects.specs.Refusals.{numberOf}
 use Rattle.shading.specs.Call.{factorCall}
 use Rattle.sun.specs.declared.site.Site.{Site}
@@ -109,6 +110,12 @@ runDiffers l =
     let c = listEnd l b (wordAt l 19) in
     ltb (length l) 216 || not (seriesKept l c (part l 216 a) (part l a b) (part l b c))
 
+-- ---- the table of days
+
+-- before the run every byte of the list is A5
+unfoldable pub tableDiffers : List ℕ → Bool
+tableDiffers l = ltb (length l) 16 || not (sameText (withDayTable (replicate 8784 0xA5)) (part l 16 (length l)))
+
 -- ---- any record
 
 -- one of no kind differs, and one that has not the size that it names
@@ -117,7 +124,8 @@ kindDiffers kind l =
     cond (eqb kind 1) (runDiffers l)
     (cond (eqb kind 2) (factorDiffers l)
     (cond (eqb kind 3) (leafDiffers l)
-    (cond (eqb kind 4) (listingDiffers l) true)))
+    (cond (eqb kind 4) (listingDiffers l)
+    (cond (eqb kind 5) (tableDiffers l) true))))
 
 unfoldable pub recordDiffers : List ℕ → Bool
 recordDiffers l = cond (eqb (wordAt l 1) (length l)) (kindDiffers (wordAt l 0) l) true

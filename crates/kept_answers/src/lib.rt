@@ -2,6 +2,7 @@
 ghost use mathlib.Core.Path.{_≡_};
 ghost use Rattle.kept_answers.specs.Differs.{recordDiffers};
 
+mod day_table;
 mod factors;
 mod leaves;
 mod listings;
@@ -29,6 +30,9 @@ pub fn differs(kept: &[u8]) -> bool
     }
     if kind == 4 {
         return listings::differs(kept);
+    }
+    if kind == 5 {
+        return day_table::differs(kept);
     }
     true
 }

@@ -62,13 +62,24 @@ returns-5 c =
     let kind = sym (c .before .before .before .before .before .word-at2 .ensures) ∙ c .before .if5 .taken in
     rw (eq-eqb (wordAt l 1) (length l) size, kind) (c .differs4 .ensures)
 
+differs-requires-5 : tie.Need-differs-requires-5
+differs-requires-5 c κs = tt
+
 returns-6 : tie.Need-returns-6
 unfolding recordDiffers kindDiffers
 returns-6 c =
-    let l = now (c .before .before .before .before .before .before .before .before .args .kept) in
-    let size = sym (c .before .before .before .before .before .before .word-at .ensures) ∙ c .before .before .before .before .before .if1 .left in
-    let kind = c .before .before .before .before .word-at2 .ensures in
-    rw (eq-eqb (wordAt l 1) (length l) size, ne-eqb (wordAt l 0) 1 (λ e. c .before .before .before .if2 .left (kind ∙ e)), ne-eqb (wordAt l 0) 2 (λ e. c .before .before .if3 .left (kind ∙ e)), ne-eqb (wordAt l 0) 3 (λ e. c .before .if4 .left (kind ∙ e)), ne-eqb (wordAt l 0) 4 (λ e. c .if5 .left (kind ∙ e)))
+    let l = now (c .before .before .before .before .before .before .before .before .before .before .args .kept) in
+    let size = sym (c .before .before .before .before .before .before .before .before .word-at .ensures) ∙ c .before .before .before .before .before .before .before .if1 .left in
+    let kind = sym (c .before .before .before .before .before .before .word-at2 .ensures) ∙ c .before .if6 .taken in
+    rw (eq-eqb (wordAt l 1) (length l) size, kind) (c .differs5 .ensures)
+
+returns-7 : tie.Need-returns-7
+unfolding recordDiffers kindDiffers
+returns-7 c =
+    let l = now (c .before .before .before .before .before .before .before .before .before .args .kept) in
+    let size = sym (c .before .before .before .before .before .before .before .word-at .ensures) ∙ c .before .before .before .before .before .before .if1 .left in
+    let kind = c .before .before .before .before .before .word-at2 .ensures in
+    rw (eq-eqb (wordAt l 1) (length l) size, ne-eqb (wordAt l 0) 1 (λ e. c .before .before .before .before .if2 .left (kind ∙ e)), ne-eqb (wordAt l 0) 2 (λ e. c .before .before .before .if3 .left (kind ∙ e)), ne-eqb (wordAt l 0) 3 (λ e. c .before .before .if4 .left (kind ∙ e)), ne-eqb (wordAt l 0) 4 (λ e. c .before .if5 .left (kind ∙ e)), ne-eqb (wordAt l 0) 5 (λ e. c .if6 .left (kind ∙ e)))
 
 pub differs-spec : {M : Type 1} → statement M
 differs-spec =
@@ -85,4 +96,6 @@ differs-spec =
     returns-4
     differs-requires-4
     returns-5
-    returns-6)
+    differs-requires-5
+    returns-6
+    returns-7)
