@@ -243,6 +243,11 @@ fn measure_one_step(lists: Lists) -> Result<(), String> {
     lent.step().map_err(named)?;
     alike(&lent.rows(), &rows).map_err(named)?;
 
+    let by_step = measure::medians(
+        || repeated(|| black_box(black_box(&mut lent).step()).unwrap()),
+        || rust(&job, &mut rows),
+    );
+    print(&name("one step, by `pilgartze_step`"), by_step);
     let by_run = measure::medians(
         || {
             repeated(|| {
@@ -251,12 +256,10 @@ fn measure_one_step(lists: Lists) -> Result<(), String> {
         },
         || rust(&job, &mut rows),
     );
-    print(&name("a run of one step"), by_run);
-    let by_step = measure::medians(
-        || repeated(|| black_box(black_box(&mut lent).step()).unwrap()),
-        || rust(&job, &mut rows),
+    print(
+        &name("one step, by a run and so with its table of days"),
+        by_run,
     );
-    print(&name("`pilgartze_step`"), by_step);
     Ok(())
 }
 
@@ -273,13 +276,19 @@ fn measure_quarter_hours(lists: Lists) {
     );
 }
 
-/// The library alone: a year, a run of one step, and the step by itself.
+/// The library alone: a year by hours and by quarter-hours, a run of one step, and the step by itself.
 fn measure_alone(lists: Lists) -> Result<(), String> {
-    let (year, hour) = (lists.year(1.0), lists.one_step());
-    let mut lent = Lent::new(&year, HOURS);
-    let (_, sum) = lent.run()?;
-    let name = format!("a year of hours, µs: {}", lists.name());
-    measure::alone(&name, sum, || rattle(&mut lent));
+    for (what, step, count) in [
+        ("a year of hours", 1.0, HOURS),
+        ("a year of quarter-hours", 0.25, 4 * HOURS),
+    ] {
+        let year = lists.year(step);
+        let mut lent = Lent::new(&year, count);
+        let (_, sum) = lent.run()?;
+        let name = format!("{what}, µs: {}", lists.name());
+        measure::alone(&name, sum, || rattle(&mut lent));
+    }
+    let hour = lists.one_step();
     let mut lent = Lent::new(&hour, 1);
     let (_, sum) = lent.run()?;
     let name = format!("a run of one step, µs: {}", lists.name());

@@ -304,9 +304,9 @@ typedef struct pilgartze_row {
 
 /* What depends on the day alone. */
 typedef struct pilgartze_day_values {
-    double declination;                 /* the sun's, degrees: within 28 of 0 */
-    double equation_of_time;            /* minutes: within 16.3 of 0 */
-    double extra_terrestrial_radiation; /* W/m2: 1300..1420 */
+    double declination;                 /* the sun's, in degrees, north positive: within 28 of 0 */
+    double equation_of_time;            /* in minutes: within 16.3 of 0 */
+    double extra_terrestrial_radiation; /* in W/m2: 1300..1420 */
 } pilgartze_day_values;
 
 /* How many days the table of a run has, in either year, and its length in bytes. */

@@ -1,7 +1,6 @@
 -- The table of days: stored record by record it is the definition's, and each day is read back from it as it was worked out.
 -- Assumes nothing.
 use mathlib.Core.Path.{_≡_, refl, sym, ap, ap₂, _∙_, subst, subst₂}
-use mathlib.Core.Bool.{Bool, cond}
 use mathlib.Core.List.{List, _++_}
 use Prim.Native.Nat.{ℕ, zero, suc, _+_, _-_, _*_, _/_, _≤_, _<_}
 use native.Mathlib.Omega.{arith}
@@ -16,7 +15,7 @@ use Rattle.words.specs.Words.{bytesOfDouble, wordCount, doubleAt, putDouble}
 use Rattle.words.proofs.Stores.{sets-append, getD-sets-before, getD-sets-behind}
 use Rattle.words.proofs.Laws.{length-double, double-same, put-double-in, length-putDouble, wordCount-putDouble, other-double, stored-double}
 use Rattle.days.specs.declared.Day.{Day}
-use Rattle.days.specs.Day.{solarDeclination, orbitDeviation, equationOfTime, extraTerrestrialRadiation, dayOf}
+use Rattle.days.specs.Day.{solarDeclination, equationOfTime, extraTerrestrialRadiation, dayOf}
 use Rattle.days.proofs.Range.{day-in-range}
 use Rattle.days.specs.Table.{dayRecord, dayRecords, dayTable, withDayTable, dayAt, putDay, DayInRange, HoldsDays}
 
@@ -39,10 +38,7 @@ module _ (l : List ℕ) (i : ℕ) (day : Day) where
   unfolding putDay
   length-putDay = simp length-putDouble
 
-  wordCount-putDay : wordCount (putDay l i day) ≡ wordCount l
-  unfolding putDay
-  wordCount-putDay = simp wordCount-putDouble
-
+  -- the list after each store but the last
   abbrev one : List ℕ
   one = putDouble l (3 * i) (day .declination)
 

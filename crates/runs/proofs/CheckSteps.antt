@@ -2,8 +2,7 @@
 use mathlib.Core.Path.{_≡_, refl}
 use mathlib.Core.Bool.{Bool, true, false, _&&_}
 use mathlib.Core.List.{List}
-use Prim.Native.Nat.{ℕ, _*_, _≤_, _<_}
-use borrow.Author.Tests.{le-leb, lt-leb}
+use Prim.Native.Nat.{ℕ, _≤_}
 use lib.Dec.{T, leb, leb→le}
 use lib.IntN.{pos, negℤ}
 use lib.Signed.{leZ}
@@ -13,7 +12,6 @@ use Rattle.doubles.specs.Ranges.{within}
 use lib.Ieee.Fits.{and-l, and-r}
 use Rattle.sun.specs.declared.site.Site.{Site}
 use Rattle.sun.specs.Site.{siteFine, hoursInYear}
-use Rattle.words.specs.Words.{wordCount}
 use Rattle.simulation_time.specs.declared.run.Run.{Run}
 use Rattle.simulation_time.specs.Steps.{stepCount, times}
 use Rattle.simulation_time.specs.RunChecks.{runAccepted}
@@ -23,7 +21,7 @@ use Rattle.object_checks.specs.Checks.{sectorsFine, windowFine}
 use Rattle.jobs.specs.declared.answers.Checked.{Checked}
 use Rattle.jobs.specs.declared.answers.Checked.the-variants.{Steps, Refused}
 use Rattle.jobs.specs.Job.{Job}
-use Rattle.jobs.specs.JobChecks.{indicesFine, readingsFine, resultsFine, tried, seriesChecked, checked}
+use Rattle.jobs.specs.JobChecks.{indicesFine, readingsFine, tried, seriesChecked, checked}
 
 module _ (day : ℕ) (step : Float) (run : Run) (diffuse direct reflectivity : List ℕ) (room : Bool) where
   abbrev pub IndicesAre : Bool → Type 0

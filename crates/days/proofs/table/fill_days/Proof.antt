@@ -1,11 +1,11 @@
--- `fill_days` meets its contract.
-use Prim.Native.Nat.{ℕ, _+_, _-_, _*_, _≤_}
-use native.Mathlib.Omega.{arith}
-use borrow.Author.Needs.{needs}
-use lib.ListN.{length}
-use lib.Seq.{sets}
+-- `fill_days` meets its contract. The loop's invariant: what is left of the table, stored from here on, comes to all of it.
 use mathlib.Core.Path.{_≡_, refl, sym, ap, _∙_, subst}
 use mathlib.Core.List.{List}
+use Prim.Native.Nat.{ℕ, _+_, _-_, _*_, _≤_}
+use native.Mathlib.Omega.{arith}
+use lib.ListN.{length}
+use lib.Seq.{sets}
+use borrow.Author.Needs.{needs}
 use Rattle.days.specs.Day.{dayOf}
 use Rattle.days.specs.Table.{dayRecords, withDayTable, putDay}
 use Rattle.days.proofs.TableLaws.{length-putDay, record-next, records-done, table-whole}

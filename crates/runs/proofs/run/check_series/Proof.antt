@@ -8,7 +8,6 @@ use Rattle.jobs.specs.declared.answers.Checked.the-variants.{Steps}
 use Rattle.jobs.specs.JobChecks.{indicesFine, readingsFine}
 use Rattle.jobs.specs.Run.{lent, roomFine}
 use Rattle.runs.proofs.CheckSteps.{series-refused, reading-refused, results-refused, series-passed}
-use borrow.Author.Needs.{needs}
 use Rattle.runs.proofs.run.check_series.Statement.{statement}
 use Rattle.runs.proofs.run.check_series.Tie as tie
 
