@@ -7,8 +7,6 @@ mod pilgartze;
 use pilgartze::*;
 
 const HOURS: usize = 24;
-/// Of the table of days that a run fills: 366 records of three doubles.
-const TABLE: usize = 8 * 3 * 366;
 
 const SITE: Site = Site {
     latitude: 51.5,
@@ -43,7 +41,7 @@ fn main() {
         sectors: &sector(0.0, 360.0, &[]),
         window: &window_object(1, 0.5, 0.1, 0.0),
     };
-    let mut days = vec![0; TABLE];
+    let mut days = vec![0; DAYS_LENGTH];
     let mut results = vec![0; 8 * ROW * HOURS];
     match run(
         &SITE,

@@ -92,7 +92,7 @@ static void make_street(pilgartze_sector *sectors)
 /* Runs the year; a job that is turned down ends the program. */
 static pilgartze_answer quote(const pilgartze_weather *weather, const pilgartze_shading *shading, pilgartze_row *rows)
 {
-    static pilgartze_day_table days; /* the run works each day out once, in here */
+    pilgartze_day_table days; /* the run works each day out once, in here */
     const pilgartze_answer answer = pilgartze_run_job(&site, &year, &window, weather, shading, &days, rows, HOURS);
     if (answer.number != PILGARTZE_ACCEPTED) {
         fprintf(stderr, "turned down: %s (%u) at step %u\n", pilgartze_refusal_word(answer.number),

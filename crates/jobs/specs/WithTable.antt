@@ -1,31 +1,84 @@
 -- Days worked out once: what is claimed of a run that fills a table of days and whose hours read it. `days-worked-out-once`
 -- (proofs/WithTableLaws.antt) proves it.
 use mathlib.Core.Path.{_≡_}
-use Prim.Native.Nat.{ℕ, _+_, _/_, _≤_, _<_}
-use lib.Dec.{T}
+use mathlib.Core.List.{List}
+use Prim.Native.Nat.{ℕ, zero, suc, _+_, _/_, _%_, _≤_, _<_}
+use lib.Dec.{T, eqb}
 use lib.ListN.{length, getD}
+use lib.Ieee.{Float}
+use Rattle.doubles.specs.Arithmetic.{_⊕_, whole}
+use Rattle.days.specs.declared.Day.{Day}
 use Rattle.days.specs.Day.{dayOf}
 use Rattle.days.specs.Table.{dayAt, withDayTable}
+use Rattle.orientation.specs.Orientation.{orientation180}
+use Rattle.sun.specs.declared.site.Site.{Site}
+use Rattle.sun.specs.declared.hour.Hour.{Hour}
 use Rattle.sun.specs.Site.{hoursInYear}
+use Rattle.sun.specs.Hour.{sinCosOf, timeShift}
+use Rattle.sun.specs.HourParts.{hourBy}
+use Rattle.irradiance.specs.declared.parts.Irradiance.{Irradiance}
+use Rattle.irradiance.specs.Sky.{skyOf}
+use Rattle.irradiance.specs.Surface.{incidenceOf}
+use Rattle.irradiance.specs.Parts.{irradianceOf}
 use Rattle.simulation_time.specs.Steps.{timeAt}
 use Rattle.simulation_time.specs.Timestep.{currentHour}
 use Rattle.objects.specs.declared.answers.Refusal.{Refusal}
+use Rattle.objects.specs.declared.surface.Surface.{Surface}
+use Rattle.weather.specs.declared.Reading.{Reading}
+use Rattle.jobs.specs.declared.answers.Row.{Row}
+use Rattle.jobs.specs.declared.answers.StepAnswer.{StepAnswer}
+use Rattle.jobs.specs.declared.answers.RunAnswer.the-variants as run
 use Rattle.jobs.specs.declared.answers.Checked.the-variants.{Steps, Refused}
-use Rattle.jobs.specs.Job.{Job}
+use Rattle.jobs.specs.Job.{Job, readingAt}
 use Rattle.jobs.specs.JobChecks.{daysFine, checked}
-use Rattle.jobs.specs.Run.{Lent, roomFine, runOf, plainRun}
+use Rattle.jobs.specs.Step.{shadingAt, rowWith, stepAt}
+use Rattle.jobs.specs.Run.{Ran, ran, putRow, withRow, onRow, Lent, roomFine, runOf, plainRun}
+
+-- ---- a step whose hour reads its day from a list
+
+-- the sun of an hour of the year, by a day's values
+unfoldable pub sunByDay : Site → Day → ℕ → Hour
+sunByDay site day hour =
+    let shift = timeShift (site .timezone) (site .longitude) in
+    hourBy (sinCosOf (site .latitude)) (sinCosOf (day .declination)) (day .«equation_of_time») shift (hour % 24)
+
+unfoldable pub irradianceByDay : Site → Surface → Day → Hour → Reading → Irradiance
+irradianceByDay site surface day sun reading =
+    let tilt = sinCosOf (surface .tilt) in
+    let sky = skyOf (eqb (site .«direct_beam_conversion») 1) sun (day .«extra_terrestrial_radiation») (reading .diffuse) (reading .direct) in
+    let facing = sinCosOf (orientation180 (surface .orientation)) in
+    let incidence = incidenceOf (sinCosOf (site .latitude)) (sinCosOf (day .declination)) tilt facing sun in
+    irradianceOf tilt incidence sky (sun .«sin_altitude») (reading .reflectivity)
+
+unfoldable pub stepByTable : List ℕ → Job → Float → StepAnswer
+stepByTable days job time =
+    let day = dayAt days (currentHour time / 24) in
+    let sun = sunByDay (job .site) day (currentHour time) in
+    rowWith sun (irradianceByDay (job .site) (job .surface) day sun (readingAt job time)) (shadingAt (job .surface) sun (job .sectors) (job .window))
+
+-- n steps like that, from the i-th on: as `runFrom`, but for the table
+unfoldable pub runByTable : ℕ → List ℕ → Job → ℕ → Float → Float → List ℕ → Ran
+runByTable zero days job i time sum results = ran (run.Accepted i sum) results
+runByTable (suc n) days job i time sum results =
+    onRow (stepByTable days job time) i results
+    (λ (row : Row). runByTable n days job (i + 1) (time ⊕ job .run .step) (withRow sum row) (putRow results i row))
+
+-- ---- the claim
 
 -- the day of a job's i-th step, from 0
 abbrev pub dayOfStep : Job → ℕ → ℕ
 dayOfStep job i = currentHour (timeAt (job .run) i) / 24
 
 -- Where the checks have passed and there are n steps: the list of days that the run leaves is the one that was lent, with the table over
--- its front, also where n is 0 or a step is refused. Each step's day is one of the year's, 365 or 366, and its record there holds the
--- values by which the step's row is defined.
+-- its front, also where n is 0 or a step is refused. Each step's day is one of the year's, 365 or 366; its record there holds the values
+-- by which the step's row is defined. So the step whose hour reads them there is the step without the table, row or refusal, and the
+-- run of these steps is the run.
 pub record TableFilled (job : Job) (lists : Lent) (n : ℕ) : Type 0 where
   pub filled : runOf job lists .days ≡ withDayTable (lists .days)
   pub day-in-year : (i : ℕ) → i < n → dayOfStep job i < hoursInYear (job .site) / 24
   pub day-read : (i : ℕ) → i < n → dayAt (runOf job lists .days) (dayOfStep job i) ≡ dayOf (dayOfStep job i + 1)
+  pub same-step : (i : ℕ) → i < n → stepByTable (runOf job lists .days) job (timeAt (job .run) i) ≡ stepAt job (timeAt (job .run) i)
+  pub same-run : runByTable n (runOf job lists .days) job 0 (job .run .start) (whole 0) (lists .results) ≡ runOf job lists .ran
 
 -- every result of a run is the one without the table, in either year
 pub record WithTable (job : Job) (lists : Lent) : Type 0 where
