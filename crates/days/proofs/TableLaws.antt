@@ -7,65 +7,50 @@ use native.Mathlib.Omega.{arith}
 use lib.ListN.{length, drop, getD, length-append}
 use lib.Seq.{sets, length-sets, sets-eq}
 use lib.Dec.{ltb}
-use lib.Ieee.{binary64}
+use lib.Ieee.{nan, binary64}
 use lib.Ieee.Fits.{nan-fits, add-fits, sub-fits, mul-fits}
 use Rattle.doubles.specs.Order.{Fits}
 use Rattle.doubles.proofs.MinMax.{either-fits}
-use Rattle.words.specs.Words.{bytesOfDouble, wordCount, doubleAt, putDouble}
+use Rattle.words.specs.Words.{bytesOfDoubles, wordCount, doubleAt}
 use Rattle.words.proofs.Stores.{sets-append, getD-sets-before, getD-sets-behind}
-use Rattle.words.proofs.Laws.{length-double, double-same, put-double-in, length-putDouble, wordCount-putDouble, other-double, stored-double}
+use Rattle.words.proofs.Laws.{double-same}
+use Rattle.words.proofs.DoubleStores.{putDoubles, AllFit, length-putDoubles, stored-doubles, length-doubles, put-doubles-in}
 use Rattle.days.specs.declared.Day.{Day}
 use Rattle.days.specs.Day.{solarDeclination, equationOfTime, extraTerrestrialRadiation, dayOf}
 use Rattle.days.proofs.Range.{day-in-range}
-use Rattle.days.specs.Table.{dayRecord, dayRecords, dayTable, withDayTable, dayAt, putDay, DayInRange, HoldsDays}
+use Rattle.days.specs.Table.{dayDoubles, dayRecords, dayTable, withDayTable, dayAt, putDay, DayInRange, HoldsDays}
 
 -- ---- lengths
 
-length-record : (day : Day) → length (dayRecord day) ≡ 24
-unfolding dayRecord
-length-record day = simp (length-append, length-double)
+length-record : (day : Day) → length (bytesOfDoubles (dayDoubles day)) ≡ 24
+unfolding dayDoubles
+length-record day = length-doubles (dayDoubles day)
 
 length-records : (count n : ℕ) → length (dayRecords count n) ≡ 24 * count
 unfolding dayRecords
 length-records zero n = refl
 length-records (suc count) n =
-    length-append (dayRecord (dayOf n)) (dayRecords count (n + 1)) ∙ omega (arith, length-record (dayOf n), length-records count (n + 1))
+    length-append (bytesOfDoubles (dayDoubles (dayOf n))) (dayRecords count (n + 1)) ∙ omega (arith, length-record (dayOf n), length-records count (n + 1))
 
 -- ---- a record stored
 
 module _ (l : List ℕ) (i : ℕ) (day : Day) where
-  pub length-putDay : length (putDay l i day) ≡ length l
-  unfolding putDay
-  length-putDay = simp length-putDouble
-
-  -- the list after each store but the last
-  abbrev one : List ℕ
-  one = putDouble l (3 * i) (day .declination)
-
-  abbrev two : List ℕ
-  two = putDouble one (3 * i + 1) (day .«equation_of_time»)
-
   -- its three doubles, one behind the other
-  put-record : 24 * i + 24 ≤ length l → putDay l i day ≡ sets l (24 * i) (dayRecord day)
-  unfolding putDay dayRecord wordCount
+  day-doubles : putDay l i day ≡ putDoubles l (3 * i) (dayDoubles day)
+  unfolding putDay putDoubles dayDoubles
+  day-doubles =
+      let second : 3 * i + 1 ≡ suc (3 * i) = omega arith in
+      let third : 3 * i + 2 ≡ suc (suc (3 * i)) = omega arith in
+      rw (second, third)
+
+  pub length-putDay : length (putDay l i day) ≡ length l
+  length-putDay = ap length day-doubles ∙ length-putDoubles (dayDoubles day) l (3 * i)
+
+  put-record : 24 * i + 24 ≤ length l → putDay l i day ≡ sets l (24 * i) (bytesOfDoubles (dayDoubles day))
+  unfolding dayDoubles wordCount
   put-record h =
-      let a = bytesOfDouble (day .declination) in
-      let b = bytesOfDouble (day .«equation_of_time») in
-      let c = bytesOfDouble (day .«extra_terrestrial_radiation») in
-      let p : 24 * i ≡ 8 * (3 * i) = omega arith in
-      let q : 24 * i + length a ≡ 8 * (3 * i + 1) = omega (arith, length-double (day .declination)) in
-      let r : 24 * i + length a + length b ≡ 8 * (3 * i + 2) = omega (arith, length-double (day .declination), length-double (day .«equation_of_time»)) in
-      let joined : 24 * i + length (a ++ b) ≡ 24 * i + length a + length b = omega (arith, length-append a b) in
-      let first : one ≡ sets l (24 * i) a = put-double-in l (3 * i) (day .declination) (omega arith) ∙ ap (λ (k : ℕ). sets l k a) (sym p) in
-      let second : two ≡ sets one (24 * i + length a) b =
-      put-double-in one (3 * i + 1) (day .«equation_of_time») (omega (arith, length-putDouble l (3 * i) (day .declination))) ∙ ap (λ (k : ℕ). sets one k b) (sym q) in
-      let third : putDouble two (3 * i + 2) (day .«extra_terrestrial_radiation») ≡ sets two (24 * i + length a + length b) c =
-      put-double-in two (3 * i + 2) (day .«extra_terrestrial_radiation»)
-      (omega (arith, length-putDouble l (3 * i) (day .declination), length-putDouble one (3 * i + 1) (day .«equation_of_time»)))
-      ∙ ap (λ (k : ℕ). sets two k c) (sym r) in
-      third
-      ∙ ap (λ (m : List ℕ). sets m (24 * i + length a + length b) c) (second ∙ ap (λ (m : List ℕ). sets m (24 * i + length a) b) first)
-      ∙ sym (sets-append l (24 * i) (a ++ b) c ∙ ap₂ (λ (m : List ℕ) (k : ℕ). sets m k c) (sets-append l (24 * i) a b) (joined))
+      let p : 8 * (3 * i) ≡ 24 * i = omega arith in
+      day-doubles ∙ put-doubles-in (dayDoubles day) l (3 * i) (omega (arith, h)) ∙ ap (λ (k : ℕ). sets l k (bytesOfDoubles (dayDoubles day))) p
 
 -- ---- the records stored one by one
 
@@ -75,8 +60,8 @@ first-record : (count n p : ℕ) (l : List ℕ) → 24 * p + 24 ≤ length l
 unfolding dayRecords
 first-record count n p l h =
     let rest : List ℕ = dayRecords count (n + 1) in
-    let k : 24 * p + length (dayRecord (dayOf n)) ≡ 24 * (p + 1) = omega (arith, length-record (dayOf n)) in
-    sets-append l (24 * p) (dayRecord (dayOf n)) rest ∙ ap₂ (λ (m : List ℕ) (a : ℕ). sets m a rest) (sym (put-record l p (dayOf n) h)) k
+    let k : 24 * p + length (bytesOfDoubles (dayDoubles (dayOf n))) ≡ 24 * (p + 1) = omega (arith, length-record (dayOf n)) in
+    sets-append l (24 * p) (bytesOfDoubles (dayDoubles (dayOf n))) rest ∙ ap₂ (λ (m : List ℕ) (a : ℕ). sets m a rest) (sym (put-record l p (dayOf n) h)) k
 
 -- in a loop: from the i-th on, what is left of the table
 module _ (l : List ℕ) (i : ℕ) where
@@ -103,41 +88,28 @@ table-whole l h = over-front (dayRecords 366 1) l 8784 (length-records 366 1) h
 -- ---- each day is read back
 
 -- a day's values are doubles
-pub record DayFits (day : Day) : Type 0 where
-  pub declination : Fits (day .declination)
-  pub equation : Fits (day .«equation_of_time»)
-  pub radiation : Fits (day .«extra_terrestrial_radiation»)
-
-pub day-fits : (n : ℕ) → DayFits (dayOf n)
-unfolding dayOf solarDeclination equationOfTime extraTerrestrialRadiation
-day-fits n = record {
-  declination = record { holds = add-fits binary64 _ _ };
-  equation =
-      either-fits (ltb n 21) (record { holds = add-fits binary64 _ _ })
-      (either-fits (ltb n 136) (record { holds = add-fits binary64 _ _ })
-      (either-fits (ltb n 241) (record { holds = sub-fits binary64 _ _ })
-      (either-fits (ltb n 336) (record { holds = sub-fits binary64 _ _ })
-      (either-fits (ltb n 367) (record { holds = mul-fits binary64 _ _ }) (record { holds = nan-fits binary64 })))));
-  radiation = record { holds = mul-fits binary64 _ _ };
-}
+day-fits : (n : ℕ) → AllFit (dayDoubles (dayOf n))
+unfolding dayDoubles dayOf solarDeclination equationOfTime extraTerrestrialRadiation
+day-fits n = (add-fits binary64 _ _, (equation .holds, (mul-fits binary64 _ _, tt)))
+  where
+    equation : Fits (equationOfTime n)
+    equation = unfold equationOfTime in (
+        either-fits (ltb n 21) (record { holds = add-fits binary64 _ _ })
+        (either-fits (ltb n 136) (record { holds = add-fits binary64 _ _ })
+        (either-fits (ltb n 241) (record { holds = sub-fits binary64 _ _ })
+        (either-fits (ltb n 336) (record { holds = sub-fits binary64 _ _ })
+        (either-fits (ltb n 367) (record { holds = mul-fits binary64 _ _ }) (record { holds = nan-fits binary64 })))))
+        )
 
 -- a day stored is read back
-stored-day : (l : List ℕ) (i : ℕ) (day : Day) → 24 * i + 24 ≤ length l → DayFits day → dayAt (putDay l i day) i ≡ day
-unfolding dayAt putDay wordCount
+stored-day : (l : List ℕ) (i : ℕ) (day : Day) → 24 * i + 24 ≤ length l → AllFit (dayDoubles day) → dayAt (putDay l i day) i ≡ day
+unfolding dayAt dayDoubles wordCount
 stored-day l i day h f =
-    let room : 3 * i + 3 ≤ wordCount l = omega (arith, h) in
-    let a = one l i day in
-    let b = two l i day in
-    let x = day .«extra_terrestrial_radiation» in
-    let declination : doubleAt (putDouble b (3 * i + 2) x) (3 * i) ≡ day .declination =
-    other-double b (3 * i + 2) x (3 * i) (omega arith)
-    ∙ other-double a (3 * i + 1) (day .«equation_of_time») (3 * i) (omega arith)
-    ∙ stored-double l (3 * i) (day .declination) (omega (arith, room)) (f .declination .holds) in
-    let equation : doubleAt (putDouble b (3 * i + 2) x) (3 * i + 1) ≡ day .«equation_of_time» =
-    other-double b (3 * i + 2) x (3 * i + 1) (omega arith)
-    ∙ stored-double a (3 * i + 1) (day .«equation_of_time») (simp wordCount-putDouble (omega (arith, room))) (f .equation .holds) in
-    let radiation : doubleAt (putDouble b (3 * i + 2) x) (3 * i + 2) ≡ x = stored-double b (3 * i + 2) x (simp wordCount-putDouble (omega (arith, room))) (f .radiation .holds) in
-    λ j. record { declination = declination j; «equation_of_time» = equation j; «extra_terrestrial_radiation» = radiation j }
+    let read : (j : ℕ) → j < 3 → doubleAt (putDay l i day) (3 * i + j) ≡ getD (dayDoubles day) j nan =
+    λ j b. ap (λ (m : List ℕ). doubleAt m (3 * i + j)) (day-doubles l i day) ∙ stored-doubles (dayDoubles day) l (3 * i) nan (omega (arith, h)) f j b in
+    let e : 3 * i ≡ 3 * i + 0 = omega arith in
+    let first : doubleAt (putDay l i day) (3 * i) ≡ day .declination = ap (doubleAt (putDay l i day)) e ∙ read 0 (omega arith) in
+    λ j. record { declination = first j; «equation_of_time» = read 1 (omega arith) j; «extra_terrestrial_radiation» = read 2 (omega arith) j }
 
 -- records stored behind it leave it
 kept-day : (m : List ℕ) (p k : ℕ) (vs : List ℕ) → 24 * p + 24 ≤ k → dayAt (sets m k vs) p ≡ dayAt m p

@@ -1,22 +1,23 @@
 -- The table of days: what depends on the day alone, for every day of the year. It is a list of bytes: 366 records of three doubles.
 use mathlib.Core.Path.{_≡_}
-use mathlib.Core.List.{List, [], _++_}
+use mathlib.Core.List.{List, [], _∷_, _++_}
 use Prim.Native.Nat.{ℕ, zero, suc, _+_, _*_, _<_}
 use lib.ListN.{drop}
+use lib.Ieee.{Float}
 use Rattle.doubles.specs.Arithmetic.{decimal, whole}
 use Rattle.doubles.specs.Order.{InRange, Bounded}
-use Rattle.words.specs.Words.{bytesOfDouble, doubleAt, putDouble}
+use Rattle.words.specs.Words.{bytesOfDoubles, doubleAt, putDouble}
 use Rattle.days.specs.declared.Day.{Day}
 use Rattle.days.specs.Day.{dayOf}
 
--- a day's record: declination, equation of time, extra-terrestrial radiation
-unfoldable pub dayRecord : Day → List ℕ
-dayRecord day = bytesOfDouble (day .declination) ++ bytesOfDouble (day .«equation_of_time») ++ bytesOfDouble (day .«extra_terrestrial_radiation»)
+-- a day's values in the order of its record
+unfoldable pub dayDoubles : Day → List Float
+dayDoubles day = day .declination ∷ day .«equation_of_time» ∷ day .«extra_terrestrial_radiation» ∷ []
 
 -- the records of so many days, from day number n on
 unfoldable pub dayRecords : ℕ → ℕ → List ℕ
 dayRecords zero n = []
-dayRecords (suc count) n = dayRecord (dayOf n) ++ dayRecords count (n + 1)
+dayRecords (suc count) n = bytesOfDoubles (dayDoubles (dayOf n)) ++ dayRecords count (n + 1)
 
 -- day 1 first, all 366 in either year: 8784 bytes
 unfoldable pub dayTable : List ℕ

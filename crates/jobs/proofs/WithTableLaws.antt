@@ -25,13 +25,13 @@ use Rattle.jobs.specs.Job.{Job}
 use Rattle.jobs.specs.JobChecks.{daysFine, resultsFine, checked}
 use Rattle.jobs.specs.Step.{sunAt, irradianceAt, stepWith, stepAt}
 use Rattle.jobs.specs.Run.{Ran, putRow, withRow, onRow, runFrom, runChecked, Lent, roomFine, daysLeft, runOf, plainRun}
-use Rattle.jobs.specs.WithTable.{sunByDay, irradianceByDay, stepByTable, runByTable, dayOfStep, DaysWorkedOutOnce}
+use Rattle.jobs.specs.WithTable.{sunByDay, stepByTable, runByTable, dayOfStep, DaysWorkedOutOnce}
 use Rattle.jobs.proofs.PassedChecks.{Passed, passed, days-fit, hour-below, day-in-year}
 
 -- a step whose hour reads its day from a list that holds it
 step-by-table : (days : List ℕ) (job : Job) (time : Float) → dayAt days (currentHour time / 24) ≡ dayOf (currentHour time / 24 + 1)
     → stepByTable days job time ≡ stepAt job time
-unfolding stepByTable sunByDay irradianceByDay stepAt stepWith sunAt irradianceAt
+unfolding stepByTable sunByDay stepAt stepWith sunAt irradianceAt
 step-by-table days job time e = rw (e, hour-by-parts)
 
 -- n such steps: at each the same row, and the same goes on

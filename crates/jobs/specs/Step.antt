@@ -5,6 +5,7 @@ use lib.Dec.{eqb}
 use lib.Ieee.{Float}
 use Rattle.sun.specs.declared.site.Site.{Site}
 use Rattle.sun.specs.declared.hour.Hour.{Hour}
+use Rattle.days.specs.declared.Day.{Day}
 use Rattle.days.specs.Day.{dayOf}
 use Rattle.sun.specs.Hour.{sinCosOf, hourOf}
 use Rattle.orientation.specs.Orientation.{orientation180}
@@ -27,16 +28,19 @@ use Rattle.jobs.specs.Job.{Job, readingAt}
 unfoldable pub sunAt : Site → Float → Hour
 sunAt site time = hourOf site (currentHour time)
 
--- the irradiance on the surface at a time
-unfoldable pub irradianceAt : Site → Surface → Float → Reading → Irradiance
-irradianceAt site surface time reading =
-    let day = dayOf (currentHour time / 24 + 1) in
-    let sun = sunAt site time in
+-- the irradiance on the surface, by a day's values and the sun
+unfoldable pub irradianceByDay : Site → Surface → Day → Hour → Reading → Irradiance
+irradianceByDay site surface day sun reading =
     let tilt = sinCosOf (surface .tilt) in
     let sky = skyOf (eqb (site .«direct_beam_conversion») 1) sun (day .«extra_terrestrial_radiation») (reading .diffuse) (reading .direct) in
     let facing = sinCosOf (orientation180 (surface .orientation)) in
     let incidence = incidenceOf (sinCosOf (site .latitude)) (sinCosOf (day .declination)) tilt facing sun in
     irradianceOf tilt incidence sky (sun .«sin_altitude») (reading .reflectivity)
+
+-- that at a time
+unfoldable pub irradianceAt : Site → Surface → Float → Reading → Irradiance
+unfolding irradianceByDay
+irradianceAt site surface time reading = irradianceByDay site surface (dayOf (currentHour time / 24 + 1)) (sunAt site time) reading
 
 -- the factor of lists of bytes
 unfoldable pub shadingAt : Surface → Hour → List ℕ → List ℕ → FactorAnswer

@@ -3,35 +3,28 @@
 use mathlib.Core.Path.{_≡_}
 use mathlib.Core.List.{List}
 use Prim.Native.Nat.{ℕ, zero, suc, _+_, _/_, _%_, _≤_, _<_}
-use lib.Dec.{T, eqb}
+use lib.Dec.{T}
 use lib.ListN.{length, getD}
 use lib.Ieee.{Float}
 use Rattle.doubles.specs.Arithmetic.{_⊕_, whole}
 use Rattle.days.specs.declared.Day.{Day}
 use Rattle.days.specs.Day.{dayOf}
 use Rattle.days.specs.Table.{dayAt, withDayTable}
-use Rattle.orientation.specs.Orientation.{orientation180}
 use Rattle.sun.specs.declared.site.Site.{Site}
 use Rattle.sun.specs.declared.hour.Hour.{Hour}
 use Rattle.sun.specs.Site.{hoursInYear}
 use Rattle.sun.specs.Hour.{sinCosOf, timeShift}
 use Rattle.sun.specs.HourParts.{hourBy}
-use Rattle.irradiance.specs.declared.parts.Irradiance.{Irradiance}
-use Rattle.irradiance.specs.Sky.{skyOf}
-use Rattle.irradiance.specs.Surface.{incidenceOf}
-use Rattle.irradiance.specs.Parts.{irradianceOf}
 use Rattle.simulation_time.specs.Steps.{timeAt}
 use Rattle.simulation_time.specs.Timestep.{currentHour}
 use Rattle.objects.specs.declared.answers.Refusal.{Refusal}
-use Rattle.objects.specs.declared.surface.Surface.{Surface}
-use Rattle.weather.specs.declared.Reading.{Reading}
 use Rattle.jobs.specs.declared.answers.Row.{Row}
 use Rattle.jobs.specs.declared.answers.StepAnswer.{StepAnswer}
 use Rattle.jobs.specs.declared.answers.RunAnswer.the-variants as run
 use Rattle.jobs.specs.declared.answers.Checked.the-variants.{Steps, Refused}
 use Rattle.jobs.specs.Job.{Job, readingAt}
 use Rattle.jobs.specs.JobChecks.{daysFine, checked}
-use Rattle.jobs.specs.Step.{shadingAt, rowWith, stepAt}
+use Rattle.jobs.specs.Step.{irradianceByDay, shadingAt, rowWith, stepAt}
 use Rattle.jobs.specs.Run.{Ran, ran, putRow, withRow, onRow, Lent, roomFine, runOf, plainRun}
 
 -- ---- a step whose hour reads its day from a list
@@ -41,14 +34,6 @@ unfoldable pub sunByDay : Site → Day → ℕ → Hour
 sunByDay site day hour =
     let shift = timeShift (site .timezone) (site .longitude) in
     hourBy (sinCosOf (site .latitude)) (sinCosOf (day .declination)) (day .«equation_of_time») shift (hour % 24)
-
-unfoldable pub irradianceByDay : Site → Surface → Day → Hour → Reading → Irradiance
-irradianceByDay site surface day sun reading =
-    let tilt = sinCosOf (surface .tilt) in
-    let sky = skyOf (eqb (site .«direct_beam_conversion») 1) sun (day .«extra_terrestrial_radiation») (reading .diffuse) (reading .direct) in
-    let facing = sinCosOf (orientation180 (surface .orientation)) in
-    let incidence = incidenceOf (sinCosOf (site .latitude)) (sinCosOf (day .declination)) tilt facing sun in
-    irradianceOf tilt incidence sky (sun .«sin_altitude») (reading .reflectivity)
 
 unfoldable pub stepByTable : List ℕ → Job → Float → StepAnswer
 stepByTable days job time =

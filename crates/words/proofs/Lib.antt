@@ -3,4 +3,5 @@ pub mod Bases
 pub mod Stores
 pub mod Patterns
 pub mod Laws
+pub mod DoubleStores
 pub mod Lists

@@ -1,6 +1,6 @@
 -- Words of eight bytes, and doubles, in a list of bytes, least byte first.
 use mathlib.Core.Bool.{cond}
-use mathlib.Core.List.{List, [], _∷_}
+use mathlib.Core.List.{List, [], _∷_, _++_}
 use Prim.Native.Nat.{ℕ, zero, suc, _+_, _*_, _/_, _%_}
 use lib.Dec.{ltb}
 use lib.ListN.{length, getD}
@@ -20,6 +20,11 @@ bytesOf (suc n) w = w % 256 ∷ bytesOf n (w / 256)
 -- the eight bytes of a double: `nan` is 7FF8000000000000
 unfoldable pub bytesOfDouble : Float → List ℕ
 bytesOfDouble x = bytesOf 8 (toBits binary64 x)
+
+-- those of doubles, one behind the other
+unfoldable pub bytesOfDoubles : List Float → List ℕ
+bytesOfDoubles [] = []
+bytesOfDoubles (x ∷ xs) = bytesOfDouble x ++ bytesOfDoubles xs
 
 -- how many whole words l has: a part word at the end counts for nothing
 unfoldable pub wordCount : List ℕ → ℕ
