@@ -13,7 +13,7 @@
  * - a call ends, and never stops the program;
  * - it checks its own input, and turns down with a number what is out of range (enum pilgartze_refusal);
  * - it reads and writes nothing outside the lists that it is lent;
- * - the answer and every byte of the results follow from the input alone;
+ * - the answer and every byte of the results and of the table of days follow from the input alone;
  * - the results of an accepted call are finite numbers, all but perhaps the factor: an altitude lies from 0 to 90, and
  *   direct irradiance is not below 0. (A factor could be NaN only where a shade extent is, see below; none is known to
  *   be. It would be stored as 7FF8000000000000, and only the bits of a NaN in the answer's sum are left open.)
