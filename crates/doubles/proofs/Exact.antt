@@ -169,6 +169,18 @@ one-times {x} f = go x (f .holds)
     go (fin true m e) f = rw (one-mul (m * up e), one-mul (down e)) (round-own true m e f)
     go (fin false m e) f = rw (one-mul (m * up e), one-mul (down e)) (round-own false m e f)
 
+-- and so is a double times 1
+pub times-one : {x : Float} → Fits x → x ⊗ whole 1 ≡ x
+unfolding mul whole
+times-one {x} f = go x (f .holds)
+  where
+    go : (x : Float) → T (fits binary64 x) → x ⊗ whole 1 ≡ x
+    go nan f = refl
+    go (inf true) f = refl
+    go (inf false) f = refl
+    go (fin true m e) f = rw (mul-one (m * up e), mul-one (down e)) (round-own true m e f)
+    go (fin false m e) f = rw (mul-one (m * up e), mul-one (down e)) (round-own false m e f)
+
 -- ---- a quotient of equals
 
 pub div-self : {x : Float} → Finite x → NonZero x → x ⊘ x ≡ whole 1

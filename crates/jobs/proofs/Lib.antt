@@ -1,6 +1,7 @@
 -- `TwoJobs` has the claim on two jobs compared. `RunLaws` says what a run leaves, `RowStores` how a row is read back, `StepRows` what a
 -- step's row has, `PassedChecks` what an accepted job has, `ObjectLists` what the words of two jobs' lists say of their records, `Sums`
--- that sums keep the order. `EveryHour` has the claim that every hour has numbers, `WithTableLaws` the one on days worked out once.
+-- that sums keep the order. `EveryHour` has the claim that every hour has numbers, `WithTableLaws` the one on days worked out once,
+-- `HourlyLaws` the one on runs of one-hour steps.
 pub mod RowStores
 pub mod StepRows
 pub mod PassedChecks
@@ -9,4 +10,5 @@ pub mod Sums
 pub mod ObjectLists
 pub mod EveryHour
 pub mod WithTableLaws
+pub mod HourlyLaws
 pub mod TwoJobs

@@ -22,6 +22,7 @@ use Rattle.simulation_time.specs.Steps.{runFine, stepCount, timeAt, times, atAl
 use Rattle.simulation_time.specs.Timestep.{currentHour}
 use Rattle.simulation_time.specs.RunChecks.{hourFine, hoursFine, runAccepted}
 use Rattle.simulation_time.proofs.Times.{times-length, times-at}
+use Rattle.simulation_time.proofs.Accepted.{StepLength, step-length}
 use Rattle.objects.specs.declared.answers.Refusal.{Refusal}
 use Rattle.objects.specs.declared.answers.Refusal.the-variants as refusal
 use Rattle.objects.specs.Surface.{surfaceFine}
@@ -175,6 +176,11 @@ module _ {job : Job} {room : Bool} (p : Passed job room) where
           go : (b : Bool) → hour < cond b 8784 8760 → hour / 24 < cond b 8784 8760 / 24
           go true l = omega (arith, l)
           go false l = omega (arith, l)
+
+  -- the step is from a quarter of an hour to a day
+  pub step-accepted : StepLength (job .run .step)
+  unfolding runAccepted
+  step-accepted = step-length (job .run) (and-l (runFine (job .run)) (hoursFine (hoursInYear (job .site)) (job .run)) (p .run-fine))
 
   -- the surface's lengths are in their ranges
   pub surface-accepted : Doubles (job .surface) → AcceptedSurface (job .surface)

@@ -1,5 +1,5 @@
 -- What a run comes to: the rows of the steps before the one that is refused, or of all; and of an accepted run, that every step has a
--- row, which its results hold, and that its sum is that of factor times direct over them. Assumes nothing.
+-- row, which its results hold, and that its sum is that of factor times direct times step over them. Assumes nothing.
 use mathlib.Core.Path.{_≡_, refl, sym, ap, _∙_, subst}
 use mathlib.Core.List.{List}
 use Prim.Native.Nat.{ℕ, zero, suc, _+_, _*_, _≤_, _<_}
@@ -43,7 +43,7 @@ module _ (job : Job) (i : ℕ) (time sum : Float) (results : List ℕ) where
     run-refused r e = rw e
 
     pub run-onward : (row : Row) → stepAt job time ≡ step.Row row
-        → runFrom (suc n) job i time sum results ≡ runFrom n job (i + 1) (time ⊕ job .run .step) (withRow sum row) (putRow results i row)
+        → runFrom (suc n) job i time sum results ≡ runFrom n job (i + 1) (time ⊕ job .run .step) (withRow (job .run .step) sum row) (putRow results i row)
     unfolding runFrom onRow
     run-onward row e = rw e
 
@@ -65,7 +65,7 @@ withRows job (suc n) results = putRow (withRows job n results) n (rowAt job n)
 -- the sum over the first n rows
 unfoldable pub sumTo : Job → ℕ → Float
 sumTo job zero = whole 0
-sumTo job (suc n) = withRow (sumTo job n) (rowAt job n)
+sumTo job (suc n) = withRow (job .run .step) (sumTo job n) (rowAt job n)
 
 -- ---- where a run ends
 
@@ -86,7 +86,7 @@ module _ (job : Job) (results : List ℕ) where
       below-next i h d = rw (← add-one i) (below-more (HasRow job) i h d)
 
       after : Row → Ran
-      after row = runFrom n job (i + 1) (timeAt (job .run) i ⊕ job .run .step) (withRow (sumTo job i) row) (putRow (withRows job i results) i row)
+      after row = runFrom n job (i + 1) (timeAt (job .run) i ⊕ job .run .step) (withRow (job .run .step) (sumTo job i) row) (putRow (withRows job i results) i row)
 
       go : (a : StepAnswer) → stepAt job (timeAt (job .run) i) ≡ a
           → (HasRow job i → Outcome job results (suc i + n) (runFrom n job (suc i) (timeAt (job .run) (suc i)) (sumTo job (suc i)) (withRows job (suc i) results)))

@@ -39,7 +39,7 @@ total-mono x y (suc n) h k =
     let first : whole 0 ≼ x n = h n (omega arith) in
     add-mono rest last (add-nonneg-number low first) (add-nonneg-number (le-trans low rest) (le-trans first last))
 
--- ---- a factor times a value
+-- ---- a factor times a value, and both times a step
 
 -- from 0 to 1
 pub record Part (f : Float) : Type 0 where
@@ -50,25 +50,39 @@ pub record Part (f : Float) : Type 0 where
 pub record Amount (d : Float) : Type 0 where
   pub finite : Finite d
   pub low : whole 0 ≼ d
-  pub fits : Fits d
 
 one-finite : Finite (whole 1)
 unfolding whole
 one-finite = record { holds = tt }
 
-module _ {f d : Float} (p : Part f) (a : Amount d) where
-  pub part-number : Number (f ⊗ d)
-  part-number = mul-number (between-finite finite-zero one-finite (p .low) (p .high)) (a .finite)
+-- a part as an amount
+part-amount : {f : Float} → Part f → Amount f
+part-amount p = record { finite = between-finite finite-zero one-finite (p .low) (p .high); low = p .low }
 
-  pub part-nonneg : whole 0 ≼ f ⊗ d
-  part-nonneg = mul-nonneg (p .low) (a .low) part-number
+module _ {d s : Float} (a : Amount d) (b : Amount s) where
+  times-number : Number (d ⊗ s)
+  times-number = mul-number (a .finite) (b .finite)
 
-pub part-mono : {f g d : Float} → Part f → Part g → Amount d → g ≼ f → g ⊗ d ≼ f ⊗ d
-part-mono p q a h = mul-mono (q .low) (a .low) h (le-refl (finite-number (a .finite))) (part-number q a) (part-number p a)
+  pub times-nonneg : whole 0 ≼ d ⊗ s
+  times-nonneg = mul-nonneg (a .low) (b .low) times-number
+
+pub times-mono : {d e s : Float} → Amount d → Amount e → Amount s → d ≼ e → d ⊗ s ≼ e ⊗ s
+times-mono a b c h = mul-mono (a .low) (c .low) h (le-refl (finite-number (c .finite))) (times-number a c) (times-number b c)
 
 whole-part : Part (whole 1)
 whole-part = record { low = zero-le-one; high = le-refl (finite-number one-finite) }
 
--- no part is more than the whole
-pub part-le : {f d : Float} → Part f → Amount d → f ⊗ d ≼ d
-part-le {f} {d} p a = subst (λ (x : Float). f ⊗ d ≼ x) (one-times (a .fits)) (part-mono whole-part p a (p .high))
+-- a larger part is no less
+pub part-mono : {f g d : Float} → Part f → Part g → Amount d → g ≼ f → g ⊗ d ≼ f ⊗ d
+part-mono p q a h = times-mono (part-amount q) (part-amount p) a h
+
+module _ {f d : Float} (p : Part f) (a : Amount d) (fits : Fits d) where
+  -- no part is more than the whole
+  pub part-le : f ⊗ d ≼ d
+  part-le = subst (λ (x : Float). f ⊗ d ≼ x) (one-times fits) (part-mono whole-part p a (p .high))
+
+  -- so it is finite
+  pub part-of : Amount (f ⊗ d)
+  part-of =
+      let low : whole 0 ≼ f ⊗ d = times-nonneg (part-amount p) a in
+      record { finite = between-finite finite-zero (a .finite) low part-le; low = low }

@@ -11,6 +11,7 @@ use Rattle.sun.specs.declared.site.Site.{Site}
 use Rattle.simulation_time.specs.Steps.{stepCount, timeAt}
 use Rattle.simulation_time.specs.declared.run.Run.{Run}
 use Rattle.simulation_time.specs.Timestep.{seriesIndex}
+use Rattle.simulation_time.proofs.Accepted.{step-nonneg, step-finite}
 use Rattle.objects.specs.declared.surface.Surface.{Surface}
 use Rattle.objects.specs.declared.sectors.ShadingSegment.{ShadingSegment}
 use Rattle.objects.specs.declared.window.WindowShadingObject.{WindowShadingObject}
@@ -26,29 +27,33 @@ use Rattle.jobs.specs.Step.{sunAt, irradianceAt, shadingAt}
 use Rattle.jobs.specs.Run.{Ran, Lent, withRow, countFor, sumFor}
 use Rattle.jobs.specs.Comparison.{factorAt, directAt, countOf, sumOf, unshadedSum, SameSeries, Alike, BoundedAlike, HoldsAll, SameObjects, NoObjects, NoNan, Doubles, Lawful, NoLarger, Compared, TwoJobsCompared}
 use Rattle.jobs.proofs.StepRows.{StepRow, step-row, row-fits}
-use Rattle.jobs.proofs.PassedChecks.{surface-accepted, near-accepted}
+use Rattle.jobs.proofs.PassedChecks.{step-accepted, surface-accepted, near-accepted}
 use Rattle.jobs.proofs.EveryHour.{step-irradiance}
 use Rattle.jobs.proofs.RunLaws.{rowAt, sumTo, done, AcceptedRun, accepted-run, done-rows}
 use Rattle.doubles.proofs.Exact.{one-times}
-use Rattle.jobs.proofs.Sums.{total, total-same, total-nonneg, total-mono, Part, Amount, part-nonneg, part-mono, part-le}
+use Rattle.jobs.proofs.Sums.{total, total-same, total-nonneg, total-mono, Part, Amount, times-nonneg, times-mono, part-mono, part-le, part-of}
 use Rattle.jobs.proofs.ObjectLists.{more-in-sectors, same-in-sectors, window-holds, no-window, none-counted}
 use Rattle.segments.proofs.SameWalks.{level-back, found-has}
 
 -- ---- what an accepted run leaves
 
--- factor times direct of a step
+-- what a step adds to the sum
 shaded : Job → ℕ → Float
-shaded job i = rowAt job i .factor ⊗ rowAt job i .direct
+shaded job i = (rowAt job i .factor ⊗ rowAt job i .direct) ⊗ job .run .step
+
+-- and to the unshaded one
+unshaded : Job → ℕ → Float
+unshaded job i = rowAt job i .direct ⊗ job .run .step
 
 sum-is : (job : Job) (n : ℕ) → sumTo job n ≡ total (shaded job) n
 unfolding sumTo withRow total shaded
 sum-is job zero = refl
-sum-is job (suc n) = ap (λ (s : Float). s ⊕ rowAt job n .factor ⊗ rowAt job n .direct) (sum-is job n)
+sum-is job (suc n) = ap (λ (s : Float). s ⊕ (rowAt job n .factor ⊗ rowAt job n .direct) ⊗ job .run .step) (sum-is job n)
 
-unshaded-is : (run : Ran) (n : ℕ) → unshadedSum run n ≡ total (directAt run) n
+unshaded-is : (step : Float) (left : Ran) (n : ℕ) → unshadedSum step left n ≡ total (λ (i : ℕ). directAt left i ⊗ step) n
 unfolding unshadedSum total
-unshaded-is run zero = refl
-unshaded-is run (suc n) = ap (λ (s : Float). s ⊕ directAt run n) (unshaded-is run n)
+unshaded-is step left zero = refl
+unshaded-is step left (suc n) = ap (λ (s : Float). s ⊕ directAt left n ⊗ step) (unshaded-is step left n)
 
 module _ {job : Job} {lists : Lent} (a : AcceptedRun job lists) where
   count-is : countOf (done job (lists .results)) ≡ stepCount (job .run)
@@ -100,25 +105,36 @@ module _ {job : Job} {lists : Lent} (a : AcceptedRun job lists) (d : Doubles (jo
   amount : (i : ℕ) → i < stepCount (job .run) → Amount (rowAt job i .direct)
   amount i h =
       let parts = step-irradiance (a .checks) i h in
-      subst Amount (sym (row-of a i h .direct)) (record { finite = parts .direct; low = parts .direct-from; fits = subst Fits (row-of a i h .direct) (row-fits (row-of a i h) .direct) })
+      subst Amount (sym (row-of a i h .direct)) (record { finite = parts .direct; low = parts .direct-from })
 
-  -- the unshaded sum is that of the rows' direct values
-  unshaded-done : unshadedSum (done job (lists .results)) (stepCount (job .run)) ≡ total (λ (i : ℕ). rowAt job i .direct) (stepCount (job .run))
+  -- and so is the part of it that is not shaded
+  lit : (i : ℕ) → i < stepCount (job .run) → Amount (rowAt job i .factor ⊗ rowAt job i .direct)
+  lit i h = part-of (part i h) (amount i h) (row-fits (row-of a i h) .direct)
+
+  step-amount : Amount (job .run .step)
+  step-amount = let r = step-accepted (a .checks) in record { finite = step-finite r; low = step-nonneg r }
+
+  -- the unshaded sum is that of the rows
+  unshaded-done : unshadedSum (job .run .step) (done job (lists .results)) (stepCount (job .run)) ≡ total (unshaded job) (stepCount (job .run))
+  unfolding unshaded
   unshaded-done =
-      unshaded-is (done job (lists .results)) (stepCount (job .run))
-      ∙ total-same (directAt (done job (lists .results))) (λ (i : ℕ). rowAt job i .direct) (stepCount (job .run)) (direct-is a)
+      unshaded-is (job .run .step) (done job (lists .results)) (stepCount (job .run))
+      ∙ total-same (λ (i : ℕ). directAt (done job (lists .results)) i ⊗ job .run .step) (unshaded job) (stepCount (job .run))
+      (λ i h. ap (λ (d : Float). d ⊗ job .run .step) (direct-is a i h))
 
   shaded-nonneg : (i : ℕ) → i < stepCount (job .run) → whole 0 ≼ shaded job i
   unfolding shaded
-  shaded-nonneg i h = part-nonneg (part i h) (amount i h)
+  shaded-nonneg i h = times-nonneg (lit i h) step-amount
 
-  shaded-le : (i : ℕ) → i < stepCount (job .run) → shaded job i ≼ rowAt job i .direct
-  unfolding shaded
-  shaded-le i h = part-le (part i h) (amount i h)
+  shaded-le : (i : ℕ) → i < stepCount (job .run) → shaded job i ≼ unshaded job i
+  unfolding shaded unshaded
+  shaded-le i h = times-mono (lit i h) (amount i h) step-amount (part-le (part i h) (amount i h) (row-fits (row-of a i h) .direct))
 
-  shaded-one : NoObjects job → (i : ℕ) → i < stepCount (job .run) → shaded job i ≡ rowAt job i .direct
-  unfolding shaded
-  shaded-one o i h = ap (λ (x : Float). x ⊗ rowAt job i .direct) (one o i h) ∙ one-times (row-fits (row-of a i h) .direct)
+  shaded-one : NoObjects job → (i : ℕ) → i < stepCount (job .run) → shaded job i ≡ unshaded job i
+  unfolding shaded unshaded
+  shaded-one o i h =
+      ap (λ (x : Float). x ⊗ job .run .step)
+      (ap (λ (x : Float). x ⊗ rowAt job i .direct) (one o i h) ∙ one-times (row-fits (row-of a i h) .direct))
 
   lawful : Lawful job (done job (lists .results))
   unfolding countOf countFor done
@@ -131,8 +147,8 @@ module _ {job : Job} {lists : Lent} (a : AcceptedRun job lists) (d : Doubles (jo
         factor-one = λ o i h. factor-is a i h ∙ one o i h;
         direct-finite = λ i h. rw (direct-is a i h) (amount i h .finite);
         sum-from = rw (sum-done a) (total-nonneg (shaded job) n shaded-nonneg);
-        sum-to = rw (sum-done a, unshaded-done) (total-mono (shaded job) (λ (i : ℕ). rowAt job i .direct) n shaded-nonneg shaded-le);
-        sum-unshaded = λ o. sum-done a ∙ total-same (shaded job) (λ (i : ℕ). rowAt job i .direct) n (shaded-one o) ∙ sym unshaded-done;
+        sum-to = rw (sum-done a, unshaded-done) (total-mono (shaded job) (unshaded job) n shaded-nonneg shaded-le);
+        sum-unshaded = λ o. sum-done a ∙ total-same (shaded job) (unshaded job) n (shaded-one o) ∙ sym unshaded-done;
       }
 
 -- ---- both
@@ -197,7 +213,7 @@ module _ {j k : Job} {r s : Lent} (l : Alike j k) (a : AcceptedRun j r) (b : Acc
 
     shaded-same : SameObjects j k → (i : ℕ) → i < stepCount (j .run) → shaded j i ≡ shaded k i
     unfolding shaded
-    shaded-same o i h = ap₂ (λ (f e : Float). f ⊗ e) (factors-same o i h) (directs-alike i h)
+    shaded-same o i h = λ x. (factors-same o i h x ⊗ directs-alike i h x) ⊗ l .runs x .step
 
     second-doubles : Doubles (k .surface)
     second-doubles = subst Doubles (l .surfaces) d
@@ -210,7 +226,14 @@ module _ {j k : Job} {r s : Lent} (l : Alike j k) (a : AcceptedRun j r) (b : Acc
       shaded-more : (i : ℕ) → i < stepCount (k .run) → shaded k i ≼ shaded j i
       unfolding shaded
       shaded-more i h =
-          rw (directs-alike i (of-first h)) (part-mono (part a d n i (of-first h)) (part b second-doubles m i h) (amount b second-doubles m i h) (factors-more o i (of-first h)))
+          let direct : rowAt k i .direct ≡ rowAt j i .direct = sym (directs-alike i (of-first h)) in
+          let step : k .run .step ≡ j .run .step = ap (λ (run : Run). run .step) (sym (l .runs)) in
+          let more : rowAt k i .factor ⊗ rowAt k i .direct ≼ rowAt j i .factor ⊗ rowAt k i .direct =
+          part-mono (part a d n i (of-first h)) (part b second-doubles m i h) (amount b second-doubles m i h) (factors-more o i (of-first h)) in
+          let first : Amount (rowAt j i .factor ⊗ rowAt k i .direct) =
+          subst (λ (e : Float). Amount (rowAt j i .factor ⊗ e)) (sym direct) (lit a d n i (of-first h)) in
+          subst₂ (λ (e t : Float). (rowAt k i .factor ⊗ rowAt k i .direct) ⊗ k .run .step ≼ (rowAt j i .factor ⊗ e) ⊗ t) direct step
+          (times-mono (lit b second-doubles m i h) first (step-amount b second-doubles m) more)
 
       -- more objects: nowhere larger
       no-larger : NoLarger (done k (s .results)) (done j (r .results))

@@ -42,10 +42,10 @@ unfolding runByTable runFrom timeAt
 runs-alike days job zero i sum results h = refl
 runs-alike days job (suc n) i sum results h =
     let time : Float = timeAt (job .run) i in
-    let next : Row → Ran = λ (row : Row). runByTable n days job (i + 1) (time ⊕ job .run .step) (withRow sum row) (putRow results i row) in
-    let on : (row : Row) → runByTable n days job (i + 1) (time ⊕ job .run .step) (withRow sum row) (putRow results i row)
-    ≡ runFrom n job (i + 1) (time ⊕ job .run .step) (withRow sum row) (putRow results i row) =
-    λ (row : Row). rw (add-one i) (runs-alike days job n (suc i) (withRow sum row) (putRow results i row) (λ k l. h k (omega (arith, l)))) in
+    let next : Row → Ran = λ (row : Row). runByTable n days job (i + 1) (time ⊕ job .run .step) (withRow (job .run .step) sum row) (putRow results i row) in
+    let on : (row : Row) → runByTable n days job (i + 1) (time ⊕ job .run .step) (withRow (job .run .step) sum row) (putRow results i row)
+    ≡ runFrom n job (i + 1) (time ⊕ job .run .step) (withRow (job .run .step) sum row) (putRow results i row) =
+    λ (row : Row). rw (add-one i) (runs-alike days job n (suc i) (withRow (job .run .step) sum row) (putRow results i row) (λ k l. h k (omega (arith, l)))) in
     ap (λ (a : StepAnswer). onRow a i results next) (h i (omega arith)) ∙ ap (onRow (stepAt job time) i results) (λ x (row : Row). on row x)
 
 module _ (job : Job) (lists : Lent) where

@@ -4,7 +4,7 @@ use mathlib.Core.Path.{_≡_}
 use mathlib.Core.List.{List, [], _∷_}
 use Prim.Native.Nat.{ℕ, zero, suc, _+_, _*_, _<_}
 use lib.Ieee.{Float}
-use Rattle.doubles.specs.Arithmetic.{_⊕_, whole}
+use Rattle.doubles.specs.Arithmetic.{_⊕_, _⊗_, whole}
 use Rattle.doubles.specs.Order.{_≼_, _≈_, Finite, Fits}
 use Rattle.words.specs.Words.{wordCount, wordAt, doubleAt}
 use Rattle.simulation_time.specs.Steps.{stepCount, timeAt}
@@ -31,10 +31,10 @@ countOf left = countFor (left .answer)
 unfoldable pub sumOf : Ran → Float
 sumOf left = sumFor (left .answer)
 
--- the sum of the first n direct values, from 0, in step order
-unfoldable pub unshadedSum : Ran → ℕ → Float
-unshadedSum left zero = whole 0
-unshadedSum left (suc n) = unshadedSum left n ⊕ directAt left n
+-- the unshaded sum: of direct times step in hours over the first n steps, from 0, in step order
+unfoldable pub unshadedSum : Float → Ran → ℕ → Float
+unshadedSum step left zero = whole 0
+unshadedSum step left (suc n) = unshadedSum step left n ⊕ directAt left n ⊗ step
 
 -- ---- the terms
 
@@ -104,8 +104,8 @@ pub record Doubles (surface : Surface) : Type 0 where
 
 -- ---- the claim
 
--- Of each run: it has the iterator's steps; every factor lies from 0 to 1, and the sum from 0 to that of the direct values; with no
--- objects every factor is 1 and the sum is that sum, bit for bit. (The specification asks for the laws of sums where every direct value is
+-- Of each run: it has the iterator's steps; every factor lies from 0 to 1, and the sum from 0 to the unshaded sum; with no objects every
+-- factor is 1 and the sum is the unshaded one, bit for bit. (The specification asks for the laws of sums where every direct value is
 -- finite: they all are.)
 pub record Lawful (job : Job) (left : Ran) : Type 0 where
   pub count : countOf left ≡ stepCount (job .run)
@@ -114,8 +114,8 @@ pub record Lawful (job : Job) (left : Ran) : Type 0 where
   pub factor-one : NoObjects job → (i : ℕ) → i < countOf left → factorAt left i ≡ whole 1
   pub direct-finite : (i : ℕ) → i < countOf left → Finite (directAt left i)
   pub sum-from : whole 0 ≼ sumOf left
-  pub sum-to : sumOf left ≼ unshadedSum left (countOf left)
-  pub sum-unshaded : NoObjects job → sumOf left ≡ unshadedSum left (countOf left)
+  pub sum-to : sumOf left ≼ unshadedSum (job .run .step) left (countOf left)
+  pub sum-unshaded : NoObjects job → sumOf left ≡ unshadedSum (job .run .step) left (countOf left)
 
 -- one run nowhere larger than another: no factor is, nor the sum
 pub record NoLarger (a b : Ran) : Type 0 where

@@ -60,9 +60,9 @@ putRow results i row =
     let total = putDouble diffuse (k + 4) (row .total) in
     putDouble total (k + 5) (row .factor)
 
--- the sum with a step's factor times direct
-unfoldable pub withRow : Float → Row → Float
-withRow sum row = sum ⊕ row .factor ⊗ row .direct
+-- the sum with a row's factor times direct times step in hours, in this order: watt-hours per square metre
+unfoldable pub withRow : Float → Float → Row → Float
+withRow step sum row = sum ⊕ (row .factor ⊗ row .direct) ⊗ step
 
 -- a refused step ends the run with its number and its place; its row and later places stay as they were
 unfoldable pub onRow : StepAnswer → ℕ → List ℕ → (Row → Ran) → Ran
@@ -73,7 +73,7 @@ onRow (step.Refused refusal) i results next = ran (Refused refusal i) results
 unfoldable pub runFrom : ℕ → Job → ℕ → Float → Float → List ℕ → Ran
 runFrom zero job i time sum results = ran (Accepted i sum) results
 runFrom (suc n) job i time sum results =
-    onRow (stepAt job time) i results (λ (row : Row). runFrom n job (i + 1) (time ⊕ job .run .step) (withRow sum row) (putRow results i row))
+    onRow (stepAt job time) i results (λ (row : Row). runFrom n job (i + 1) (time ⊕ job .run .step) (withRow (job .run .step) sum row) (putRow results i row))
 
 -- a job that the checks turn down has step 0, and its results stay as they were
 unfoldable pub runChecked : Checked → Job → List ℕ → Ran

@@ -46,7 +46,7 @@ unfoldable pub runByTable : ℕ → List ℕ → Job → ℕ → Float → Float
 runByTable zero days job i time sum results = ran (run.Accepted i sum) results
 runByTable (suc n) days job i time sum results =
     onRow (stepByTable days job time) i results
-    (λ (row : Row). runByTable n days job (i + 1) (time ⊕ job .run .step) (withRow sum row) (putRow results i row))
+    (λ (row : Row). runByTable n days job (i + 1) (time ⊕ job .run .step) (withRow (job .run .step) sum row) (putRow results i row))
 
 -- ---- the claim
 

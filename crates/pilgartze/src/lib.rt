@@ -101,16 +101,16 @@ fn surface_of(tilt: f64, orientation: f64, base_height: f64, height: f64, width:
     }
 }
 
-// The version of the library that is linked: 2.0.0, as the header's PILGARTZE_VERSION.
+// The version of the library that is linked: 3.0.0, as the header's PILGARTZE_VERSION.
 #[no_mangle]
 pub extern "C" fn pilgartze_version() -> u64
     ensures { λ r. ⌜ r ≡ version ⌝ }
 {
-    2000000
+    3000000
 }
 
-// A run: the table of days, a row of six doubles for each step, and the sum of factor times direct. That height and width are doubles is what the claim on
-// two jobs compared asks of them (`Comparison` of `jobs`).
+// A run: the table of days, a row of six doubles for each step, and the sum of factor times direct times step. That height and width are
+// doubles is what the claim on two jobs compared asks of them (`Comparison` of `jobs`).
 #[no_mangle]
 pub extern "C" fn pilgartze_run(
     latitude: f64,

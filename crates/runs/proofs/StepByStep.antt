@@ -4,7 +4,7 @@ use mathlib.Core.List.{List}
 use Prim.Native.Nat.{ℕ, suc, _+_, _-_, _<_}
 use native.Mathlib.Omega.{arith}
 use lib.Ieee.{Float}
-use Rattle.doubles.specs.Arithmetic.{_⊕_, _⊗_, whole}
+use Rattle.doubles.specs.Arithmetic.{_⊕_, whole}
 use Rattle.objects.specs.declared.answers.Refusal.{Refusal}
 use Rattle.jobs.specs.declared.answers.Row.{Row}
 use Rattle.jobs.specs.declared.answers.StepAnswer.{StepAnswer}
@@ -25,8 +25,7 @@ module _ (job : Job) (count i : ℕ) (time sum : Float) (results : List ℕ) whe
   one-left h = omega (arith, h)
 
   pub row-next : (row : Row) → stepAt job time ≡ step.Row row → i < count
-      → runFrom (count - (i + 1)) job (i + 1) (time ⊕ job .run .step) (sum ⊕ row .factor ⊗ row .direct) (putRow results i row) ≡ runFrom (count - i) job i time sum results
-  unfolding withRow
+      → runFrom (count - (i + 1)) job (i + 1) (time ⊕ job .run .step) (withRow (job .run .step) sum row) (putRow results i row) ≡ runFrom (count - i) job i time sum results
   row-next row e h = rw (one-left h) (sym (run-onward job i time sum results (count - (i + 1)) row e))
 
   pub refused-here : (r : Refusal) → stepAt job time ≡ step.Refused r → i < count → ran (Refused r i) results ≡ runFrom (count - i) job i time sum results

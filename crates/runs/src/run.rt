@@ -37,6 +37,7 @@ use steps::kept::kept_hour;
 use steps::kept::read_day;
 use steps::rows::step_at;
 use steps::rows::store_row;
+use steps::rows::with_row;
 use sun::site::Site;
 use sun::site::hours_in_year;
 use sun::site::site_fine;
@@ -212,7 +213,7 @@ fn run_steps(
             }
             StepAnswer::Row(row) => {
                 store_row(results, i as usize, row);
-                sum = sum + row.factor * row.direct;
+                sum = with_row(run.step, sum, row);
             }
         }
         time += run.step;

@@ -44,7 +44,7 @@ module _ {run : Run} (a : Accepted run) where
   no-step : eq (run .start) (run .end) ≡ true → lt (run .start) (run .end ⊖ run .step) ≡ false
   no-step e =
       let back : run .end ≼ run .start = cross→le (end-finite a) (start-finite a) (le-of-eq (sym (eq→cross (run .start) (run .end) (start-finite a .holds) (end-finite a .holds) (subst T (sym e) tt)))) in
-      let less : run .end ⊖ run .step ≼ run .start = le-trans (sub-le (a .end-fits) (step-nonneg a) (sub-number (end-finite a) (step-finite a))) back in
+      let less : run .end ⊖ run .step ≼ run .start = le-trans (sub-le (a .end-fits) (step-nonneg (a .step-length)) (sub-number (end-finite a) (step-finite (a .step-length)))) back in
       is-false (lt (run .start) (run .end ⊖ run .step)) (not-T (lt (run .start) (run .end ⊖ run .step)) (λ (t : T (lt (run .start) (run .end ⊖ run .step))). lt-excludes (record { holds = t }) less))
 
   seen-up-to : (calls : ℕ) → seen calls run ≡ timestepsFrom (countedUpTo calls run) run 0 (run .start)

@@ -82,17 +82,17 @@ module _ {run : Run} (a : Accepted run) where
   next-within : (i : ℕ) → Reached run i → there run (suc i) ≡ true → timeAt run (suc i) ≼ run .end
   unfolding timeAt there goesOn
   next-within i r e =
-      below-difference (r .fits) (a .end-fits) (time-finite (r .low) (r .high)) (step-finite a) (end-finite a) (record { holds = subst T (sym e) tt })
+      below-difference (r .fits) (a .end-fits) (time-finite (r .low) (r .high)) (step-finite (a .step-length)) (end-finite a) (record { holds = subst T (sym e) tt })
 
   onward : (i : ℕ) → Reached run i → there run (suc i) ≡ true → Reached run (suc i)
   unfolding timeAt there
   onward i r e =
       let high : timeAt run i ⊕ run .step ≼ whole 8784 = le-trans (next-within i r e) (a .end-high) in
-      let low : whole 0 ≼ timeAt run i ⊕ run .step = add-nonneg (r .low) (step-nonneg a) in
+      let low : whole 0 ≼ timeAt run i ⊕ run .step = add-nonneg (r .low) (step-nonneg (a .step-length)) in
       let f = time-finite (r .low) (r .high) in
       let few : quarters (timeAt run i) ≤ 35136 = quarters-few f (r .low) (r .high) in
       let more : quarters (timeAt run i) < quarters (timeAt run i ⊕ run .step) =
-      quarters-grow f (step-finite a) (r .low) (a .step-low) (step-nonneg a) (time-finite low high) (omega arith) in
+      quarters-grow f (step-finite (a .step-length)) (r .low) (a .step-length .from) (step-nonneg (a .step-length)) (time-finite low high) (omega arith) in
       record { low = low; high = high; fits = record { holds = add-fits binary64 (timeAt run i) (run .step) }; passed = omega (arith, r .passed) }
 
   -- every step that is there is reached
@@ -172,7 +172,7 @@ module _ {run : Run} (a : Accepted run) where
         | yes l ↦ let e : i ≡ suc j = omega arith in rw e (le-refl (right-number (reached (suc j) k .low)))
         | no l ↦
             let r = reached j (omega arith) in
-            le-trans (never-falls i j (omega arith) (omega arith)) (le-add (r .fits) (step-nonneg a) (add-nonneg-number (r .low) (step-nonneg a)))
+            le-trans (never-falls i j (omega arith) (omega arith)) (le-add (r .fits) (step-nonneg (a .step-length)) (add-nonneg-number (r .low) (step-nonneg (a .step-length))))
       ]
 
 -- ---- the list of times

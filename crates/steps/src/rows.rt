@@ -1,11 +1,11 @@
-// A step's row: from what is kept and the series' values, and stored.
+// A step's row: from what is kept and the series' values, stored, and added to the sum.
 ghost use mathlib.Core.Path.{_≡_};
 ghost use Prim.Native.Nat.{_<_, _≤_};
 ghost use Rattle.simulation_time.specs.Timestep.{seriesIndex};
 ghost use Rattle.weather.specs.Weather.{readSeries};
 ghost use Rattle.jobs.specs.Step.{rowWith};
 ghost use Rattle.steps.specs.Kept.{irradianceKept, stepKept};
-ghost use Rattle.jobs.specs.Run.{putRow};
+ghost use Rattle.jobs.specs.Run.{putRow, withRow};
 use crate::kept::Fixed;
 use crate::kept::KeptHour;
 use crate::kept::irradiance_kept;
@@ -77,4 +77,11 @@ pub fn store_row(results: &mut [u8], i: usize, row: Row)
     store_double(results, k + 3, row.diffuse);
     store_double(results, k + 4, row.total);
     store_double(results, k + 5, row.factor);
+}
+
+// The sum with a row's direct sun that gets past the shade, in Wh/m²; the step is in hours.
+pub fn with_row(step: f64, sum: f64, row: Row) -> f64
+    ensures { λ r. ⌜ r ≡ withRow step sum row ⌝ }
+{
+    sum + row.factor * row.direct * step
 }

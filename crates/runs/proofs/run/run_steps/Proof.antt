@@ -27,7 +27,7 @@ use Rattle.shading.proofs.SunPlaces.{index-fits, factor-by-table}
 use Rattle.jobs.specs.Job.{Job, jobOf, indexAt, readingAt}
 use Rattle.jobs.specs.Step.{shadingAt}
 use Rattle.jobs.specs.declared.answers.RunAnswer.{RunAnswer}
-use Rattle.jobs.specs.Run.{ran, runFrom}
+use Rattle.jobs.specs.Run.{ran, withRow, runFrom}
 use Rattle.jobs.proofs.PassedChecks.{hour-of-leap-year}
 use Rattle.jobs.proofs.RowStores.{length-putRow}
 use Rattle.steps.specs.Kept.{fixedOf, keptDay, keptHour}
@@ -226,6 +226,9 @@ enum-known-answer-2 c = search needs
 store-row-requires : tie.Need-store-row-requires Inv-loop μ-loop
 store-row-requires c κs = let j = c .before .before .before .before .before in let s = j .before .before .before .before .before .before .before .before .before .before .before .before .before .before .before .before .before .before .before in omega (arith, j .before .before .before .before .loop-test .taken, few-steps s)
 
+with-row-requires : tie.Need-with-row-requires Inv-loop μ-loop
+with-row-requires c κs = tt
+
 add-i : tie.Need-add-i Inv-loop μ-loop
 add-i c = let j = c .before .before .before .before .before .before .before .before .before .before in let s = j .before .before .before .before .before .before .before .before .before .before .before .before .before .before .before .before .before .before .before in omega (arith, j .before .before .before .before .loop-test .taken, few-steps s)
 
@@ -250,7 +253,8 @@ loop-again c =
     let shade : ℕ → FactorAnswer = λ (h : ℕ). shadingAt (a .surface) (hourOf (a .site) h) (now (a .sectors)) (now (a .window)) in
     let e = job-step (job s) (q .time) _ (by-kept (a .site) (a .surface) (now (a .sectors)) (now (a .window)) (q .time) (readingAt (job s) (q .time)) _ _ _ _ (q .inv .2) (kept .1) (factor-now j) (c .before .before .before .before .before .before .before .before .before .step-at .ensures)) in
     let on = j .before .before .before .before .loop-test .taken in
-    let stored = c .before .before .before .before .store-row .ensures in (
+    let stored = c .before .before .before .before .store-row .ensures in
+    let added = c .before .with-row .ensures in (
       omega (arith, on),
       ap length stored ∙ length-putRow (q .results) (q .i) row ∙ q .inv .1,
       q .inv .2,
@@ -261,7 +265,7 @@ loop-again c =
       of-its-hour _ _ _ _ (kept .1),
       λ _. factor-now j ∙ ap shade (sym hour),
       ap (λ (t : Float). t ⊕ a .run .step) (q .inv .9) ∙ next-time (a .run) (q .i),
-      ap (runFrom (a .count - (q .i + 1)) (job s) (q .i + 1) (q .time ⊕ a .run .step) (q .sum ⊕ row .factor ⊗ row .direct)) stored
+      (λ x. runFrom (a .count - (q .i + 1)) (job s) (q .i + 1) (q .time ⊕ a .run .step) (added x) (stored x))
           ∙ row-next (job s) (a .count) (q .i) (q .time) (q .sum) (q .results) row (sym e ∙ c .before .before .before .before .before .before .before .answer2 .given .1) on
           ∙ q .inv .10,
     )
@@ -304,6 +308,7 @@ run-steps-spec =
     returns
     enum-known-answer-2
     store-row-requires
+    with-row-requires
     add-i
     loop-less
     loop-again

@@ -1,0 +1,50 @@
+-- Runs of one-hour steps: their sum in watt-hours is that of factor times direct alone. `hourly-runs` (proofs/HourlyLaws.antt) proves
+-- what is claimed here.
+use mathlib.Core.Path.{_≡_}
+use mathlib.Core.List.{List}
+use Prim.Native.Nat.{ℕ, zero, suc, _+_}
+use lib.Ieee.{Float}
+use Rattle.doubles.specs.Arithmetic.{_⊕_, _⊗_, whole}
+use Rattle.jobs.specs.declared.answers.Row.{Row}
+use Rattle.jobs.specs.declared.answers.Checked.{Checked}
+use Rattle.jobs.specs.declared.answers.Checked.the-variants as check
+use Rattle.jobs.specs.declared.answers.RunAnswer.the-variants.{Accepted, Refused}
+use Rattle.jobs.specs.Job.{Job}
+use Rattle.jobs.specs.JobChecks.{checked}
+use Rattle.jobs.specs.Step.{stepAt}
+use Rattle.jobs.specs.Run.{Ran, ran, putRow, onRow, Lent, roomFine, runOf, numberFor, stepFor, countFor}
+
+-- ---- the run whose sum leaves the step out
+
+unfoldable pub withoutStep : Float → Row → Float
+withoutStep sum row = sum ⊕ row .factor ⊗ row .direct
+
+-- as `runFrom`, but for the sum
+unfoldable pub stepless : ℕ → Job → ℕ → Float → Float → List ℕ → Ran
+stepless zero job i time sum results = ran (Accepted i sum) results
+stepless (suc n) job i time sum results =
+    onRow (stepAt job time) i results (λ (row : Row). stepless n job (i + 1) (time ⊕ job .run .step) (withoutStep sum row) (putRow results i row))
+
+unfoldable pub steplessChecked : Checked → Job → List ℕ → Ran
+steplessChecked (check.Steps n) job results = stepless n job 0 (job .run .start) (whole 0) results
+steplessChecked (check.Refused refusal) job results = ran (Refused refusal 0) results
+
+unfoldable pub steplessRun : Job → Lent → Ran
+steplessRun job lists = steplessChecked (checked job (roomFine (job .run) lists)) job (lists .results)
+
+-- ---- the claim
+
+-- all but the sum is the same
+pub record AllButSum (a b : Ran) : Type 0 where
+  pub numbers : numberFor (a .answer) ≡ numberFor (b .answer)
+  pub steps : stepFor (a .answer) ≡ stepFor (b .answer)
+  pub counts : countFor (a .answer) ≡ countFor (b .answer)
+  pub results : a .results ≡ b .results
+
+-- Whatever the job: with a step of one hour both runs are the same, the sum too, bit for bit; with any step all but the sum is.
+pub record Hourly (job : Job) (lists : Lent) : Type 0 where
+  pub same-run : job .run .step ≡ whole 1 → runOf job lists .ran ≡ steplessRun job lists
+  pub all-but-sum : AllButSum (runOf job lists .ran) (steplessRun job lists)
+
+abbrev pub HourlyRuns : Type 0
+HourlyRuns = (job : Job) (lists : Lent) → Hourly job lists
