@@ -2,7 +2,8 @@
  * libpilgartze.so (x86-64, Linux).
  *
  * A site, its weather and a surface go in. For each step of a run the sun's position, the irradiance on the surface and
- * a direct shading factor come out, and the sum of factor times direct irradiance over all steps.
+ * a direct shading factor come out, and the sum of factor times direct irradiance times step over all steps: how much
+ * direct sun got past the shade, in Wh/m2.
  *
  * Four calls are in the library: pilgartze_run, pilgartze_step, pilgartze_irradiance and pilgartze_factor. They take
  * plain numbers and lists of bytes. Below them stand inline functions that take structs and arrays in their place:
@@ -29,9 +30,9 @@
  * - equally many sectors, and those at the same place start and end at the same numbers (0.0 and -0.0 are one number);
  * - no shade extent that is NaN, in either job, at any step.
  * Then both have the same steps and the same direct values. Every factor lies from 0 to 1, and is exactly 1 with no
- * objects. Each sum lies from 0 to the sum of the direct values. The same objects, in any order and number, give the
- * same factors and sum, bit for bit. Where either job holds all objects of the other, sector by sector and at the
- * window, its factors are nowhere larger, nor is its sum.
+ * objects. Each sum lies from 0 to the unshaded sum, that of direct times step, and is that one, bit for bit, with no
+ * objects. The same objects, in any order and number, give the same factors and sum, bit for bit. Where either job holds
+ * all objects of the other, sector by sector and at the window, its factors are nowhere larger, nor is its sum.
  * Objects are the same where all their words are. That no extent is NaN is measured, not proved: none is known to be.
  *
  * What the library asks, as any C function does:
@@ -44,8 +45,8 @@
  * - The floating-point unit is in its usual mode: it rounds to nearest, flushes no subnormals to zero (a program built
  *   with -ffast-math may do so) and stops the program at no exception (feenableexcept).
  *
- * Angles are in degrees, lengths in metres, times in hours, irradiance in W/m2. "a..b" includes both ends. A NaN is in
- * no range; -0.0 counts as 0, so it is in 0..b and is not "above 0".
+ * Angles are in degrees, lengths in metres, times in hours, irradiance in W/m2, sums in Wh/m2. "a..b" includes both
+ * ends. A NaN is in no range; -0.0 counts as 0, so it is in 0..b and is not "above 0".
  *
  * Two ways of counting directions:
  * - An orientation (of a surface, of a sector's ends) is 0..360, clockwise from north: north 0, east 90, south 180,
@@ -99,9 +100,9 @@ extern "C" {
 
 /* ---- Version -------------------------------------------------------------------------------------------------- */
 
-/* The version of this header. The first part changes where a call or a record does, the second where something is
- * added, the third otherwise. */
-#define PILGARTZE_VERSION_MAJOR 2
+/* The version of this header. The first part changes where a call, a record or a unit does, so that programs have to
+ * change, the second where something is added, the third otherwise (docs/CHANGES.md). */
+#define PILGARTZE_VERSION_MAJOR 3
 #define PILGARTZE_VERSION_MINOR 0
 #define PILGARTZE_VERSION_PATCH 0
 #define PILGARTZE_VERSION \
@@ -196,7 +197,8 @@ typedef struct pilgartze_site {
 /* The steps of a run, in hours from the start of the year. The first step is at start; after a step at time t another
  * follows, at t + step, as long as t < end - step (each sum and difference rounded). Start = end is a run of no steps,
  * start above end is a run of one. Note that the count is not always the ceiling of (end - start) / step: 0 to 3 by 0.3
- * is 11 steps. The sun of a step is that of the middle of its hour. */
+ * is 11 steps. Each counts whole in the sum, also where the last passes the end: 3.3 hours there. The sun of a step is
+ * that of the middle of its hour, so that the steps within an hour have the same sun. */
 typedef struct pilgartze_run_times {
     double start; /* 0..8784 */
     double end;   /* above 0, up to 8784 */
@@ -334,12 +336,13 @@ typedef struct pilgartze_breakdown {
     double ground;      /* reflected by the ground */
 } pilgartze_breakdown;
 
-/* A run's answer. Where number is not 0, count and sum are 0. */
+/* A run's answer. Where number is not 0, count and sum are 0. (Before version 3 the step was not in the sum: where a
+ * program multiplies the sum by the step, it is to stop.) */
 typedef struct pilgartze_answer {
     uint64_t number; /* an enum pilgartze_refusal; 0: accepted */
     uint64_t step;   /* where number is 8 to 11 the step, from 0, at which the run ended; otherwise 0 */
     uint64_t count;  /* how many steps there are, and rows were stored */
-    double sum;      /* of factor * direct over all steps, W/m2; times the step in hours it is Wh/m2 */
+    double sum;      /* in Wh/m2: from 0, step by step, plus (factor * direct) * step, the step being the run's */
 } pilgartze_answer;
 
 typedef struct pilgartze_factor_answer {
