@@ -122,7 +122,7 @@ static void check_agreement(void)
     for (i = 0; i < STEPS; i++) {
         check_step(&made, i);
         check(rows[i].factor >= 0.0 && rows[i].factor <= 1.0, "factor from 0 to 1", i);
-        sum += rows[i].factor * rows[i].direct;
+        sum += rows[i].factor * rows[i].direct * made.run.step;
     }
     check(answer.sum == sum && sum > 0.0, "sum", 0);
 }
@@ -335,7 +335,7 @@ static void print_run(job *of, double depth)
     pilgartze_answer answer;
     of->window[0] = pilgartze_overhang(depth, 0.15);
     answer = run_job(of);
-    printf("overhang %.1f m: %u steps, %.17g Wh/m2\n", depth, (unsigned)answer.count, answer.sum * of->run.step);
+    printf("overhang %.1f m: %u steps, %.17g Wh/m2\n", depth, (unsigned)answer.count, answer.sum);
     printf("  at 8:00: altitude %.17g, azimuth %.17g, direct %.17g, diffuse %.17g, total %.17g, factor %.17g\n",
            row->altitude, row->azimuth, row->direct, row->diffuse, row->total, row->factor);
 }
