@@ -127,6 +127,26 @@ static void check_agreement(void)
     check(answer.sum == sum && sum > 0.0, "sum", 0);
 }
 
+/* The sum by other steps, that of the series still an hour: each row counts for the run's step. */
+static void check_sums(void)
+{
+    static const double steps[] = {0.7, 1.0, 24.0};
+    int i;
+    for (i = 0; i < 3; i++) {
+        job made = good_job();
+        pilgartze_answer answer;
+        double sum = 0.0;
+        uint64_t k;
+        made.run.start += 8.0;
+        made.run.step = steps[i];
+        answer = run_job(&made);
+        for (k = 0; k < answer.count; k++) {
+            sum += rows[k].factor * rows[k].direct * steps[i];
+        }
+        check(answer.number == 0 && answer.sum == sum && sum > 0.0, "sum by another step", i);
+    }
+}
+
 /* ---- Known factors -------------------------------------------------------------------------------------------- */
 
 /* The sun at altitude 0, square before a surface 2 m high and 1 m wide that stands on the ground. */
@@ -366,6 +386,7 @@ int main(int argc, char **argv)
     }
     check_version();
     check_agreement();
+    check_sums();
     check_factors();
     check_days();
     check_filled();
