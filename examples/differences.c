@@ -185,8 +185,8 @@ static double over_rows(size_t count, double step)
     return sum;
 }
 
-/* Where the last step passes the end of the run it counts whole, and so does the one step of a run that starts above its
- * end. By a clock of UTC the sun shines on Sydney at these hours. */
+/* Where the last step passes the end of the run it counts whole, and so does the one step of a run that starts above
+ * its end. By a clock of UTC the sun shines on Sydney at these hours. */
 static void last_step(void)
 {
     const pilgartze_site sydney = site_at(-33.87, 151.21, 0);

@@ -107,8 +107,8 @@ static void print_line(const char *name, double direct, double shaded)
            direct > 0.0 ? shaded / direct : 1.0);
 }
 
-/* A row is in W/m2, so that a month adds up each times the step in hours; the answer's sum is in Wh/m2 as it is. The mean
- * factor is that of the direct sun: shaded over unshaded. */
+/* Rows are in W/m2, so a month adds up each times the step in hours; the answer's sum, that of the year, is in Wh/m2 as
+ * it is. The mean factor is that of the direct sun: shaded over unshaded. */
 static void print_months(const pilgartze_row *rows, pilgartze_answer answer)
 {
     static const struct {

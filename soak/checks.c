@@ -92,17 +92,17 @@ static const char *wrong_row(soak *in, enum call call, const job *of, const pilg
     return wrong_walk(in, call, of, row->altitude, row->azimuth, 0);
 }
 
-/* Of an accepted run with a sum above 0, what kind its step is. */
+/* What kind of step a sum has, where it is above 0. */
 static void count_sum(soak *in, const job *of, const pilgartze_answer *answer)
 {
     const pilgartze_run_times *const run = &of->run;
     int exponent;
-    const int power_of_two = frexp(run->step, &exponent) == 0.5;
     if (answer->sum > 0.0) {
+        const int power_of_two = frexp(run->step, &exponent) == 0.5;
         const double last = step_time(run, (size_t)answer->count - 1);
         in->hourly_sums += run->step == 1.0 ? 1 : 0;
         in->odd_sums += !power_of_two && run->step != of->site.series_step && answer->count > 1 ? 1 : 0;
-        in->overrun_sums += last + run->step > run->end ? 1 : 0;
+        in->overrun_sums += last + run->step / 2.0 >= run->end ? 1 : 0;
     }
 }
 
@@ -120,11 +120,14 @@ static const char *wrong_sum(soak *in, const uint8_t *results, const job *of, co
         sum += (row.factor * row.direct) * step;
         plain += row.factor * row.direct;
     }
-    count_sum(in, of, answer);
     if (step == 1.0 && !same_double(plain, answer->sum)) {
         return "the steps are hours, and the sum is not that of factor * direct";
     }
-    return same_double(sum, answer->sum) ? NULL : "the sum is not that of the rows";
+    if (!same_double(sum, answer->sum)) {
+        return "the sum is not that of the rows";
+    }
+    count_sum(in, of, answer);
+    return NULL;
 }
 
 static const char *wrong_rows(soak *in, const uint8_t *results, enum call call, const job *of,

@@ -134,13 +134,14 @@ static void tell_days(const soak *in)
 
 static void tell_sums(const soak *in)
 {
-    printf("sums above 0: %llu by steps of an hour, %llu by several steps that are no power of two nor the series', %llu "
-           "with a last step that passes the end\n",
+    printf("sums above 0: %llu by steps of an hour, %llu by several steps that are no power of two nor the series', "
+           "%llu with a last step that passes the end\n",
            (unsigned long long)in->hourly_sums, (unsigned long long)in->odd_sums,
            (unsigned long long)in->overrun_sums);
 }
 
-/* A step of an hour, or of the series', hides what the step does in the sum, and a power of two where it is rounded. */
+/* By a step of an hour it does not show that the step is in the sum, by the series' not which of the two, by a power of
+ * two not in which order they are multiplied. */
 static int too_few_sums(const soak *in)
 {
     if (in->hourly_sums == 0 || in->odd_sums == 0 || in->overrun_sums == 0) {
