@@ -1,8 +1,10 @@
-/* A day at a window in half-hour steps. Two numbers stand for two things: the site's series_step is how long a value of
- * the weather holds, the run's step how long a row does. Here are an hour and a half for the one, an hour, a half and a
- * quarter for the other. The sun of a step is that of the middle of its hour, and in the answer's sum a step counts for
- * the hours that it has: so the sum is in Wh/m2, and the same by whichever steps, but for rounding. That is checked, by
- * steady sun and by a bright day; where it is not so the exit status is 1. Good C99. */
+/* A day at a window in steps of half an hour. Two numbers are to be set, and need not be the same: the site's
+ * series_step, for how long a value of the weather holds, and the run's step, for how long a row does. Here the one is
+ * an hour or a half, the other an hour, a half or a quarter.
+ *
+ * The sun of a step is that of the middle of its hour, and in the answer's sum a step counts for as many hours as it
+ * has. So the sum is in Wh/m2, and the same by whichever steps, but for rounding. That is checked, by steady sun and on
+ * a bright day; where it is not so the exit status is 1. Good C99. */
 #include "pilgartze.h"
 
 #include <math.h>
@@ -61,7 +63,7 @@ static pilgartze_answer run_with_shade(const pilgartze_site *site, const pilgart
     return pilgartze_run_job(site, run, &window, weather, &shading, &days, rows, MOST_STEPS);
 }
 
-/* The day with a beam for each hour. Where a value holds for half an hour, two in turn are those of one hour. */
+/* The day with a beam for each hour. Where a value holds for half an hour, each stands twice. */
 static pilgartze_answer run_day(double (*beam)(int hour), double series_step, double step, pilgartze_row *rows)
 {
     const pilgartze_site london = {51.5, -0.13, 0, DAY, series_step, 0, 0};
@@ -85,7 +87,7 @@ static pilgartze_answer run_day(double (*beam)(int hour), double series_step, do
 
 /* ---- What must hold ------------------------------------------------------------------------------------------- */
 
-/* The shade must be one that counts: in part of some rows with sun, and so that the sum is less than without it. */
+/* The shade must be one that counts: some hours with sun are shaded in part, and the sum is less than without it. */
 static void check_hours(const pilgartze_answer *answer, const pilgartze_row *rows)
 {
     double unshaded = 0.0;
