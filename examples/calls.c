@@ -122,9 +122,29 @@ static void check_agreement(void)
     for (i = 0; i < STEPS; i++) {
         check_step(&made, i);
         check(rows[i].factor >= 0.0 && rows[i].factor <= 1.0, "factor from 0 to 1", i);
-        sum += rows[i].factor * rows[i].direct;
+        sum += rows[i].factor * rows[i].direct * made.run.step;
     }
     check(answer.sum == sum && sum > 0.0, "sum", 0);
+}
+
+/* The sum by other steps, that of the series still an hour: each row counts for the run's step. */
+static void check_sums(void)
+{
+    static const double steps[] = {0.7, 1.0, 24.0};
+    int i;
+    for (i = 0; i < 3; i++) {
+        job made = good_job();
+        pilgartze_answer answer;
+        double sum = 0.0;
+        uint64_t k;
+        made.run.start += 8.0;
+        made.run.step = steps[i];
+        answer = run_job(&made);
+        for (k = 0; k < answer.count; k++) {
+            sum += rows[k].factor * rows[k].direct * steps[i];
+        }
+        check(answer.number == 0 && answer.sum == sum && sum > 0.0, "sum by another step", i);
+    }
 }
 
 /* ---- Known factors -------------------------------------------------------------------------------------------- */
@@ -335,7 +355,7 @@ static void print_run(job *of, double depth)
     pilgartze_answer answer;
     of->window[0] = pilgartze_overhang(depth, 0.15);
     answer = run_job(of);
-    printf("overhang %.1f m: %u steps, %.17g Wh/m2\n", depth, (unsigned)answer.count, answer.sum * of->run.step);
+    printf("overhang %.1f m: %u steps, %.17g Wh/m2\n", depth, (unsigned)answer.count, answer.sum);
     printf("  at 8:00: altitude %.17g, azimuth %.17g, direct %.17g, diffuse %.17g, total %.17g, factor %.17g\n",
            row->altitude, row->azimuth, row->direct, row->diffuse, row->total, row->factor);
 }
@@ -366,6 +386,7 @@ int main(int argc, char **argv)
     }
     check_version();
     check_agreement();
+    check_sums();
     check_factors();
     check_days();
     check_filled();

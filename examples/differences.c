@@ -174,6 +174,38 @@ static void clocks(void)
     check(rows[12].altitude == first.altitude && rows[12].direct > 0.0, 24, "the first value for an earlier day");
 }
 
+/* The sum of direct times hours over so many rows, from the first on. */
+static double over_rows(size_t count, double step)
+{
+    double sum = 0.0;
+    size_t i;
+    for (i = 0; i < count; i++) {
+        sum += rows[i].direct * step;
+    }
+    return sum;
+}
+
+/* Where the last step passes the end of the run it counts whole, and so does the one step of a run that starts above
+ * its end. By a clock of UTC the sun shines on Sydney at these hours. */
+static void last_step(void)
+{
+    const pilgartze_site sydney = site_at(-33.87, 151.21, 0);
+    const pilgartze_surface upright = facing(90.0, 0.0, 1.0, 1.2);
+    const pilgartze_run_times three_hours = {0.0, 3.0, 0.3};
+    const pilgartze_run_times one_hour = {1.0, 2.0, 0.3};
+    const pilgartze_run_times backwards = {2.0, 1.0, 0.3};
+    pilgartze_answer answer = pilgartze_run_job(&sydney, &three_hours, &upright, &weather, &bare, &days, rows, HOURS);
+    check(answer.count == 11 && rows[10].direct > 0.0, 36, "3 hours in 11 steps of 0.3");
+    check(answer.sum == over_rows(11, 0.3), 36, "the sum of 3.3 hours");
+    check(about(answer.sum - over_rows(10, 0.3), rows[10].direct * 0.3), 36, "0.3 hours more than the run has");
+    answer = pilgartze_run_job(&sydney, &one_hour, &upright, &weather, &bare, &days, rows, HOURS);
+    check(answer.count == 4 && rows[3].direct == rows[0].direct, 36, "an hour in 4 steps of 0.3");
+    check(answer.sum == over_rows(4, 0.3) && about(answer.sum, 1.2 * rows[0].direct), 36, "the sum of 1.2 hours");
+    answer = pilgartze_run_job(&sydney, &backwards, &upright, &weather, &bare, &days, rows, HOURS);
+    check(answer.count == 1 && rows[0].direct > 0.0, 36, "a start above the end");
+    check(answer.sum == rows[0].direct * 0.3, 36, "the sum of its one step");
+}
+
 static void midnight(void)
 {
     const pilgartze_surface north = facing(90.0, 0.0, 1.0, 1.2);
@@ -274,6 +306,7 @@ int main(void)
     overhead_and_awning();
     square();
     clocks();
+    last_step();
     midnight();
     beam();
     objects();

@@ -110,7 +110,7 @@ def print_run(library, depth):
     answer = library.pilgartze_run(*SITE, *RUN, *SURFACE, *lists)
     if answer.number != 0:
         sys.exit(f"turned down by number {answer.number} at step {answer.step}")
-    print("overhang %.1f m: %d steps, %.17g Wh/m2" % (depth, answer.count, answer.sum * RUN[2]))
+    print("overhang %.1f m: %d steps, %.17g Wh/m2" % (depth, answer.count, answer.sum))
     row = rows[16]
     print("  at 8:00: " + ", ".join("%s %.17g" % (name, getattr(row, name)) for name, _ in Row._fields_))
 

@@ -9,7 +9,6 @@
 
 #define HOURS 8760
 #define SECTORS 36
-#define STEP 1.0
 #define WH_PER_KWH 1000.0
 
 /* The objects at the window, in their places in the list. */
@@ -18,7 +17,7 @@ enum { OVERHANG, FIN, WINDOW_OBJECTS };
 static const double overhang_gap = 0.15;
 
 static const pilgartze_site site = {51.06, -1.31, 0, 0, 1.0, 0, 0};
-static const pilgartze_run_times year = {0.0, HOURS, STEP};
+static const pilgartze_run_times year = {0.0, HOURS, 1.0};
 static const pilgartze_surface window = {90.0, 135.0, 0.9, 1.2, 1.8};
 
 /* ---- Weather -------------------------------------------------------------------------------------------------- */
@@ -108,7 +107,8 @@ static void print_line(const char *name, double direct, double shaded)
            direct > 0.0 ? shaded / direct : 1.0);
 }
 
-/* The mean factor is that of the direct sun: shaded over unshaded. */
+/* Rows are in W/m2, so a month adds up each times the step in hours; the answer's sum, that of the year, is in Wh/m2 as
+ * it is. The mean factor is that of the direct sun: shaded over unshaded. */
 static void print_months(const pilgartze_row *rows, pilgartze_answer answer)
 {
     static const struct {
@@ -126,13 +126,13 @@ static void print_months(const pilgartze_row *rows, pilgartze_answer answer)
         double direct = 0.0;
         double shaded = 0.0;
         for (; hour < end; hour++) {
-            direct += rows[hour].direct * STEP;
-            shaded += rows[hour].factor * rows[hour].direct * STEP;
+            direct += rows[hour].direct * year.step;
+            shaded += rows[hour].factor * rows[hour].direct * year.step;
         }
         print_line(months[i].name, direct, shaded);
         whole_year += direct;
     }
-    print_line("Year", whole_year, answer.sum * STEP);
+    print_line("Year", whole_year, answer.sum);
 }
 
 /* The overhang from 0.2 m to 2 m: a run of the year for each. */
@@ -144,7 +144,7 @@ static void drag_overhang(const pilgartze_weather *weather, const pilgartze_shad
     for (i = 1; i <= 10; i++) {
         const double depth = 0.2 * i;
         *overhang = pilgartze_overhang(depth, overhang_gap);
-        printf("%8.2f m %21.1f\n", depth, quote(weather, shading, rows).sum * STEP / WH_PER_KWH);
+        printf("%8.2f m %21.1f\n", depth, quote(weather, shading, rows).sum / WH_PER_KWH);
     }
 }
 

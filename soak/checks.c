@@ -1,6 +1,7 @@
 #include "checks.h"
 
 #include <fenv.h>
+#include <math.h>
 #include <stdio.h>
 #include <stdlib.h>
 
@@ -91,24 +92,56 @@ static const char *wrong_row(soak *in, enum call call, const job *of, const pilg
     return wrong_walk(in, call, of, row->altitude, row->azimuth, 0);
 }
 
-/* All rows, and the sum of a run's from the first to the last. */
+/* What kind of step a sum has, where it is above 0. */
+static void count_sum(soak *in, const job *of, const pilgartze_answer *answer)
+{
+    const pilgartze_run_times *const run = &of->run;
+    int exponent;
+    if (answer->sum > 0.0) {
+        const int power_of_two = frexp(run->step, &exponent) == 0.5;
+        const double last = step_time(run, (size_t)answer->count - 1);
+        in->hourly_sums += run->step == 1.0 ? 1 : 0;
+        in->odd_sums += !power_of_two && run->step != of->site.series_step && answer->count > 1 ? 1 : 0;
+        in->overrun_sums += last + run->step / 2.0 >= run->end ? 1 : 0;
+    }
+}
+
+/* The sum of an accepted run: each row's factor * direct * step, from the first row to the last. The step is the run's,
+ * for the last row too. By steps of an hour it is the sum of factor * direct, to the bit. */
+static const char *wrong_sum(soak *in, const uint8_t *results, const job *of, const pilgartze_answer *answer)
+{
+    const double step = of->run.step;
+    double sum = 0.0;
+    double plain = 0.0;
+    size_t i;
+    for (i = 0; i < (size_t)answer->count; i++) {
+        pilgartze_row row;
+        memcpy(&row, results + i * sizeof row, sizeof row);
+        sum += (row.factor * row.direct) * step;
+        plain += row.factor * row.direct;
+    }
+    if (step == 1.0 && !same_double(plain, answer->sum)) {
+        return "the steps are hours, and the sum is not that of factor * direct";
+    }
+    if (!same_double(sum, answer->sum)) {
+        return "the sum is not that of the rows";
+    }
+    count_sum(in, of, answer);
+    return NULL;
+}
+
 static const char *wrong_rows(soak *in, const uint8_t *results, enum call call, const job *of,
                               const pilgartze_answer *answer)
 {
     const size_t rows = stored_by(call, answer) / sizeof(pilgartze_row);
     const char *wrong = NULL;
-    double sum = 0.0;
     size_t i;
     for (i = 0; i < rows && wrong == NULL; i++) {
         pilgartze_row row;
         memcpy(&row, results + i * sizeof row, sizeof row);
         wrong = wrong_row(in, call, of, &row);
-        sum += row.factor * row.direct;
     }
-    if (wrong == NULL && call == RUN && answer->number == 0 && !same_double(sum, answer->sum)) {
-        return "the sum is not that of the rows";
-    }
-    return wrong;
+    return wrong == NULL && call == RUN && answer->number == 0 ? wrong_sum(in, results, of, answer) : wrong;
 }
 
 static const char *wrong_results(soak *in, const desk *on, enum call call, const job *of,

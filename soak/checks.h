@@ -32,6 +32,9 @@ typedef struct soak {
     uint64_t steps;            /* steps of a run that were called by themselves */
     uint64_t shared;           /* runs that were lent one list for all series */
     uint64_t threads;          /* calls that two threads made at once */
+    uint64_t hourly_sums;      /* sums above 0, of runs with steps of an hour */
+    uint64_t odd_sums;         /* such of runs with several steps, each no power of two nor the series' step */
+    uint64_t overrun_sums;     /* such of runs whose last step passes the end by half of it or more */
     uint64_t days_at_step_0;   /* runs refused at step 0, with the table of days filled */
     uint64_t days_no_steps;    /* accepted runs with no steps, with the same */
     uint64_t short_days;       /* runs refused with a table that was too short */

@@ -132,6 +132,25 @@ static void tell_days(const soak *in)
            (unsigned long long)in->short_days, (unsigned long long)in->short_no_steps);
 }
 
+static void tell_sums(const soak *in)
+{
+    printf("sums above 0: %llu by steps of an hour, %llu by several steps that are no power of two nor the series', "
+           "%llu with a last step that passes the end\n",
+           (unsigned long long)in->hourly_sums, (unsigned long long)in->odd_sums,
+           (unsigned long long)in->overrun_sums);
+}
+
+/* By a step of an hour it does not show that the step is in the sum, by the series' not which of the two, by a power of
+ * two not in which order they are multiplied. */
+static int too_few_sums(const soak *in)
+{
+    if (in->hourly_sums == 0 || in->odd_sums == 0 || in->overrun_sums == 0) {
+        printf("soak: a kind of sum was never seen\n");
+        return 1;
+    }
+    return 0;
+}
+
 /* Of tables that are not like those of most runs there must have been some of each kind. */
 static int too_few_days(const soak *in)
 {
@@ -163,6 +182,7 @@ static int told(const soak *in, const options *by)
            (unsigned long long)in->threads);
     tell_aimed(in);
     tell_days(in);
+    tell_sums(in);
     if (by->jobs == 1) {
         return 0;
     }
@@ -170,7 +190,7 @@ static int told(const soak *in, const options *by)
         printf("soak: something was never seen, numbers and walks: %d\n", unseen);
         return 1;
     }
-    return too_seldom_aimed(in) + too_few_days(in) > 0;
+    return too_seldom_aimed(in) + too_few_days(in) + too_few_sums(in) > 0;
 }
 
 int main(int count, char **words)

@@ -114,7 +114,8 @@ static void sound_site(source *from, pilgartze_site *site)
     site->series_step = some_step(from);
 }
 
-/* Some hours from about the morning of a day on, which is also when the series begin, or a whole year. */
+/* Some hours from about the morning of a day on, which is also when the series begin, or a whole year. In a quarter of
+ * them the last step passes the end. */
 static void sound_run(source *from, job *made, int years)
 {
     const double hours = made->site.leap_year == 1 ? 8784.0 : 8760.0;
@@ -128,8 +129,8 @@ static void sound_run(source *from, job *made, int years)
         return;
     }
     run->start = 24.0 * (double)day + (double)random_below(from, 14);
-    run->end = run->start + run->step * (double)count;
-    if (run->end > hours || run->end == 0.0) {
+    run->end = run->start + run->step * (double)count - (one_in(from, 4) ? uniform(from, 0.0, run->step) : 0.0);
+    if (run->end > hours || run->end <= 0.0) {
         run->end = hours;
         run->start = hours - 6.0 * run->step;
     }

@@ -4,6 +4,7 @@
 #include "pilgartze.h"
 
 #include <fenv.h>
+#include <math.h>
 #include <stdlib.h>
 #include <time.h>
 
@@ -165,18 +166,6 @@ static void wrong_stores(const pilgartze_answer *answer, RESULTS_LIST)
     }
 }
 
-static double sum_of(const uint8_t *results, size_t rows, int from_the_last)
-{
-    double sum = 0.0;
-    size_t i;
-    for (i = 0; i < rows; i++) {
-        pilgartze_row row;
-        memcpy(&row, results + ROW * (from_the_last ? rows - 1 - i : i), sizeof row);
-        sum += row.factor * row.direct;
-    }
-    return sum;
-}
-
 static double nan_double(void)
 {
     const uint64_t bits = UINT64_C(0x7FF8000000000000);
@@ -213,19 +202,71 @@ static void wrong_rows(uint8_t *results, size_t rows)
     }
 }
 
-static double wrong_sum(double sum, const uint8_t *results, size_t rows)
+/* What of a run's times its sum may go by. */
+typedef struct run_hours {
+    double series_step, start, end, step;
+} run_hours;
+
+/* Those of the last step up to the end of the run; all, where it ends before that. */
+static double hours_to_the_end(const run_hours *of, size_t rows)
 {
-    if (flaw("sum_from_the_last") || flaw("factor_1_for_the_sun_overhead")) {
-        return sum_of(results, rows, flaw("sum_from_the_last"));
+    double time = of->start;
+    for (; rows > 1; rows--) {
+        time += of->step;
+    }
+    return time + of->step <= of->end ? of->step : time < of->end ? of->end - time : 0.0;
+}
+
+/* The sum with what a row, of so many hours, adds to it. */
+static double with_row(double sum, const pilgartze_row *row, double hours)
+{
+    const double shaded = row->factor * row->direct;
+    if (flaw("step_left_out") || flaw("step_once_at_the_end")) {
+        return sum + shaded;
+    }
+    if (flaw("step_times_direct_first")) {
+        return sum + row->factor * (row->direct * hours);
+    }
+    return flaw("product_not_rounded") ? fma(shaded, hours, sum) : sum + shaded * hours;
+}
+
+static double sum_of(const uint8_t *results, size_t rows, const run_hours *of)
+{
+    const int from_the_last = flaw("sum_from_the_last") || (flaw("hours_from_the_last") && of->step == 1.0);
+    const double hours = flaw("series_step_in_the_sum") ? of->series_step : of->step;
+    const double last_hours = flaw("last_step_up_to_the_end") ? hours_to_the_end(of, rows) : hours;
+    double sum = 0.0;
+    size_t i;
+    for (i = 0; i < rows; i++) {
+        const size_t place = from_the_last ? rows - 1 - i : i;
+        pilgartze_row row;
+        memcpy(&row, results + ROW * place, sizeof row);
+        sum = with_row(sum, &row, place + 1 == rows ? last_hours : hours);
+    }
+    return flaw("step_once_at_the_end") ? sum * hours : sum;
+}
+
+/* Whether the sum is to be added up here; otherwise it is the library's. */
+static int sum_of_its_own(void)
+{
+    return flaw("sum_from_the_last") || flaw("hours_from_the_last") || flaw("step_left_out") ||
+           flaw("step_times_direct_first") || flaw("step_once_at_the_end") || flaw("series_step_in_the_sum") ||
+           flaw("last_step_up_to_the_end") || flaw("product_not_rounded") || flaw("factor_1_for_the_sun_overhead");
+}
+
+static double wrong_sum(double sum, const uint8_t *results, size_t rows, const run_hours *of)
+{
+    if (sum_of_its_own()) {
+        return sum_of(results, rows, of);
     }
     return flaw("nan_sum") ? nan_double() : sum;
 }
 
-static pilgartze_answer wrong_answer(pilgartze_answer answer, uint8_t *results)
+static pilgartze_answer wrong_answer(pilgartze_answer answer, uint8_t *results, const run_hours *of)
 {
     if (answer.number == 0) {
         wrong_rows(results, (size_t)answer.count);
-        answer.sum = wrong_sum(answer.sum, results, (size_t)answer.count);
+        answer.sum = wrong_sum(answer.sum, results, (size_t)answer.count, of);
         answer.count -= flaw("one_step_less") && answer.count > 0 ? 1 : 0;
         return answer;
     }
@@ -404,6 +445,7 @@ static pilgartze_answer run_with_wrong_days(RUN_ARGUMENTS, DAYS_LIST, RESULTS_LI
 
 pilgartze_answer pilgartze_run(RUN_ARGUMENTS, DAYS_LIST, RESULTS_LIST)
 {
+    const run_hours hours = {series_step, start, end, step};
     const uint8_t old = results_length > 0 ? results[0] : 0;
     const size_t room = days_length < PILGARTZE_DAYS_LENGTH ? days_length : PILGARTZE_DAYS_LENGTH;
     pilgartze_day_table former = {{{0.0, 0.0, 0.0}}};
@@ -425,7 +467,7 @@ pilgartze_answer pilgartze_run(RUN_ARGUMENTS, DAYS_LIST, RESULTS_LIST)
         answer = (pilgartze_answer){PILGARTZE_REFUSED_SITE, 0, 0, 0.0};
     }
     wrong_stores(&answer, RESULTS);
-    return wrong_answer(answer, results);
+    return wrong_answer(answer, results, &hours);
 }
 
 uint64_t pilgartze_step(SITE_NUMBERS, double time, SURFACE_NUMBERS, READINGS, OBJECT_LISTS, RESULTS_LIST)
