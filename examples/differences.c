@@ -195,15 +195,15 @@ static void last_step(void)
     const pilgartze_run_times one_hour = {1.0, 2.0, 0.3};
     const pilgartze_run_times backwards = {2.0, 1.0, 0.3};
     pilgartze_answer answer = pilgartze_run_job(&sydney, &three_hours, &upright, &weather, &bare, &days, rows, HOURS);
-    check(answer.count == 11 && rows[10].direct > 0.0, 36, "3 hours in 11 steps of 0.3");
-    check(answer.sum == over_rows(11, 0.3), 36, "the sum of 3.3 hours");
-    check(about(answer.sum - over_rows(10, 0.3), rows[10].direct * 0.3), 36, "0.3 hours more than the run has");
+    check(answer.count == 11 && rows[10].direct > 0.0, 25, "3 hours in 11 steps of 0.3");
+    check(answer.sum == over_rows(11, 0.3), 25, "the sum of 3.3 hours");
+    check(about(answer.sum - over_rows(10, 0.3), rows[10].direct * 0.3), 25, "0.3 hours more than the run has");
     answer = pilgartze_run_job(&sydney, &one_hour, &upright, &weather, &bare, &days, rows, HOURS);
-    check(answer.count == 4 && rows[3].direct == rows[0].direct, 36, "an hour in 4 steps of 0.3");
-    check(answer.sum == over_rows(4, 0.3) && about(answer.sum, 1.2 * rows[0].direct), 36, "the sum of 1.2 hours");
+    check(answer.count == 4 && rows[3].direct == rows[0].direct, 25, "an hour in 4 steps of 0.3");
+    check(answer.sum == over_rows(4, 0.3) && about(answer.sum, 1.2 * rows[0].direct), 25, "the sum of 1.2 hours");
     answer = pilgartze_run_job(&sydney, &backwards, &upright, &weather, &bare, &days, rows, HOURS);
-    check(answer.count == 1 && rows[0].direct > 0.0, 36, "a start above the end");
-    check(answer.sum == rows[0].direct * 0.3, 36, "the sum of its one step");
+    check(answer.count == 1 && rows[0].direct > 0.0, 25, "a start above the end");
+    check(answer.sum == rows[0].direct * 0.3, 25, "the sum of its one step");
 }
 
 static void midnight(void)
@@ -265,8 +265,8 @@ static void fins(void)
     check(behind(&right, 1, 30.0, -45.0, upright).factor == 1.0, 7, "a right fin, the sun to the right");
     check(about(behind(&left, 1, 30.0, 45.0, upright).factor, 0.5), 7, "a left fin, the sun to the left");
     check(behind(&right, 1, 30.0, -150.0, east).factor < 1.0, 7, "a right fin, a difference below -270");
-    check(behind(&reveal, 1, 30.0, 20.0, upright).number == PILGARTZE_REFUSED_REVEAL, 28, "a reveal");
-    check(about(behind(parts, 3, 30.0, 20.0, upright).factor, 0.9178564), 28, "an overhang and fins in its place");
+    check(behind(&reveal, 1, 30.0, 20.0, upright).number == PILGARTZE_REFUSED_REVEAL, 29, "a reveal");
+    check(about(behind(parts, 3, 30.0, 20.0, upright).factor, 0.9178564), 29, "an overhang and fins in its place");
 }
 
 static void sectors(void)
@@ -286,9 +286,9 @@ static void shaded_light(void)
     const pilgartze_site site = site_at(51.06, -1.31, 0);
     const pilgartze_surface upright = facing(90.0, 180.0, 1.0, 1.2);
     pilgartze_row with, without;
-    check(pilgartze_step_at(&site, 4116.0, &upright, &reading, &walled, &with) == 0, 29, "a step behind a wall");
-    check(pilgartze_step_at(&site, 4116.0, &upright, &reading, &bare, &without) == 0, 29, "the same without it");
-    check(with.factor == 0.0 && with.diffuse == without.diffuse && with.total == without.total, 29, "diffuse light");
+    check(pilgartze_step_at(&site, 4116.0, &upright, &reading, &walled, &with) == 0, 30, "a step behind a wall");
+    check(pilgartze_step_at(&site, 4116.0, &upright, &reading, &bare, &without) == 0, 30, "the same without it");
+    check(with.factor == 0.0 && with.diffuse == without.diffuse && with.total == without.total, 30, "diffuse light");
 }
 
 int main(void)
