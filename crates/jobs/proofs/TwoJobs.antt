@@ -1,11 +1,11 @@
 -- Two jobs compared: the claim, proved. The laws at one step (`Answers` of `shading_laws`) go through the rows that an accepted run leaves
 -- to the factors in its results list, and by the order of sums to its sum. Assumes nothing.
-use mathlib.Core.Path.{_≡_, refl, sym, ap, ap₂, _∙_, subst, subst₂, subst₃}
+use mathlib.Core.Path.{_≡_, refl, sym, ap, _∙_, subst, subst₂, subst₃}
 use mathlib.Core.List.{List, []}
 use Prim.Native.Nat.{ℕ, zero, suc, _<_}
 use lib.Ieee.{Float}
 use Rattle.doubles.specs.Arithmetic.{_⊕_, _⊗_, whole}
-use Rattle.doubles.specs.Order.{_≼_, Fits}
+use Rattle.doubles.specs.Order.{_≼_}
 use Rattle.words.specs.Words.{doubleAt}
 use Rattle.sun.specs.declared.site.Site.{Site}
 use Rattle.simulation_time.specs.Steps.{stepCount, timeAt}

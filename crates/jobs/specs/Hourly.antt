@@ -16,21 +16,22 @@ use Rattle.jobs.specs.Run.{Ran, ran, putRow, onRow, Lent, roomFine, runO
 
 -- ---- the run whose sum leaves the step out
 
-unfoldable pub withoutStep : Float → Row → Float
-withoutStep sum row = sum ⊕ row .factor ⊗ row .direct
+-- the sum with a row's factor times direct
+unfoldable pub withProduct : Float → Row → Float
+withProduct sum row = sum ⊕ row .factor ⊗ row .direct
 
 -- as `runFrom`, but for the sum
-unfoldable pub stepless : ℕ → Job → ℕ → Float → Float → List ℕ → Ran
-stepless zero job i time sum results = ran (Accepted i sum) results
-stepless (suc n) job i time sum results =
-    onRow (stepAt job time) i results (λ (row : Row). stepless n job (i + 1) (time ⊕ job .run .step) (withoutStep sum row) (putRow results i row))
+unfoldable pub productsFrom : ℕ → Job → ℕ → Float → Float → List ℕ → Ran
+productsFrom zero job i time sum results = ran (Accepted i sum) results
+productsFrom (suc n) job i time sum results =
+    onRow (stepAt job time) i results (λ (row : Row). productsFrom n job (i + 1) (time ⊕ job .run .step) (withProduct sum row) (putRow results i row))
 
-unfoldable pub steplessChecked : Checked → Job → List ℕ → Ran
-steplessChecked (check.Steps n) job results = stepless n job 0 (job .run .start) (whole 0) results
-steplessChecked (check.Refused refusal) job results = ran (Refused refusal 0) results
+unfoldable pub productsChecked : Checked → Job → List ℕ → Ran
+productsChecked (check.Steps n) job results = productsFrom n job 0 (job .run .start) (whole 0) results
+productsChecked (check.Refused refusal) job results = ran (Refused refusal 0) results
 
-unfoldable pub steplessRun : Job → Lent → Ran
-steplessRun job lists = steplessChecked (checked job (roomFine (job .run) lists)) job (lists .results)
+unfoldable pub productsRun : Job → Lent → Ran
+productsRun job lists = productsChecked (checked job (roomFine (job .run) lists)) job (lists .results)
 
 -- ---- the claim
 
@@ -43,8 +44,8 @@ pub record AllButSum (a b : Ran) : Type 0 where
 
 -- Whatever the job: with a step of one hour both runs are the same, the sum too, bit for bit; with any step all but the sum is.
 pub record Hourly (job : Job) (lists : Lent) : Type 0 where
-  pub same-run : job .run .step ≡ whole 1 → runOf job lists .ran ≡ steplessRun job lists
-  pub all-but-sum : AllButSum (runOf job lists .ran) (steplessRun job lists)
+  pub same-run : job .run .step ≡ whole 1 → runOf job lists .ran ≡ productsRun job lists
+  pub all-but-sum : AllButSum (runOf job lists .ran) (productsRun job lists)
 
 abbrev pub HourlyRuns : Type 0
 HourlyRuns = (job : Job) (lists : Lent) → Hourly job lists

@@ -93,7 +93,7 @@ eaves = word 1 ++ two ++ metre
 awning : List ℕ
 awning = word 1 ++ two ++ quarter ++ zeros 1
 
--- a rooflight
+-- a rooflight, in two steps of an hour and a half
 jobWith : List ℕ → List ℕ → Job
 jobWith sectors window = record {
   site = record {
@@ -105,7 +105,7 @@ jobWith sectors window = record {
     «leap_year» = 0;
     «direct_beam_conversion» = 0;
   };
-  run = record { start = whole 12; end = whole 14; step = whole 1 };
+  run = record { start = whole 12; end = whole 15; step = decimal 15 1 };
   surface = record { tilt = whole 10; orientation = whole 180; «base_height» = whole 0; height = whole 2; width = whole 1 };
   diffuse = hundred;
   direct = hundred;

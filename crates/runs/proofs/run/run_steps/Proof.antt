@@ -14,7 +14,7 @@ use Rattle.simulation_time.specs.declared.run.Run.{Run}
 use Rattle.simulation_time.specs.Timestep.{currentHour}
 use Rattle.simulation_time.specs.Steps.{timeAt}
 use Rattle.simulation_time.proofs.Times.{count-few}
-use Rattle.doubles.specs.Arithmetic.{_⊕_, _⊗_, whole}
+use Rattle.doubles.specs.Arithmetic.{_⊕_, whole}
 use Rattle.sun.specs.Hour.{hourOf}
 use Rattle.objects.specs.declared.answers.FactorAnswer.{FactorAnswer}
 use Rattle.objects.specs.Objects.{placed}
@@ -27,7 +27,7 @@ use Rattle.shading.proofs.SunPlaces.{index-fits, factor-by-table}
 use Rattle.jobs.specs.Job.{Job, jobOf, indexAt, readingAt}
 use Rattle.jobs.specs.Step.{shadingAt}
 use Rattle.jobs.specs.declared.answers.RunAnswer.{RunAnswer}
-use Rattle.jobs.specs.Run.{ran, withRow, runFrom}
+use Rattle.jobs.specs.Run.{ran, runFrom}
 use Rattle.jobs.proofs.PassedChecks.{hour-of-leap-year}
 use Rattle.jobs.proofs.RowStores.{length-putRow}
 use Rattle.steps.specs.Kept.{fixedOf, keptDay, keptHour}
