@@ -288,12 +288,17 @@ fn indexes(jobs: &mut Vec<Job>, job: &Job, maker: &mut Maker) {
     }
 }
 
-/// Direct −0.0 at every step, and so every product: their sum is 0.
-fn minus_zero_products(jobs: &mut Vec<Job>, job: &Job) {
+/// The job with this direct reading at every step.
+fn with_direct(job: &Job, direct: f64) -> Job {
     let mut other = job.clone();
     let words = other.series[1].len() / 8;
-    other.series[1] = (-0.0f64).to_le_bytes().repeat(words);
-    jobs.push(other);
+    other.series[1] = direct.to_le_bytes().repeat(words);
+    other
+}
+
+/// Direct −0.0 at every step, and so every product: their sum is 0.
+fn minus_zero_products(jobs: &mut Vec<Job>, job: &Job) {
+    jobs.push(with_direct(job, -0.0));
 }
 
 /// The sun square on the glass, where the incidence's sum is above 1, and overhead, where the
@@ -425,11 +430,70 @@ fn bad_reading_then_short_series() -> Vec<Job> {
     jobs
 }
 
+/// Start, end and step of runs whose sums have something to tell, and the step of their weather.
+const SUMMED: [(Times, f64); 16] = [
+    // eleven steps, the last of which begins just before the end: 3.3 hours
+    ([0.0, 3.0, 0.3], 1.0),
+    ([0.0, 3.0, 0.3], 0.5),
+    // half-hours and quarter-hours over hourly weather, half-hours over weather by the half-hour
+    ([4000.0, 4004.0, 0.5], 1.0),
+    ([4000.0, 4003.0, 0.25], 1.0),
+    ([4000.0, 4004.0, 0.5], 0.5),
+    // hours over hourly and over other weather
+    ([4000.0, 4004.0, 1.0], 1.0),
+    ([4000.0, 4004.0, 1.0], 0.25),
+    ([4000.0, 4004.0, 1.0], 1.5),
+    // a last step, or the only one, that passes the end
+    ([4000.0, 4003.75, 1.0], 1.0),
+    ([4000.0, 4004.0, 0.7], 1.0),
+    ([4000.0, 4000.25, 7.1], 24.0),
+    ([4000.0, 4073.0, 24.0], 1.0),
+    // a start above the end: one step, which counts whole
+    ([4000.0, 3.0, 0.3], 1.0),
+    ([4000.0, 3999.75, 0.5], 1.0),
+    ([4000.0, 3.0, 1.0], 0.5),
+    ([4000.0, 3.0, 24.0], 1.0),
+];
+
+/// A job over such times with the sun on the glass and partly in the shade at every step.
+fn shaded_throughout(maker: &mut Maker, judge: &mut Judge, times: Times, series_step: f64) -> Job {
+    loop {
+        let job = maker.job_over(series_step, times);
+        let (mut days, mut results) = (job.days.clone(), job.results.clone());
+        let answer = judge.run(&job, &mut days, &mut results);
+        let rows = doubles_of(&results);
+        let mut rows = rows.chunks_exact(ROW).take(answer.count as usize);
+        let shaded = rows.all(|row| row[2] > 1.0 && 0.0 < row[5] && row[5] < 1.0);
+        if answer.number == 0 && shaded {
+            return job;
+        }
+    }
+}
+
+/// Jobs about the sum: such runs, and the same with direct −0.0 at every step, whose sum is 0, and so
+/// small that a product by the step is rounded where there are halves and quarters too. Not part of
+/// `edges` either.
+pub fn sums() -> Vec<Job> {
+    let mut maker = Maker::new(Random::new(1, "jobs about sums"));
+    let mut judge = Judge::new();
+    let mut jobs = vec![];
+    for (times, series_step) in SUMMED {
+        for _ in 0..2 {
+            let job = shaded_throughout(&mut maker, &mut judge, times, series_step);
+            minus_zero_products(&mut jobs, &job);
+            jobs.push(with_direct(&job, f64::from_bits(7)));
+            jobs.push(job);
+        }
+    }
+    jobs
+}
+
 /// All that are tried one by one.
 pub fn all() -> Vec<Job> {
     let mut jobs = edges();
     jobs.extend(under_the_sun());
     jobs.extend(bad_reading_then_short_series());
+    jobs.extend(sums());
     jobs
 }
 
