@@ -398,8 +398,8 @@ impl Maker {
         self.aimed(|maker, site| maker.short_times(site.leap_year, most_steps))
     }
 
-    /// Up to so many steps from a full hour on: half of them by the hour, and half with a last step that
-    /// passes the end or with a start above it.
+    /// Up to so many steps from a full hour on: half of the runs go by the hour, and half have a last
+    /// step that passes the end, or a start above it.
     fn short_times(&mut self, leap_year: u64, most_steps: usize) -> Times {
         let hours = if leap_year == 1 { 8784 } else { 8760 };
         let step = match self.random.below(16) {

@@ -405,8 +405,9 @@ impl Sunward {
     }
 }
 
-/// How many accepted runs with a sum above 0 had a step by which it tells something: of a product taken
-/// in another order or rounded elsewhere, of the series' step in its place, of a last step cut at the end.
+/// How many accepted runs with a sum above 0 had a step by which it tells something: of a product
+/// taken in another order or rounded elsewhere, of the series' step in its place, of a last step cut
+/// at the end.
 #[derive(Default)]
 struct Summed {
     all: u64,
