@@ -288,17 +288,12 @@ fn indexes(jobs: &mut Vec<Job>, job: &Job, maker: &mut Maker) {
     }
 }
 
-/// The job with this direct reading at every step.
-fn with_direct(job: &Job, direct: f64) -> Job {
+/// The direct reading −0.0 at every step: what counts as direct is then a part of the diffuse light.
+fn minus_zero_direct(jobs: &mut Vec<Job>, job: &Job) {
     let mut other = job.clone();
     let words = other.series[1].len() / 8;
-    other.series[1] = direct.to_le_bytes().repeat(words);
-    other
-}
-
-/// Direct −0.0 at every step, and so every product: their sum is 0.
-fn minus_zero_products(jobs: &mut Vec<Job>, job: &Job) {
-    jobs.push(with_direct(job, -0.0));
+    other.series[1] = (-0.0f64).to_le_bytes().repeat(words);
+    jobs.push(other);
 }
 
 /// The sun square on the glass, where the incidence's sum is above 1, and overhead, where the
@@ -470,9 +465,19 @@ fn shaded_throughout(maker: &mut Maker, judge: &mut Judge, times: Times, series_
     }
 }
 
-/// Jobs about the sum: such runs, and the same with direct −0.0 at every step, whose sum is 0, and so
-/// small that a product by the step is rounded where there are halves and quarters too. Not part of
-/// `edges` either.
+/// The job with this direct reading at every step and no diffuse light, a part of which would count as
+/// direct.
+fn with_direct_alone(job: &Job, direct: f64) -> Job {
+    let mut other = job.clone();
+    for (list, reading) in [(0, -0.0), (1, direct)] {
+        let words = other.series[list].len() / 8;
+        other.series[list] = reading.to_le_bytes().repeat(words);
+    }
+    other
+}
+
+/// Jobs about the sum: such runs; the same with products that are all −0.0, whose sum is 0; and with
+/// subnormal ones, which the halves and quarters of an hour round too. Not part of `edges` either.
 pub fn sums() -> Vec<Job> {
     let mut maker = Maker::new(Random::new(1, "jobs about sums"));
     let mut judge = Judge::new();
@@ -480,8 +485,8 @@ pub fn sums() -> Vec<Job> {
     for (times, series_step) in SUMMED {
         for _ in 0..2 {
             let job = shaded_throughout(&mut maker, &mut judge, times, series_step);
-            minus_zero_products(&mut jobs, &job);
-            jobs.push(with_direct(&job, f64::from_bits(7)));
+            jobs.push(with_direct_alone(&job, -0.0));
+            jobs.push(with_direct_alone(&job, f64::from_bits(1001)));
             jobs.push(job);
         }
     }
@@ -510,7 +515,7 @@ pub fn edges() -> Vec<Job> {
         ends_of_the_year(&mut jobs, job, &mut maker);
         step_counts(&mut jobs, job, &mut maker);
         indexes(&mut jobs, job, &mut maker);
-        minus_zero_products(&mut jobs, job);
+        minus_zero_direct(&mut jobs, job);
         square_and_overhead(&mut jobs, job, &mut maker);
     }
     jobs

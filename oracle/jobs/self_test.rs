@@ -129,16 +129,12 @@ fn lawless_found(settings: &Settings, plan: Plan) -> Result<usize, String> {
             count += 1;
         }
     }
-    let by_the_hour = true;
+    let figures = Plan {
+        by_the_hour: true,
+        ..plan
+    };
     for engine in &wrong::other_figures() {
-        found(
-            settings,
-            Plan {
-                by_the_hour,
-                ..plan
-            },
-            engine,
-        )?;
+        found(settings, figures, engine)?;
         count += 1;
     }
     Ok(count)

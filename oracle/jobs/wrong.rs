@@ -127,11 +127,12 @@ flaws! {
         SeriesWrittenTo,
         WritesBeside;
     All "run's sum":
-        SumKeptOnRefusal,
+        SumKeptOnRefusal;
+    Sums "run's sum":
         SumBegunWithFirstProduct,
         SumBackwards,
-        SumOfDirect;
-    Sums "run's sum":
+        SumOfDirect,
+        SumSubnormalsDropped,
         // the step in the product
         SumWithoutStep,
         SumStepTimesDirectFirst,
@@ -714,6 +715,9 @@ impl Plain {
             .collect();
         if self.is(SumBackwards) {
             products.reverse();
+        }
+        if self.is(SumSubnormalsDropped) {
+            products.retain(|product| !product.is_subnormal());
         }
         let plain = products.iter().fold(0.0, |sum, x| sum + x);
         match products.split_first() {
