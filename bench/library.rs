@@ -107,4 +107,11 @@ impl<'a> Lent<'a> {
         let rows = doubles.chunks_exact(ROW);
         rows.map(|row| row.try_into().expect("a row")).collect()
     }
+
+    /// Factor times direct over the rows. Archives up to 2.0.0 answer it as the run's sum, later ones
+    /// have the step in that: this is what one can be held to beside the other.
+    pub fn shaded(&self) -> f64 {
+        let rows = self.rows();
+        rows.iter().fold(0.0, |sum, row| sum + row[5] * row[2])
+    }
 }

@@ -91,7 +91,7 @@ fn conditions(
     )
 }
 
-/// The row of each step, and the sum of factor times direct.
+/// The row of each step, and the sum of factor times direct times step.
 pub fn run(job: &Job, given: Given, rows: &mut Vec<Row>) -> anyhow::Result<f64> {
     let time = SimulationTime::new(job.start, job.end, job.step);
     let year = conditions(&time, given.series, given.sectors);
@@ -119,7 +119,7 @@ pub fn run(job: &Job, given: Given, rows: &mut Vec<Row>) -> anyhow::Result<f64> 
             total,
             factor,
         ]);
-        sum += factor * direct;
+        sum += (factor * direct) * job.step;
     }
     Ok(sum)
 }

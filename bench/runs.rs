@@ -284,15 +284,15 @@ fn measure_alone(lists: Lists) -> Result<(), String> {
     ] {
         let year = lists.year(step);
         let mut lent = Lent::new(&year, count);
-        let (_, sum) = lent.run()?;
+        lent.run()?;
         let name = format!("{what}, µs: {}", lists.name());
-        measure::alone(&name, sum, || rattle(&mut lent));
+        measure::alone(&name, lent.shaded(), || rattle(&mut lent));
     }
     let hour = lists.one_step();
     let mut lent = Lent::new(&hour, 1);
-    let (_, sum) = lent.run()?;
+    lent.run()?;
     let name = format!("a run of one step, µs: {}", lists.name());
-    measure::alone(&name, sum, || {
+    measure::alone(&name, lent.shaded(), || {
         repeated(|| {
             black_box(black_box(&mut lent).run()).unwrap();
         })

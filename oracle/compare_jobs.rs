@@ -102,6 +102,7 @@ fn run(arguments: &Arguments) -> Outcome {
         aimed: Plan::aimed_for(&fixed, YEARS),
         compared: true,
         laws: &LAWS,
+        by_the_hour: true,
     };
     jobs::section(settings, &LIBRARY, plan)?;
     shading::section(settings, FACTOR)?;

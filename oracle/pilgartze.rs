@@ -170,7 +170,7 @@ impl std::error::Error for Refusal {}
 #[derive(Clone, Copy, Debug, PartialEq)]
 pub struct Accepted {
     pub count: usize,
-    /// Of factor times direct, over all steps.
+    /// Of factor times direct times the run's step in hours, over all steps: Wh/m².
     pub sum: f64,
 }
 

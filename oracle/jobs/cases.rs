@@ -395,12 +395,38 @@ impl Maker {
     /// A short job in range that is aimed so.
     pub fn aimed_job(&mut self, aims: Aims, most_steps: usize) -> Job {
         self.aims = aims;
-        self.aimed(|maker, site| {
-            let hours = if site.leap_year == 1 { 8784 } else { 8760 };
-            let start = maker.random.below(hours - most_steps) as f64;
-            let length = 1 + maker.random.below(most_steps);
-            [start, start + length as f64, 1.0]
-        })
+        self.aimed(|maker, site| maker.short_times(site.leap_year, most_steps))
+    }
+
+    /// Up to so many steps from a full hour on: half of the runs go by the hour, and half have a last
+    /// step that passes the end, or a start above it.
+    fn short_times(&mut self, leap_year: u64, most_steps: usize) -> Times {
+        let hours = if leap_year == 1 { 8784 } else { 8760 };
+        let step = match self.random.below(16) {
+            0..=7 => 1.0,
+            8 => 0.25,
+            9 => 0.5,
+            10 => 0.3,
+            11 => 0.7,
+            12 => self.random.uniform(1.0, 24.0),
+            _ => self.random.uniform(0.25, 1.0),
+        };
+        let length = step * (1 + self.random.below(most_steps)) as f64;
+        let start = self.random.below(hours) as f64;
+        let start = start.min((hours as f64 - length).floor());
+        let end = match self.random.below(8) {
+            0..=2 => start + length - step * self.random.uniform(0.0, 1.0),
+            3 if start > 0.0 => self.random.uniform(0.0, start),
+            _ => start + length,
+        };
+        [start, end, step]
+    }
+
+    /// A job in range with these times, over weather by such a step.
+    pub fn job_over(&mut self, series_step: f64, times: Times) -> Job {
+        let mut site = self.any_site();
+        site.series_step = series_step;
+        self.job_at(site, times)
     }
 
     pub fn sound_job(&mut self) -> Job {

@@ -288,8 +288,8 @@ fn indexes(jobs: &mut Vec<Job>, job: &Job, maker: &mut Maker) {
     }
 }
 
-/// Direct −0.0 at every step, and so every product: their sum is 0.
-fn minus_zero_products(jobs: &mut Vec<Job>, job: &Job) {
+/// The direct reading −0.0 at every step: what counts as direct is then a part of the diffuse light.
+fn minus_zero_direct(jobs: &mut Vec<Job>, job: &Job) {
     let mut other = job.clone();
     let words = other.series[1].len() / 8;
     other.series[1] = (-0.0f64).to_le_bytes().repeat(words);
@@ -425,11 +425,80 @@ fn bad_reading_then_short_series() -> Vec<Job> {
     jobs
 }
 
+/// Start, end and step of runs whose sums have something to tell, and the step of their weather.
+const SUMMED: [(Times, f64); 16] = [
+    // eleven steps, the last of which begins just before the end: 3.3 hours
+    ([0.0, 3.0, 0.3], 1.0),
+    ([0.0, 3.0, 0.3], 0.5),
+    // half-hours and quarter-hours over hourly weather, half-hours over weather by the half-hour
+    ([4000.0, 4004.0, 0.5], 1.0),
+    ([4000.0, 4003.0, 0.25], 1.0),
+    ([4000.0, 4004.0, 0.5], 0.5),
+    // hours over hourly and over other weather
+    ([4000.0, 4004.0, 1.0], 1.0),
+    ([4000.0, 4004.0, 1.0], 0.25),
+    ([4000.0, 4004.0, 1.0], 1.5),
+    // a last step, or the only one, that passes the end
+    ([4000.0, 4003.75, 1.0], 1.0),
+    ([4000.0, 4004.0, 0.7], 1.0),
+    ([4000.0, 4000.25, 7.1], 24.0),
+    ([4000.0, 4073.0, 24.0], 1.0),
+    // a start above the end: one step, which counts whole
+    ([4000.0, 3.0, 0.3], 1.0),
+    ([4000.0, 3999.75, 0.5], 1.0),
+    ([4000.0, 3.0, 1.0], 0.5),
+    ([4000.0, 3.0, 24.0], 1.0),
+];
+
+/// A job over such times with the sun on the glass and partly in the shade at every step.
+fn shaded_throughout(maker: &mut Maker, judge: &mut Judge, times: Times, series_step: f64) -> Job {
+    loop {
+        let job = maker.job_over(series_step, times);
+        let (mut days, mut results) = (job.days.clone(), job.results.clone());
+        let answer = judge.run(&job, &mut days, &mut results);
+        let rows = doubles_of(&results);
+        let mut rows = rows.chunks_exact(ROW).take(answer.count as usize);
+        let shaded = rows.all(|row| row[2] > 1.0 && 0.0 < row[5] && row[5] < 1.0);
+        if answer.number == 0 && shaded {
+            return job;
+        }
+    }
+}
+
+/// The job with this direct reading at every step and no diffuse light, a part of which would count as
+/// direct.
+fn with_direct_alone(job: &Job, direct: f64) -> Job {
+    let mut other = job.clone();
+    for (list, reading) in [(0, -0.0), (1, direct)] {
+        let words = other.series[list].len() / 8;
+        other.series[list] = reading.to_le_bytes().repeat(words);
+    }
+    other
+}
+
+/// Jobs about the sum: such runs; the same with products that are all −0.0, whose sum is 0; and with
+/// subnormal ones, which the halves and quarters of an hour round too. Not part of `edges` either.
+pub fn sums() -> Vec<Job> {
+    let mut maker = Maker::new(Random::new(1, "jobs about sums"));
+    let mut judge = Judge::new();
+    let mut jobs = vec![];
+    for (times, series_step) in SUMMED {
+        for _ in 0..2 {
+            let job = shaded_throughout(&mut maker, &mut judge, times, series_step);
+            jobs.push(with_direct_alone(&job, -0.0));
+            jobs.push(with_direct_alone(&job, f64::from_bits(1001)));
+            jobs.push(job);
+        }
+    }
+    jobs
+}
+
 /// All that are tried one by one.
 pub fn all() -> Vec<Job> {
     let mut jobs = edges();
     jobs.extend(under_the_sun());
     jobs.extend(bad_reading_then_short_series());
+    jobs.extend(sums());
     jobs
 }
 
@@ -446,7 +515,7 @@ pub fn edges() -> Vec<Job> {
         ends_of_the_year(&mut jobs, job, &mut maker);
         step_counts(&mut jobs, job, &mut maker);
         indexes(&mut jobs, job, &mut maker);
-        minus_zero_products(&mut jobs, job);
+        minus_zero_direct(&mut jobs, job);
         square_and_overhead(&mut jobs, job, &mut maker);
     }
     jobs

@@ -43,9 +43,32 @@ impl Rows {
         Rows(rows.take(left.answer.count as usize).collect())
     }
 
-    /// The sum from 0 of the unshaded direct values.
-    fn unshaded(&self) -> f64 {
-        self.0.iter().fold(0.0, |sum, row| sum + row[2])
+    /// The sum from 0 of the unshaded direct values, each times the step.
+    fn unshaded(&self, step_hours: f64) -> f64 {
+        let each = self.0.iter();
+        each.fold(0.0, |sum, row| sum + row[2] * step_hours)
+    }
+
+    /// The sum from 0 of factor times direct, by which a step of any length would count as an hour.
+    fn by_hours(&self) -> f64 {
+        self.0.iter().fold(0.0, |sum, row| sum + row[5] * row[2])
+    }
+}
+
+/// "One-hour runs keep their figures": the sum of an accepted one is still that of factor times direct.
+/// Whether the job is one, with a sum that is not 0.
+pub fn keeps_its_figure(job: &Job, left: &Left<RunAnswer>) -> Result<bool, String> {
+    let [.., step_hours] = job.times;
+    let (sum, figure) = (left.answer.sum, Rows::of(left).by_hours());
+    match step_hours == 1.0 {
+        false => Ok(false),
+        true if same(sum, figure) => Ok(sum != 0.0),
+        true => Err(format!(
+            "run by the hour has the sum {}, not {} as by factor times direct\n{}",
+            shown(sum),
+            shown(figure),
+            super::shown_job(job)
+        )),
     }
 }
 
@@ -88,8 +111,13 @@ fn changed(law: Law, random: &mut Random, job: &Job, rows: &Rows) -> Job {
     }
 }
 
-/// What breaks the law in two runs, in words.
-fn broken(law: Law, left: &Left<RunAnswer>, other: &Left<RunAnswer>) -> Option<String> {
+/// What breaks the law in two runs of such steps, in words.
+fn broken(
+    law: Law,
+    step_hours: f64,
+    left: &Left<RunAnswer>,
+    other: &Left<RunAnswer>,
+) -> Option<String> {
     let (rows, other_rows) = (Rows::of(left), Rows::of(other));
     let (sum, other_sum) = (left.answer.sum, other.answer.sum);
     if other.answer.number != 0 || other_rows.0.len() != rows.0.len() {
@@ -101,7 +129,7 @@ fn broken(law: Law, left: &Left<RunAnswer>, other: &Left<RunAnswer>) -> Option<S
             return Some(format!("step {step}, factors {factor} and {other}"));
         }
     }
-    let holds = sums_hold(law, sum, other_sum, rows.unshaded());
+    let holds = sums_hold(law, sum, other_sum, rows.unshaded(step_hours));
     (!holds).then(|| format!("sums {} and {}", shown(sum), shown(other_sum)))
 }
 
@@ -126,7 +154,7 @@ pub fn try_laws(
             continue;
         }
         let got = lent.run(&other)?;
-        if let Some(words) = broken(law, left, &got) {
+        if let Some(words) = broken(law, job.times[2], left, &got) {
             return Err(format!(
                 "run breaks the law of the {}: {words}\n{}\nand\n{}",
                 law.name(),

@@ -22,7 +22,7 @@ use crate::shading::smaller;
 use crate::shading::walks::Walks;
 use crate::stand_ins::Beyond;
 use cases::{Aims, Maker, MOST_BYTES};
-use laws::{try_laws, Pairs};
+use laws::{keeps_its_figure, try_laws, Pairs};
 use lent::{Left, Lent, Library};
 use tables::Tables;
 
@@ -58,6 +58,14 @@ impl Fixed {
         }
     }
 
+    /// Those about the sum.
+    pub fn sums() -> Self {
+        Fixed {
+            edges: edges::sums(),
+            ..Fixed::default()
+        }
+    }
+
     fn runs(&self) -> usize {
         self.edges.len() + self.walks.len() + 2 * self.tables.len() + self.turns.len()
     }
@@ -73,9 +81,11 @@ pub struct Plan<'a> {
     pub years: usize,
     /// Short random jobs that are all aimed at the sun.
     pub aimed: usize,
-    /// Whether answers are compared; else the laws are tried alone.
+    /// Whether answers are compared; else what follows is tried alone.
     pub compared: bool,
     pub laws: &'a [Law],
+    /// Whether runs by the hour are held to the figures that they had without the step in the sum.
+    pub by_the_hour: bool,
 }
 
 /// Among so many random jobs, and short ones, one is also judged by the published record of the whole
@@ -201,8 +211,9 @@ fn first_other_byte(list: &str, doubles: usize, right: &[u8], got: &[u8]) -> Str
 
 // --- Comparing ---
 
-fn answers_same(a: &RunAnswer, b: &RunAnswer) -> bool {
-    (a.number, a.step, a.count) == (b.number, b.step, b.count) && same(a.sum, b.sum)
+/// Answers that are the same but for the sum.
+fn numbers_same(a: &RunAnswer, b: &RunAnswer) -> bool {
+    (a.number, a.step, a.count) == (b.number, b.step, b.count)
 }
 
 /// What the judge says of a job, and what it leaves in the table of days and in the results.
@@ -216,11 +227,12 @@ fn judged(judge: &mut Judge, job: &Job) -> Left<RunAnswer> {
     }
 }
 
-/// What differs, if anything: the run, or else its table of days alone.
+/// What differs, if anything: the run, or else its sum or its table of days alone.
 fn other_part(right: &Left<RunAnswer>, got: &Left<RunAnswer>) -> Option<&'static str> {
     match () {
-        _ if !answers_same(&right.answer, &got.answer) => Some("run"),
+        _ if !numbers_same(&right.answer, &got.answer) => Some("run"),
         _ if right.results != got.results => Some("run"),
+        _ if !same(right.answer.sum, got.answer.sum) => Some("run's sum"),
         _ if right.days != got.days => Some("run's table of days"),
         _ => None,
     }
@@ -393,6 +405,52 @@ impl Sunward {
     }
 }
 
+/// How many accepted runs with a sum above 0 had a step by which it tells something: of a product
+/// taken in another order or rounded elsewhere, of the series' step in its place, of a last step cut
+/// at the end.
+#[derive(Default)]
+struct Summed {
+    all: u64,
+    no_power_of_two: u64,
+    not_the_series: u64,
+    past_the_end: u64,
+    above_the_end: u64,
+}
+
+impl Summed {
+    fn note(&mut self, job: &Job, answer: &RunAnswer, steps: &[Step], rows: &[f64]) {
+        let [start, end, step] = job.times;
+        let (Some(last), true) = (steps.last(), answer.sum > 0.0) else {
+            return;
+        };
+        let last_row = &rows[ROW * (steps.len() - 1)..];
+        let last_counts = last_row[5] * last_row[2] > 0.0;
+        let passes = start < end && last.time + step > end;
+        self.all += 1;
+        self.no_power_of_two += (step.to_bits() << 12 != 0) as u64;
+        self.not_the_series += (step != job.site.series_step) as u64;
+        self.past_the_end += (passes && last_counts) as u64;
+        self.above_the_end += (start > end) as u64;
+    }
+
+    fn report(&self, settings: &Settings) -> Outcome {
+        let counts = [
+            ("watt-hours above 0", self.all),
+            ("watt-hours, step no power of two", self.no_power_of_two),
+            ("watt-hours, step not the series'", self.not_the_series),
+            ("watt-hours, last step past the end", self.past_the_end),
+            ("watt-hours, start above end", self.above_the_end),
+        ];
+        for (what, count) in counts {
+            if count == 0 {
+                return Err(format!("jobs: none had {what}"));
+            }
+            settings.detail(what, count);
+        }
+        Ok(())
+    }
+}
+
 /// How many calls came out in each way.
 #[derive(Default)]
 struct Met {
@@ -411,6 +469,7 @@ struct Met {
     dark: u64,
     minus_zero: u64,
     rows: u64,
+    sums: Summed,
     run_walks: Walks,
     step_walks: Walks,
     tables: Tables,
@@ -435,6 +494,7 @@ impl Met {
         self.rows += count;
         let steps = steps_of(&job.site, &job.times);
         let rows = doubles_of(&right.results);
+        self.sums.note(job, &right.answer, &steps, &rows);
         for (step, row) in steps.iter().zip(rows.chunks_exact(ROW)) {
             self.leap_day += (step.hour >= 8760) as u64;
             self.tables.note_row(&job.site, step.hour, row[0]);
@@ -486,6 +546,7 @@ impl Met {
             }
             settings.detail(what, *count);
         }
+        self.sums.report(settings)?;
         self.tables.report(settings)?;
         self.runs.report(settings, "run")?;
         self.runs.report_walks(settings, "run")?;
@@ -509,6 +570,7 @@ struct Comparison<'a> {
     tally: Tally,
     by_new: u64,
     years_accepted: u64,
+    by_the_hour: u64,
 }
 
 impl Comparison<'_> {
@@ -536,6 +598,9 @@ impl Comparison<'_> {
         }
         self.tally.compared += 1;
         if got.answer.number == 0 {
+            if self.plan.by_the_hour {
+                self.by_the_hour += keeps_its_figure(job, &got)? as u64;
+            }
             let (pairs, random) = (&mut self.pairs, &mut self.laws_random);
             try_laws(self.plan.laws, pairs, random, job, &got, &mut self.lent)?;
         }
@@ -606,6 +671,12 @@ impl Comparison<'_> {
             if self.plan.years > 0 && self.years_accepted == 0 {
                 return Err(String::from("jobs: no whole year was accepted"));
             }
+        }
+        if self.plan.by_the_hour {
+            if self.by_the_hour == 0 {
+                return Err(String::from("run: none by the hour has a sum"));
+            }
+            settings.detail("by the hour, sum as without the step", self.by_the_hour);
         }
         self.pairs.report(settings, self.plan.laws)
     }
@@ -684,6 +755,7 @@ pub fn section(settings: &Settings, library: &Library, plan: Plan) -> Outcome {
         tally: Tally::default(),
         by_new: 0,
         years_accepted: 0,
+        by_the_hour: 0,
     };
     let mut maker = Maker::new(settings.random("jobs"));
     all.fixed_jobs(&mut maker)?;

@@ -71,8 +71,12 @@ fn alone<'a>(plan: Plan<'a>, fixed: &'a Fixed) -> Plan<'a> {
 /// The plain engine passes with all laws, and a comparison of nothing is an error.
 fn plain_engine(settings: &Settings, plan: Plan) -> Outcome {
     let right = wrong::without_flaw();
-    let laws = &LAWS;
-    section(settings, &right, Plan { laws, ..plan })
+    let with_laws = Plan {
+        laws: &LAWS,
+        by_the_hour: true,
+        ..plan
+    };
+    section(settings, &right, with_laws)
         .map_err(|words| format!("self-test, the plain engine: {words}"))?;
     let nothing = Fixed::default();
     match section(settings, &right, alone(plan, &nothing)) {
@@ -83,29 +87,55 @@ fn plain_engine(settings: &Settings, plan: Plan) -> Outcome {
     }
 }
 
+/// The plan of the random jobs and no others.
+fn random_alone<'a>(plan: Plan<'a>, nothing: &'a Fixed) -> Plan<'a> {
+    Plan {
+        fixed: nothing,
+        years: 0,
+        ..plan
+    }
+}
+
 /// How many wrong engines there are, all of which are found.
 fn engines_found(settings: &Settings, plan: Plan) -> Result<usize, String> {
-    let days = Fixed::days();
+    let (days, sums, nothing) = (Fixed::days(), Fixed::sums(), Fixed::default());
     let mut count = 0;
     for engine in &wrong::engines() {
-        let plan = match engine.by {
-            By::All => plan,
-            By::Days => alone(plan, &days),
+        let plans = match engine.by {
+            By::All => vec![plan],
+            By::Days => vec![alone(plan, &days)],
+            By::Sums => vec![alone(plan, &sums), random_alone(plan, &nothing)],
         };
-        found(settings, plan, engine)?;
+        for plan in plans {
+            found(settings, plan, engine)?;
+        }
         count += 1;
     }
+    Ok(count)
+}
+
+/// The same of those that break a law, or the figures of runs by the hour, which are tried alone.
+fn lawless_found(settings: &Settings, plan: Plan) -> Result<usize, String> {
+    let plan = Plan {
+        compared: false,
+        years: 0,
+        ..plan
+    };
+    let mut count = 0;
     for law in LAWS {
-        let plan = Plan {
-            compared: false,
-            years: 0,
-            laws: &[law],
-            ..plan
-        };
+        let laws = &[law];
         for engine in &wrong::lawless_engines(law) {
-            found(settings, plan, engine)?;
+            found(settings, Plan { laws, ..plan }, engine)?;
             count += 1;
         }
+    }
+    let figures = Plan {
+        by_the_hour: true,
+        ..plan
+    };
+    for engine in &wrong::other_figures() {
+        found(settings, figures, engine)?;
+        count += 1;
     }
     Ok(count)
 }
@@ -124,11 +154,12 @@ pub fn run(seed: u64) -> Outcome {
         aimed: Plan::aimed_for(&fixed, 1),
         compared: true,
         laws: &[],
+        by_the_hour: false,
     };
     step_counts()?;
     nan_is_told()?;
     plain_engine(&settings, plan)?;
-    let count = engines_found(&settings, plan)?;
+    let count = engines_found(&settings, plan)? + lawless_found(&settings, plan)?;
     println!("self-test: {count} wrong engines found");
     Ok(())
 }

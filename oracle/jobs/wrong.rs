@@ -11,6 +11,7 @@ use crate::published::shading::{MOST_SECTORS, MOST_WINDOW_OBJECTS, SECTOR_WORDS,
 use crate::published::wrong::Otherwise;
 use crate::random::ulps_from;
 use crate::shading::call::{Call, Scene};
+use crate::shading::laws::Law;
 use std::cell::RefCell;
 use Flaw::*;
 
@@ -20,12 +21,14 @@ pub enum By {
     All,
     /// Those about the table of days alone.
     Days,
+    /// Those about the sum alone, and the random ones alone too.
+    Sums,
 }
 
 pub struct Wrong {
     pub by: By,
-    /// The call, or its part, under which the difference must be told.
-    pub told: &'static str,
+    /// The call, or its part, under which the difference must be told; the law that is broken.
+    pub told: String,
     /// The flaw's name, for messages.
     pub what: &'static str,
     pub library: Library,
@@ -46,7 +49,7 @@ macro_rules! flaws {
         pub fn engines() -> Vec<Wrong> {
             vec![$($(Wrong {
                 by: By::$by,
-                told: $told,
+                told: String::from($told),
                 what: stringify!($flaw),
                 library: only($told, engine::<{ Flaw::$flaw as u8 }>()),
             },)*)*]
@@ -121,12 +124,27 @@ flaws! {
         StepOfRefusalZero,
         StepOfAcceptanceLast,
         CountKeptOnRefusal,
-        SumKeptOnRefusal,
+        SeriesWrittenTo,
+        WritesBeside;
+    All "run's sum":
+        SumKeptOnRefusal;
+    Sums "run's sum":
         SumBegunWithFirstProduct,
         SumBackwards,
         SumOfDirect,
-        SeriesWrittenTo,
-        WritesBeside;
+        SumSubnormalsDropped,
+        // the step in the product
+        SumWithoutStep,
+        SumStepTimesDirectFirst,
+        SumStepTimesFactorFirst,
+        SumTimesStepAtTheEnd,
+        SumFused,
+        // the hours that a step counts for
+        SumBySeriesStep,
+        SumByTheTimesBetween,
+        SumLastStepCutAtTheEnd,
+        SumStartAboveEndNothing,
+        SumStepAnHourAtMost;
     Days "run":
         // a table that is too short
         ShortTableTaken,
@@ -661,24 +679,60 @@ impl Plain {
         }
     }
 
-    fn sum(&self, rows: &[[f64; ROW]]) -> f64 {
-        let mut products: Vec<f64> = rows
-            .iter()
-            .map(|row| match self.is(SumOfDirect) {
-                true => row[2],
-                false => row[5] * row[2],
-            })
+    /// The hours that a step counts for.
+    fn step_hours(&self, job: &Job, steps: &Checked, k: usize) -> f64 {
+        let [start, end, step] = job.times;
+        let time = steps[k].0.time;
+        match () {
+            _ if self.is(SumWithoutStep) || self.is(SumTimesStepAtTheEnd) => 1.0,
+            _ if self.is(SumBySeriesStep) => job.site.series_step,
+            _ if self.is(SumByTheTimesBetween) => match steps.get(k + 1) {
+                Some((next, _)) => next.time - time,
+                None => step,
+            },
+            _ if self.is(SumLastStepCutAtTheEnd) && time < end => step.min(end - time),
+            _ if self.is(SumStartAboveEndNothing) && start > end => 0.0,
+            _ if self.is(SumStepAnHourAtMost) => step.min(1.0),
+            _ => step,
+        }
+    }
+
+    /// What a step adds to the sum.
+    fn product(&self, &[_, _, direct, _, _, factor]: &[f64; ROW], hours: f64) -> f64 {
+        match () {
+            _ if self.is(SumOfDirect) => direct * hours,
+            _ if self.is(SumStepTimesDirectFirst) => factor * (direct * hours),
+            _ if self.is(SumStepTimesFactorFirst) => (factor * hours) * direct,
+            _ => (factor * direct) * hours,
+        }
+    }
+
+    fn sum(&self, job: &Job, steps: &Checked, rows: &[[f64; ROW]]) -> f64 {
+        let [.., step] = job.times;
+        let each = rows.iter().enumerate();
+        let mut products: Vec<f64> = each
+            .map(|(k, row)| self.product(row, self.step_hours(job, steps, k)))
             .collect();
         if self.is(SumBackwards) {
             products.reverse();
         }
-        match (self.is(SumBegunWithFirstProduct), products.split_first()) {
-            (true, Some((first, rest))) => rest.iter().fold(*first, |sum, x| sum + x),
-            _ => products.iter().fold(0.0, |sum, x| sum + x),
+        if self.is(SumSubnormalsDropped) {
+            products.retain(|product| !product.is_subnormal());
+        }
+        let plain = products.iter().fold(0.0, |sum, x| sum + x);
+        match products.split_first() {
+            Some((first, rest)) if self.is(SumBegunWithFirstProduct) => {
+                rest.iter().fold(*first, |sum, x| sum + x)
+            }
+            _ if self.is(SumTimesStepAtTheEnd) => plain * step,
+            _ if self.is(SumFused) => rows
+                .iter()
+                .fold(0.0, |sum, row| (row[5] * row[2]).mul_add(step, sum)),
+            _ => plain,
         }
     }
 
-    fn accepted(&self, rows: &[[f64; ROW]]) -> RunAnswer {
+    fn accepted(&self, job: &Job, steps: &Checked, rows: &[[f64; ROW]]) -> RunAnswer {
         RunAnswer {
             number: 0,
             step: match self.is(StepOfAcceptanceLast) {
@@ -686,7 +740,7 @@ impl Plain {
                 false => 0,
             },
             count: rows.len() as u64,
-            sum: self.sum(rows),
+            sum: self.sum(job, steps, rows),
         }
     }
 
@@ -702,12 +756,12 @@ impl Plain {
                         let row = judge.hour(&job.site, &job.surface, step.hour, readings);
                         self.store(results, ROW * k, &row[..5]);
                     }
-                    return self.refused(number, k, self.sum(&rows));
+                    return self.refused(number, k, self.sum(job, steps, &rows));
                 }
             }
             self.store(results, ROW * k, &rows[k]);
         }
-        self.accepted(&rows)
+        self.accepted(job, steps, &rows)
     }
 
     fn run(&self, judge: &mut Judge, job: &Job, days: &mut [u8], results: &mut [u8]) -> RunAnswer {
@@ -1072,6 +1126,9 @@ enum Lawless {
     AboveTheWhole,
     NeverWhole,
     SumByTheObjects,
+    SumByTheFirstObject,
+    SumWithoutTheStep,
+    HoursAnUlpLonger,
 }
 
 impl Lawless {
@@ -1117,6 +1174,15 @@ fn lawless_factor(way: u8, mut factor: f64, objects: usize) -> f64 {
     factor
 }
 
+/// What becomes of the step by which the sum is taken.
+fn lawless_hours(way: u8, step: f64) -> f64 {
+    match () {
+        _ if Lawless::SumWithoutTheStep.is(way) => 1.0,
+        _ if Lawless::HoursAnUlpLonger.is(way) => ulps_from(step, 1),
+        _ => step,
+    }
+}
+
 fn lawless_run<const WAY: u8>(
     judge: &mut Judge,
     job: &Job,
@@ -1128,6 +1194,7 @@ fn lawless_run<const WAY: u8>(
     if answer.number != 0 {
         return answer;
     }
+    let hours = lawless_hours(WAY, job.times[2]);
     let mut sum = 0.0;
     for row in results
         .chunks_exact_mut(8 * ROW)
@@ -1136,11 +1203,15 @@ fn lawless_run<const WAY: u8>(
         let doubles = doubles_of(row);
         let (direct, factor) = (doubles[2], lawless_factor(WAY, doubles[5], objects));
         store(row, 5, &[factor]);
-        sum += factor * direct;
+        sum += (factor * direct) * hours;
     }
     answer.sum = sum;
     if Lawless::SumByTheObjects.is(WAY) {
         answer.sum += objects as f64;
+    }
+    if Lawless::SumByTheFirstObject.is(WAY) {
+        // a record begins with its kind, least byte first
+        answer.sum += job.window.first().map_or(0.0, |&kind| kind as f64);
     }
     answer
 }
@@ -1151,28 +1222,36 @@ fn lawless<const WAY: u8>() -> Answers {
 
 extern_calls!(run_by, step_by, irradiance_by, WAY, lawless::<WAY>());
 
+macro_rules! ways {
+    ($told:expr; $($way:ident),*) => {
+        vec![$(Wrong {
+            by: By::All,
+            told: $told,
+            what: stringify!($way),
+            library: Library {
+                run: run_by::<{ Lawless::$way as u8 }>,
+                step: step_by::<{ Lawless::$way as u8 }>,
+                irradiance: irradiance_by::<{ Lawless::$way as u8 }>,
+            },
+        }),*]
+    };
+}
+
 /// What each law has to find, tried alone.
-pub fn lawless_engines(law: crate::shading::laws::Law) -> Vec<Wrong> {
-    use crate::shading::laws::Law;
-    macro_rules! ways {
-        ($($way:ident),*) => {
-            vec![$(Wrong {
-                by: By::All,
-                told: "run",
-                what: stringify!($way),
-                library: Library {
-                    run: run_by::<{ Lawless::$way as u8 }>,
-                    step: step_by::<{ Lawless::$way as u8 }>,
-                    irradiance: irradiance_by::<{ Lawless::$way as u8 }>,
-                },
-            }),*]
-        };
-    }
+pub fn lawless_engines(law: Law) -> Vec<Wrong> {
+    let told = || format!("run breaks the law of the {}:", law.name());
     match law {
-        Law::Range => ways!(AboveTheWhole),
-        Law::Reordered => ways!(FirstObjectLeftOut, LastObjectAlone),
-        Law::Repeated => ways!(ObjectsCounted, SumByTheObjects),
-        Law::Enlarged => ways!(LastObjectAlone, SumByTheObjects),
-        Law::Emptied => ways!(NeverWhole),
+        Law::Range => ways!(told(); AboveTheWhole, SumWithoutTheStep),
+        Law::Reordered => {
+            ways!(told(); FirstObjectLeftOut, LastObjectAlone, SumByTheFirstObject)
+        }
+        Law::Repeated => ways!(told(); ObjectsCounted, SumByTheObjects),
+        Law::Enlarged => ways!(told(); LastObjectAlone, SumByTheObjects),
+        Law::Emptied => ways!(told(); NeverWhole, SumWithoutTheStep),
     }
+}
+
+/// What the figures of runs by the hour have to find, tried alone.
+pub fn other_figures() -> Vec<Wrong> {
+    ways!(String::from("run by the hour"); HoursAnUlpLonger)
 }

@@ -307,6 +307,12 @@ pub fn aim_squarely(
     put_aim(&aimed, site, surface)
 }
 
+/// "Factor times direct times step in hours, the product taken in that order." Every step counts with
+/// the run's whole step, also one that passes the end.
+fn watt_hours(&[_, _, direct, _, _, factor]: &[f64; ROW], step_hours: f64) -> f64 {
+    (factor * direct) * step_hours
+}
+
 /// The published record, kept from call to call.
 pub struct Judge {
     conditions: ExternalConditions,
@@ -435,12 +441,13 @@ impl Judge {
         };
         fill_days(days);
         self.lend(lists);
+        let [.., step_hours] = job.times;
         let mut sum = 0.0;
         for (k, &(step, readings)) in steps.iter().enumerate() {
             match self.row(&job.site, &job.surface, step.hour, readings) {
                 Ok(row) => {
                     store(results, ROW * k, &row);
-                    sum += row[5] * row[2];
+                    sum += watt_hours(&row, step_hours);
                 }
                 Err(number) => return refused(number, k),
             }
