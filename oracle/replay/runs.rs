@@ -1,5 +1,5 @@
-//! Short runs, accepted and with every refusal, and some whose walk along 36 sectors ends at the first, a
-//! middle or the last of them.
+//! Short runs, accepted and with every refusal, some whose walk along 36 sectors ends at the first, a
+//! middle or the last of them, and some whose sums have something to tell of the step.
 
 use super::file::{File, Record};
 use crate::comparison::Settings;
@@ -148,6 +148,17 @@ fn walks(file: &mut File) {
     }
 }
 
+/// Runs about the sum, where it is a number of the usual size.
+fn sums(file: &mut File) {
+    let mut judge = Judge::new();
+    for job in edges::sums() {
+        match record(&mut judge, job) {
+            Some((record, answer)) if answer.sum.is_normal() => file.push(&record),
+            _ => {}
+        }
+    }
+}
+
 pub fn file(settings: &Settings) -> Result<File, String> {
     let mut random = settings.random("replayed runs");
     let mut file = File::default();
@@ -159,7 +170,9 @@ pub fn file(settings: &Settings) -> Result<File, String> {
     walks(&mut file);
     let mut maker = Maker::new(random);
     let any = (0..400_000).map(|_| maker.any_job());
-    match take(&mut file, "random", any).whole() {
+    let met = take(&mut file, "random", any);
+    sums(&mut file);
+    match met.whole() {
         true => Ok(file),
         false => Err(String::from("too few runs of some number")),
     }
