@@ -17,7 +17,6 @@ enum { OVERHANG, FIN, WINDOW_OBJECTS };
 static const double overhang_gap = 0.15;
 
 static const pilgartze_site site = {51.06, -1.31, 0, 0, 1.0, 0, 0};
-static const pilgartze_run_times year = {0.0, HOURS, 1.0};
 static const pilgartze_surface window = {90.0, 135.0, 0.9, 1.2, 1.8};
 
 /* ---- Weather -------------------------------------------------------------------------------------------------- */
@@ -88,28 +87,36 @@ static void make_street(pilgartze_sector *sectors)
 
 /* ---- Quotes --------------------------------------------------------------------------------------------------- */
 
-/* Runs the year; a job that is turned down ends the program. */
-static pilgartze_answer quote(const pilgartze_weather *weather, const pilgartze_shading *shading, pilgartze_row *rows)
+/* How much of the direct sun gets past the shade from one hour of the year to another, in Wh/m2. A job that is turned
+ * down ends the program. */
+static double quote(double start, double end, const pilgartze_weather *weather, const pilgartze_shading *shading)
 {
+    static pilgartze_row rows[HOURS]; /* room for each hour's sun, irradiance and factor, of which the sum is made */
+    const pilgartze_run_times hours = {start, end, 1.0};
     pilgartze_day_table days; /* the run works each day out once, in here */
-    const pilgartze_answer answer = pilgartze_run_job(&site, &year, &window, weather, shading, &days, rows, HOURS);
+    const pilgartze_answer answer = pilgartze_run_job(&site, &hours, &window, weather, shading, &days, rows, HOURS);
     if (answer.number != PILGARTZE_ACCEPTED) {
         fprintf(stderr, "turned down: %s (%u) at step %u\n", pilgartze_refusal_word(answer.number),
                 (unsigned)answer.number, (unsigned)answer.step);
         exit(EXIT_FAILURE);
     }
-    return answer;
+    return answer.sum;
 }
 
-static void print_line(const char *name, double direct, double shaded)
+/* All of the direct sun is what a window without any shade is quoted. The mean factor is that of the direct sun: shaded
+ * over unshaded. */
+static void print_line(const char *name, double start, double end, const pilgartze_weather *weather,
+                       const pilgartze_shading *shading)
 {
+    const pilgartze_sector sky = pilgartze_free_sector(0.0, 360.0);
+    const pilgartze_shading nothing = {&sky, 1, NULL, 0};
+    const double direct = quote(start, end, weather, &nothing);
+    const double shaded = quote(start, end, weather, shading);
     printf("%-10s %10.1f %10.1f %12.3f\n", name, direct / WH_PER_KWH, shaded / WH_PER_KWH,
            direct > 0.0 ? shaded / direct : 1.0);
 }
 
-/* Rows are in W/m2, so a month adds up each times the step in hours; the answer's sum, that of the year, is in Wh/m2 as
- * it is. The mean factor is that of the direct sun: shaded over unshaded. */
-static void print_months(const pilgartze_row *rows, pilgartze_answer answer)
+static void print_months(const pilgartze_weather *weather, const pilgartze_shading *shading)
 {
     static const struct {
         const char *name;
@@ -117,34 +124,27 @@ static void print_months(const pilgartze_row *rows, pilgartze_answer answer)
     } months[12] = {{"January", 31},   {"February", 28}, {"March", 31},    {"April", 30},
                     {"May", 31},       {"June", 30},     {"July", 31},     {"August", 31},
                     {"September", 30}, {"October", 31},  {"November", 30}, {"December", 31}};
-    double whole_year = 0.0;
-    int hour = 0;
+    int start = 0;
     int i;
     printf("%-10s %10s %10s %12s\n", "kWh/m2", "direct", "shaded", "mean factor");
     for (i = 0; i < 12; i++) {
-        const int end = hour + 24 * months[i].days;
-        double direct = 0.0;
-        double shaded = 0.0;
-        for (; hour < end; hour++) {
-            direct += rows[hour].direct * year.step;
-            shaded += rows[hour].factor * rows[hour].direct * year.step;
-        }
-        print_line(months[i].name, direct, shaded);
-        whole_year += direct;
+        const int end = start + 24 * months[i].days;
+        print_line(months[i].name, start, end, weather, shading);
+        start = end;
     }
-    print_line("Year", whole_year, answer.sum);
+    print_line("Year", 0, HOURS, weather, shading);
 }
 
 /* The overhang from 0.2 m to 2 m: a run of the year for each. */
 static void drag_overhang(const pilgartze_weather *weather, const pilgartze_shading *shading,
-                          pilgartze_window_object *overhang, pilgartze_row *rows)
+                          pilgartze_window_object *overhang)
 {
     int i;
     printf("%-10s %21s\n", "overhang", "shaded, kWh/m2");
     for (i = 1; i <= 10; i++) {
         const double depth = 0.2 * i;
         *overhang = pilgartze_overhang(depth, overhang_gap);
-        printf("%8.2f m %21.1f\n", depth, quote(weather, shading, rows).sum / WH_PER_KWH);
+        printf("%8.2f m %21.1f\n", depth, quote(0, HOURS, weather, shading) / WH_PER_KWH);
     }
 }
 
@@ -153,12 +153,10 @@ int main(void)
     static double diffuse[HOURS];
     static double direct[HOURS];
     static double reflectivity[HOURS];
-    static pilgartze_row rows[HOURS];
     pilgartze_sector sectors[SECTORS];
     pilgartze_window_object objects[WINDOW_OBJECTS];
     const pilgartze_weather weather = {diffuse, direct, reflectivity, HOURS};
     const pilgartze_shading shading = {sectors, SECTORS, objects, WINDOW_OBJECTS};
-    pilgartze_answer answer;
 
     make_weather(diffuse, direct, reflectivity);
     make_street(sectors);
@@ -169,9 +167,8 @@ int main(void)
            window.height);
     printf("a terrace across the street, an overhang of %.1f m, a fin of %.1f m on the left.\n\n",
            objects[OVERHANG].size, objects[FIN].size);
-    answer = quote(&weather, &shading, rows);
-    print_months(rows, answer);
+    print_months(&weather, &shading);
     printf("\n");
-    drag_overhang(&weather, &shading, &objects[OVERHANG], rows);
+    drag_overhang(&weather, &shading, &objects[OVERHANG]);
     return EXIT_SUCCESS;
 }
