@@ -19,7 +19,7 @@ use borrow.Author.Tests.{le-ltb, lt-ltb}
 use Rattle.doubles.specs.Arithmetic.{_⊕_, _⊖_, _⊗_, _⊘_, whole}
 use Rattle.doubles.specs.Order.{Finite, Fits, Zero, NonZero}
 use Rattle.doubles.proofs.Order.{positivePart, negativePart}
-use Rattle.doubles.proofs.Rounding.{Rounded, plus, minus, first-zero}
+use Rattle.doubles.proofs.Rounding.{Rounded, plus, minus, first-zero, product-comm}
 use lib.Ieee.Positive.{den}
 
 -- ---- a double of the format is the rounding of its own value
@@ -171,15 +171,7 @@ one-times {x} f = go x (f .holds)
 
 -- and so is a double times 1
 pub times-one : {x : Float} → Fits x → x ⊗ whole 1 ≡ x
-unfolding mul whole
-times-one {x} f = go x (f .holds)
-  where
-    go : (x : Float) → T (fits binary64 x) → x ⊗ whole 1 ≡ x
-    go nan f = refl
-    go (inf true) f = refl
-    go (inf false) f = refl
-    go (fin true m e) f = rw (mul-one (m * up e), mul-one (down e)) (round-own true m e f)
-    go (fin false m e) f = rw (mul-one (m * up e), mul-one (down e)) (round-own false m e f)
+times-one {x} f = product-comm x (whole 1) ∙ one-times f
 
 -- ---- a quotient of equals
 

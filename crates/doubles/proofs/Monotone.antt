@@ -15,7 +15,7 @@ use lib.Ieee.Scale.{finite}
 use Rattle.doubles.specs.Arithmetic.{_⊕_, _⊖_, _⊗_, _⊘_, whole}
 use Rattle.doubles.specs.Order.{_≼_, _≺_, Number}
 use Rattle.doubles.proofs.Order.{eq→eqb, positivePart, negativePart, leftSide, rightSide, le→cross, le-refl, le-trans, bottom, top, neg-le, right-number}
-use Rattle.doubles.proofs.Rounding.{first-zero, rounded-mono, add-rounds, mul-rounds, div-rounds}
+use Rattle.doubles.proofs.Rounding.{first-zero, rounded-mono, add-rounds, mul-rounds, product-comm, div-rounds}
 
 -- a finite double, as the laws below name its parts
 module _ (x y : Float) (f : T (finite x)) (g : T (finite y)) where
@@ -139,17 +139,8 @@ inf-times (fin true m e) h n = go (eqb m 0) (eq→eqb m 0 (first-zero m (up e) (
     go true s t = absurd t
     go false s t = absurd s
 
--- the same, whichever side the infinity stands on
-inf-commutes : (x : Float) → x ⊗ inf false ≡ inf false ⊗ x
-unfolding mul
-inf-commutes nan = refl
-inf-commutes (inf false) = refl
-inf-commutes (inf true) = refl
-inf-commutes (fin false m e) = refl
-inf-commutes (fin true m e) = refl
-
 times-inf : (x : Float) → whole 0 ≼ x → Number (x ⊗ inf false) → x ⊗ inf false ≡ inf false
-times-inf x h n = inf-commutes x ∙ inf-times x h (rw (← inf-commutes x) n)
+times-inf x h n = product-comm x (inf false) ∙ inf-times x h (rw (← product-comm x (inf false)) n)
 
 mul-all : (x x′ y y′ : Float) → whole 0 ≼ x → whole 0 ≼ y → x ≼ x′ → y ≼ y′ → Number (x ⊗ y) → Number (x′ ⊗ y′) → x ⊗ y ≼ x′ ⊗ y′
 unfolding le whole isNan

@@ -5,11 +5,11 @@ use mathlib.Core.Path.{_≡_, refl, sym, ap, _∙_, subst}
 use mathlib.Core.Logic.{inl, inr}
 use mathlib.Core.Bool.{Bool, true, false, not, cond}
 use Prim.Native.Nat.{ℕ, zero, suc, _+_, _-_, _*_, _/_, _%_, _^_, _≤_, _<_, compare}
-use native.Mathlib.Nat.{mul-pos, lt-irrefl, eq-zero-or-pos}
+use native.Mathlib.Nat.{mul-pos, mul-comm, lt-irrefl, eq-zero-or-pos}
 use native.Mathlib.Omega.{arith}
 use lib.Dec.{T, ltb, eqb, ltb→lt, nltb→le, eqb→eq, lit<}
 use lib.IntN.{pos}
-use lib.Ieee.{Float, nan, inf, fin, binary64, up, down, odd, units, size, nearest, round, sum, add, mul, div, neg, le}
+use lib.Ieee.{Float, nan, inf, fin, binary64, unlike, up, down, odd, units, size, nearest, round, sum, add, mul, div, neg, le}
 use lib.Ieee.Fits.{round-is}
 use lib.Ieee.Order.{round-mono}
 use lib.Ieee.Positive.{den, positive}
@@ -131,6 +131,25 @@ mul-rounds (fin false m e) (fin false n d) f g = plus (m * up e * (n * up d)) (o
 mul-rounds (fin true m e) (fin true n d) f g = plus (m * up e * (n * up d)) (omega arith) refl
 mul-rounds (fin false m e) (fin true n d) f g = minus (m * up e * (n * up d)) (omega arith) refl
 mul-rounds (fin true m e) (fin false n d) f g = minus (m * up e * (n * up d)) (omega arith) refl
+
+unlike-comm : (s t : Bool) → unlike s t ≡ unlike t s
+unlike-comm false false = refl
+unlike-comm false true = refl
+unlike-comm true false = refl
+unlike-comm true true = refl
+
+-- a product is the same whichever factor stands first
+pub product-comm : (x y : Float) → x ⊗ y ≡ y ⊗ x
+unfolding mul
+product-comm nan nan = refl
+product-comm nan (inf t) = refl
+product-comm nan (fin t n d) = refl
+product-comm (inf s) nan = refl
+product-comm (inf s) (inf t) = ap inf (unlike-comm s t)
+product-comm (inf s) (fin t n d) = ap (λ (u : Bool). cond (eqb n 0) nan (inf u)) (unlike-comm s t)
+product-comm (fin s m e) nan = refl
+product-comm (fin s m e) (inf t) = ap (λ (u : Bool). cond (eqb m 0) nan (inf u)) (unlike-comm s t)
+product-comm (fin s m e) (fin t n d) = rw (unlike-comm s t, mul-comm (m * up e) (n * up d), mul-comm (down e) (down d)) refl
 
 -- by a divisor that is finite and above zero
 pub div-rounds : (x y : Float) → T (finite x) → T (positive y) → Rounded (x ⊘ y) (positivePart x * den y) (negativePart x * den y) (positivePart y * den x)

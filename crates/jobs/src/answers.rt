@@ -23,7 +23,8 @@ pub enum Checked {
     Refused(Refusal),
 }
 
-// What a run answers: its step count and the sum of factor times direct, or why and at which step it was turned down.
+// What a run answers: its step count and the sum of factor times direct times step, in Wh/m², or why and at which step it was turned
+// down.
 pub enum RunAnswer {
     Accepted { count: u64, sum: f64 },
     Refused { refusal: Refusal, step: u64 },

@@ -17,7 +17,7 @@ use simulation_time::run::Run;
 use sun::site::Site;
 use weather::Reading;
 
-// What a run answers: the refusal's number, or 0, and its step; the step count and the sum, both 0 on a refusal.
+// What a run answers: the refusal's number, or 0, and its step; the step count and the sum in Wh/m², both 0 on a refusal.
 #[repr(C)]
 pub struct Answer {
     pub number: u64,
