@@ -1,6 +1,6 @@
 -- Which fraction each operation rounds. `Rounded z p n c` says that z is (p − n) / c rounded to a double.
 -- One lemma for each operation on finite doubles says so of its result, and one law says that roundings are in the order of
--- their fractions: what an operation's order needs more is an inequality of natural numbers. Assumes nothing.
+-- their fractions: what an operation's order needs more is an inequality of natural numbers. Products commute. Assumes nothing.
 use mathlib.Core.Path.{_≡_, refl, sym, ap, _∙_, subst}
 use mathlib.Core.Logic.{inl, inr}
 use mathlib.Core.Bool.{Bool, true, false, not, cond}
