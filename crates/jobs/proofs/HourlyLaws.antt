@@ -15,7 +15,8 @@ use Rattle.jobs.specs.declared.answers.Checked.the-variants as check
 use Rattle.jobs.specs.Job.{Job}
 use Rattle.jobs.specs.JobChecks.{checked}
 use Rattle.jobs.specs.Step.{stepAt}
-use Rattle.jobs.specs.Run.{Ran, putRow, withRow, onRow, runFrom, runChecked, roomFine, runOf, numberFor, stepFor, countFor}
+use Rattle.jobs.specs.Rows.{putRow, withRow}
+use Rattle.jobs.specs.Run.{Ran, onRow, runFrom, runChecked, roomFor, runOf, numberFor, stepFor, countFor}
 use Rattle.jobs.specs.Hourly.{withProduct, productsFrom, productsChecked, productsRun, AllButSum, HourlyRuns}
 
 -- ---- a step of one hour
@@ -75,6 +76,6 @@ module _ (job : Job) where
 pub hourly-runs : HourlyRuns
 unfolding runOf productsRun
 hourly-runs job lists = record {
-  same-run = λ hour. same-checked job hour (checked job (roomFine (job .run) lists)) (lists .results);
-  all-but-sum = but-sum-checked job (checked job (roomFine (job .run) lists)) (lists .results);
+  same-run = λ hour. same-checked job hour (checked job (roomFor job lists)) (lists .results);
+  all-but-sum = but-sum-checked job (checked job (roomFor job lists)) (lists .results);
 }

@@ -16,7 +16,7 @@ use Rattle.doubles.specs.Ranges.{within}
 use Rattle.doubles.proofs.Ranges.{both-of, within-range}
 use Rattle.words.specs.Words.{wordCount}
 use Rattle.sun.specs.declared.site.Site.{Site}
-use Rattle.sun.specs.Site.{siteFine, hoursInYear}
+use Rattle.sun.specs.Site.{siteFine, leapYear, hoursInYear}
 use Rattle.simulation_time.specs.declared.run.Run.{Run}
 use Rattle.simulation_time.specs.Steps.{runFine, stepCount, timeAt, times, atAll}
 use Rattle.simulation_time.specs.Timestep.{currentHour}
@@ -36,8 +36,9 @@ use Rattle.weather.specs.Weather.{readingFine}
 use Rattle.jobs.specs.declared.answers.Checked.{Checked}
 use Rattle.jobs.specs.declared.answers.Checked.the-variants.{Steps, Refused}
 use Rattle.jobs.specs.Job.{Job, indexAt, readingAt}
-use Rattle.jobs.specs.JobChecks.{indicesFine, readingsFine, daysFine, resultsFine, tried, checked}
-use Rattle.jobs.specs.Run.{Lent, roomFine}
+use Rattle.jobs.specs.JobChecks.{indicesFine, readingsFine, daysFine, totalsFine, resultsFine, tried, checked}
+use Rattle.jobs.specs.Totals.{totalsCount}
+use Rattle.jobs.specs.Run.{Lent, roomFine, roomFor}
 use Rattle.jobs.specs.Comparison.{Doubles}
 
 -- ---- the tests, one by one
@@ -122,18 +123,31 @@ accepted-reading r t =
       reflectivity = within-range (whole 0) (whole 1) (r .reflectivity) (p .1);
     }
 
-module _ (job : Job) (lists : Lent) (p : Passed job (roomFine (job .run) lists)) where
+module _ (job : Job) (lists : Lent) (p : Passed job (roomFor job lists)) where
+  abbrev totals : Bool
+  totals = totalsFine (leapYear (job .site)) (lists .totals)
+
+  abbrev results : Bool
+  results = resultsFine (job .run) (lists .results)
+
   -- there is room for the table of days
   pub days-fit : 8784 ≤ length (lists .days)
   unfolding roomFine daysFine
-  days-fit = leb-true 8784 (length (lists .days)) (is-true _ (and-l (daysFine (lists .days)) (resultsFine (job .run) (lists .results)) (p .room-fine)))
+  days-fit = leb-true 8784 (length (lists .days)) (is-true _ (and-l (daysFine (lists .days)) (totals && results) (p .room-fine)))
+
+  -- for the totals of the year
+  pub totals-fit : 24 * totalsCount (leapYear (job .site)) ≤ length (lists .totals)
+  unfolding roomFine totalsFine
+  totals-fit =
+      leb-true (24 * totalsCount (leapYear (job .site))) (length (lists .totals))
+      (is-true _ (and-l totals results (and-r (daysFine (lists .days)) (totals && results) (p .room-fine))))
 
   -- and for every row
   pub rows-fit : 6 * stepCount (job .run) ≤ wordCount (lists .results)
   unfolding roomFine resultsFine
   rows-fit =
       leb-true (6 * stepCount (job .run)) (wordCount (lists .results))
-      (is-true _ (and-r (daysFine (lists .days)) (resultsFine (job .run) (lists .results)) (p .room-fine)))
+      (is-true _ (and-r totals results (and-r (daysFine (lists .days)) (totals && results) (p .room-fine))))
 
 pub year-length : (site : Site) → hoursInYear site ≤ 8784
 unfolding hoursInYear

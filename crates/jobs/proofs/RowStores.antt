@@ -10,7 +10,7 @@ use Rattle.doubles.specs.Order.{Fits}
 use Rattle.words.specs.Words.{wordCount, doubleAt}
 use Rattle.words.proofs.DoubleStores.{putDoubles, AllFit, length-putDoubles, wordCount-putDoubles, byte-putDoubles, double-putDoubles, stored-doubles}
 use Rattle.jobs.specs.declared.answers.Row.{Row}
-use Rattle.jobs.specs.Run.{putRow}
+use Rattle.jobs.specs.Rows.{putRow}
 
 -- a row of doubles, as every row is that a step gives
 pub record RowFits (row : Row) : Type 0 where

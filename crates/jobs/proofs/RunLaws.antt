@@ -25,7 +25,8 @@ use Rattle.jobs.specs.declared.answers.RunAnswer.the-variants.{Accepted,
 use Rattle.jobs.specs.Job.{Job}
 use Rattle.jobs.specs.JobChecks.{checked}
 use Rattle.jobs.specs.Step.{stepAt}
-use Rattle.jobs.specs.Run.{Ran, ran, putRow, withRow, onRow, runFrom, runChecked, Lent, roomFine, runOf, numberFor}
+use Rattle.jobs.specs.Rows.{putRow, withRow}
+use Rattle.jobs.specs.Run.{Ran, ran, onRow, runFrom, runChecked, Lent, roomFor, rowsStored, runOf, numberFor}
 use Rattle.jobs.proofs.RowStores.{Holding, length-putRow, wordCount-putRow, byte-putRow, stored-row, kept-row}
 use Rattle.jobs.proofs.StepRows.{rowOf, step-row, row-fits}
 use Rattle.jobs.proofs.PassedChecks.{Passed, passed, rows-fit}
@@ -104,26 +105,21 @@ module _ (job : Job) (results : List ℕ) where
 
 -- any run: turned down by the checks, or where its steps have brought it
 pub data Finished (job : Job) (lists : Lent) : Ran → Type 0 where
-  turned-down : (r : Refusal) → checked job (roomFine (job .run) lists) ≡ check.Refused r → Finished job lists (ran (Refused r 0) (lists .results))
-  stepped : {run : Ran} → Passed job (roomFine (job .run) lists) → Outcome job (lists .results) (stepCount (job .run)) run → Finished job lists run
+  turned-down : (r : Refusal) → checked job (roomFor job lists) ≡ check.Refused r → Finished job lists (ran (Refused r 0) (lists .results))
+  stepped : {run : Ran} → Passed job (roomFor job lists) → Outcome job (lists .results) (stepCount (job .run)) run → Finished job lists run
 
 pub finished : (job : Job) (lists : Lent) → Finished job lists (runOf job lists .ran)
 unfolding runOf
-finished job lists = go (checked job (roomFine (job .run) lists)) refl
+finished job lists = go (checked job (roomFor job lists)) refl
   where
-    go : (c : Checked) → checked job (roomFine (job .run) lists) ≡ c → Finished job lists (runChecked c job (lists .results))
+    go : (c : Checked) → checked job (roomFor job lists) ≡ c → Finished job lists (runChecked c job (lists .results))
     go (check.Refused r) e = unfold runChecked in turned-down r e
     go (check.Steps n) e = unfold runChecked in
-        let p = passed job (roomFine (job .run) lists) n e in
+        let p = passed job (roomFor job lists) n e in
         let results = lists .results in
         stepped (p .0) (subst (λ (m : ℕ). Outcome job results m (runFrom n job 0 (job .run .start) (whole 0) results)) (p .1) (from-start job results n))
 
 -- ---- what a run leaves of the results list
-
--- how many rows it has stored
-unfoldable pub filled : RunAnswer → ℕ
-filled (Accepted count sum) = count
-filled (Refused r i) = i
 
 module _ (job : Job) (results : List ℕ) where
   pub length-withRows : (n : ℕ) → length (withRows job n results) ≡ length results
@@ -157,24 +153,24 @@ module _ (job : Job) (results : List ℕ) where
       ]
 
 module _ (job : Job) (lists : Lent) where
-  pub rows-stored : runOf job lists .ran .results ≡ withRows job (filled (runOf job lists .ran .answer)) (lists .results)
+  pub rows-stored : runOf job lists .ran .results ≡ withRows job (rowsStored (runOf job lists .ran .answer)) (lists .results)
   rows-stored = go (finished job lists)
     where
-      by-outcome : {n : ℕ} {run : Ran} → Outcome job (lists .results) n run → run .results ≡ withRows job (filled (run .answer)) (lists .results)
-      by-outcome (all-rows h) = unfold filled in refl
-      by-outcome (cut-short k r l h e) = unfold filled in refl
+      by-outcome : {n : ℕ} {run : Ran} → Outcome job (lists .results) n run → run .results ≡ withRows job (rowsStored (run .answer)) (lists .results)
+      by-outcome (all-rows h) = unfold rowsStored in refl
+      by-outcome (cut-short k r l h e) = unfold rowsStored in refl
 
-      go : {run : Ran} → Finished job lists run → run .results ≡ withRows job (filled (run .answer)) (lists .results)
-      go (turned-down r e) = unfold filled withRows in refl
+      go : {run : Ran} → Finished job lists run → run .results ≡ withRows job (rowsStored (run .answer)) (lists .results)
+      go (turned-down r e) = unfold rowsStored withRows in refl
       go (stepped p o) = by-outcome o
 
   -- the list is as long as it was
   pub run-length : length (runOf job lists .ran .results) ≡ length (lists .results)
-  run-length = ap length rows-stored ∙ length-withRows job (lists .results) (filled (runOf job lists .ran .answer))
+  run-length = ap length rows-stored ∙ length-withRows job (lists .results) (rowsStored (runOf job lists .ran .answer))
 
   -- bytes past the rows that are stored stay as they were: those of a refused step and of later ones, and all past the last step
-  pub run-untouched : (b : ℕ) → 48 * filled (runOf job lists .ran .answer) ≤ b → getD (runOf job lists .ran .results) b 0 ≡ getD (lists .results) b 0
-  run-untouched b h = ap (λ (l : List ℕ). getD l b 0) rows-stored ∙ byte-withRows job (lists .results) (filled (runOf job lists .ran .answer)) b h
+  pub run-untouched : (b : ℕ) → 48 * rowsStored (runOf job lists .ran .answer) ≤ b → getD (runOf job lists .ran .results) b 0 ≡ getD (lists .results) b 0
+  run-untouched b h = ap (λ (l : List ℕ). getD l b 0) rows-stored ∙ byte-withRows job (lists .results) (rowsStored (runOf job lists .ran .answer)) b h
 
 -- a row that is stored
 pub record Stored (job : Job) (results : List ℕ) (i : ℕ) : Type 0 where
@@ -182,7 +178,7 @@ pub record Stored (job : Job) (results : List ℕ) (i : ℕ) : Type 0 where
   pub held : Holding results i (rowAt job i)
 
 -- every row before the place where it ends is its step's, also where a later step is refused
-pub run-rows : (job : Job) (lists : Lent) (i : ℕ) → i < filled (runOf job lists .ran .answer) → Stored job (runOf job lists .ran .results) i
+pub run-rows : (job : Job) (lists : Lent) (i : ℕ) → i < rowsStored (runOf job lists .ran .answer) → Stored job (runOf job lists .ran .results) i
 run-rows job lists i l = go (finished job lists) l
   where
     results : List ℕ
@@ -191,12 +187,12 @@ run-rows job lists i l = go (finished job lists) l
     stored : (n : ℕ) → 6 * n ≤ wordCount results → ((j : ℕ) → j < n → HasRow job j) → i < n → Stored job (withRows job n results) i
     stored n w h l = record { has-row = h i l; held = rows-held job results n i w h l }
 
-    by-outcome : {run : Ran} → Passed job (roomFine (job .run) lists) → Outcome job results (stepCount (job .run)) run → i < filled (run .answer) → Stored job (run .results) i
-    by-outcome p (all-rows h) l = unfold filled in stored (stepCount (job .run)) (rows-fit job lists p) h l
-    by-outcome p (cut-short k r m h e) l = unfold filled in let w = rows-fit job lists p in stored k (omega arith) h l
+    by-outcome : {run : Ran} → Passed job (roomFor job lists) → Outcome job results (stepCount (job .run)) run → i < rowsStored (run .answer) → Stored job (run .results) i
+    by-outcome p (all-rows h) l = unfold rowsStored in stored (stepCount (job .run)) (rows-fit job lists p) h l
+    by-outcome p (cut-short k r m h e) l = unfold rowsStored in let w = rows-fit job lists p in stored k (omega arith) h l
 
-    go : {run : Ran} → Finished job lists run → i < filled (run .answer) → Stored job (run .results) i
-    go (turned-down r e) l = unfold filled in absurd (omega arith)
+    go : {run : Ran} → Finished job lists run → i < rowsStored (run .answer) → Stored job (run .results) i
+    go (turned-down r e) l = unfold rowsStored in absurd (omega arith)
     go (stepped p o) l = by-outcome p o l
 
 -- ---- an accepted run
@@ -221,7 +217,7 @@ unfoldable pub done : Job → List ℕ → Ran
 done job results = let n = stepCount (job .run) in ran (Accepted n (sumTo job n)) (withRows job n results)
 
 pub record AcceptedRun (job : Job) (lists : Lent) : Type 0 where
-  pub checks : Passed job (roomFine (job .run) lists)
+  pub checks : Passed job (roomFor job lists)
   pub has-rows : (i : ℕ) → i < stepCount (job .run) → HasRow job i
   pub comes-to : runOf job lists .ran ≡ done job (lists .results)
 
@@ -231,7 +227,7 @@ accepted-run job lists e = go refl (finished job lists) e
     refused : (r : Refusal) (i : ℕ) → numberFor (Refused r i) ≡ 0 → ⊥
     refused r i e = unfold numberFor in let h = number-above r in omega arith
 
-    by-outcome : {run : Ran} → runOf job lists .ran ≡ run → Passed job (roomFine (job .run) lists) → Outcome job (lists .results) (stepCount (job .run)) run → numberFor (run .answer) ≡ 0
+    by-outcome : {run : Ran} → runOf job lists .ran ≡ run → Passed job (roomFor job lists) → Outcome job (lists .results) (stepCount (job .run)) run → numberFor (run .answer) ≡ 0
         → AcceptedRun job lists
     by-outcome k p (all-rows h) e = record { checks = p; has-rows = h; comes-to = unfold done in k }
     by-outcome k p (cut-short i r l h s) e = absurd (refused r i e)

@@ -24,7 +24,8 @@ use Rattle.shading_laws.proofs.Answers.{answer-nonneg, answer-le-one, answer-no
 use Rattle.weather.specs.Weather.{readSeries}
 use Rattle.jobs.specs.Job.{Job, indexAt, readingAt}
 use Rattle.jobs.specs.Step.{sunAt, irradianceAt, shadingAt}
-use Rattle.jobs.specs.Run.{Ran, Lent, withRow, countFor, sumFor}
+use Rattle.jobs.specs.Rows.{withRow}
+use Rattle.jobs.specs.Run.{Ran, Lent, countFor, sumFor}
 use Rattle.jobs.specs.Comparison.{factorAt, directAt, countOf, sumOf, unshadedSum, SameSeries, Alike, BoundedAlike, HoldsAll, SameObjects, NoObjects, NoNan, Doubles, Lawful, NoLarger, Compared, TwoJobsCompared}
 use Rattle.jobs.proofs.StepRows.{StepRow, step-row, row-fits}
 use Rattle.jobs.proofs.PassedChecks.{step-accepted, surface-accepted, near-accepted}

@@ -1,5 +1,5 @@
 -- Days worked out once: the claim, proved. Assumes nothing.
-use mathlib.Core.Path.{_≡_, refl, sym, ap, _∙_, subst}
+use mathlib.Core.Path.{_≡_, refl, sym, ap, ap₂, _∙_, subst}
 use mathlib.Core.Bool.{Bool, _&&_}
 use mathlib.Core.List.{List}
 use Prim.Native.Nat.{ℕ, zero, suc, _+_, _/_, _≤_, _<_}
@@ -13,6 +13,7 @@ use Rattle.doubles.specs.Arithmetic.{_⊕_, whole}
 use Rattle.days.specs.Day.{dayOf}
 use Rattle.days.specs.Table.{dayAt, withDayTable}
 use Rattle.days.proofs.TableLaws.{table-read, length-with-table, byte-behind}
+use Rattle.sun.specs.Site.{leapYear}
 use Rattle.sun.proofs.HourParts.{hour-by-parts}
 use Rattle.simulation_time.specs.Steps.{stepCount, timeAt}
 use Rattle.simulation_time.specs.Timestep.{currentHour}
@@ -22,10 +23,12 @@ use Rattle.jobs.specs.declared.answers.StepAnswer.{StepAnswer}
 use Rattle.jobs.specs.declared.answers.Checked.{Checked}
 use Rattle.jobs.specs.declared.answers.Checked.the-variants.{Steps, Refused}
 use Rattle.jobs.specs.Job.{Job}
-use Rattle.jobs.specs.JobChecks.{daysFine, resultsFine, checked}
+use Rattle.jobs.specs.JobChecks.{daysFine, totalsFine, resultsFine, checked}
 use Rattle.jobs.specs.Step.{sunAt, irradianceAt, stepWith, stepAt}
-use Rattle.jobs.specs.Run.{Ran, putRow, withRow, onRow, runFrom, runChecked, Lent, roomFine, daysLeft, runOf, plainRun}
-use Rattle.jobs.specs.WithTable.{sunByDay, stepByTable, runByTable, dayOfStep, DaysWorkedOutOnce}
+use Rattle.jobs.specs.Rows.{putRow, withRow}
+use Rattle.jobs.specs.Totals.{dayOfStep}
+use Rattle.jobs.specs.Run.{Ran, onRow, runFrom, runChecked, Lent, roomFine, roomFor, daysLeft, runOf, plainRun}
+use Rattle.jobs.specs.WithTable.{sunByDay, stepByTable, runByTable, DaysWorkedOutOnce}
 use Rattle.jobs.proofs.PassedChecks.{Passed, passed, days-fit, hour-below, day-in-year}
 
 -- a step whose hour reads its day from a list that holds it
@@ -49,50 +52,53 @@ runs-alike days job (suc n) i sum results h =
     ap (λ (a : StepAnswer). onRow a i results next) (h i (omega arith)) ∙ ap (onRow (stepAt job time) i results) (λ x (row : Row). on row x)
 
 module _ (job : Job) (lists : Lent) where
-  pub same-without : T (daysFine (lists .days)) → runOf job lists .ran ≡ plainRun job (lists .results)
+  pub same-without : T (daysFine (lists .days)) → T (totalsFine (leapYear (job .site)) (lists .totals)) → runOf job lists .ran ≡ plainRun job (lists .results)
   unfolding runOf plainRun roomFine
-  same-without t = ap (λ (room : Bool). runChecked (checked job (room && resultsFine (job .run) (lists .results))) job (lists .results)) (is-true (daysFine (lists .days)) t)
+  same-without d t =
+      let room : Bool → Bool → Bool = λ (days totals : Bool). days && (totals && resultsFine (job .run) (lists .results)) in
+      ap₂ (λ (days totals : Bool). runChecked (checked job (room days totals)) job (lists .results))
+      (is-true (daysFine (lists .days)) d) (is-true (totalsFine (leapYear (job .site)) (lists .totals)) t)
 
   -- the list that a run leaves whose checks have passed
-  pub days-filled : (n : ℕ) → checked job (roomFine (job .run) lists) ≡ Steps n → runOf job lists .days ≡ withDayTable (lists .days)
+  pub days-filled : (n : ℕ) → checked job (roomFor job lists) ≡ Steps n → runOf job lists .days ≡ withDayTable (lists .days)
   unfolding runOf daysLeft
   days-filled n e = ap (λ (checks : Checked). daysLeft checks (lists .days)) e
 
   -- the record of a step's day
-  days-read : (n : ℕ) → checked job (roomFine (job .run) lists) ≡ Steps n → Passed job (roomFine (job .run) lists) → (i : ℕ) → i < stepCount (job .run)
-      → dayAt (runOf job lists .days) (dayOfStep job i) ≡ dayOf (dayOfStep job i + 1)
+  days-read : (n : ℕ) → checked job (roomFor job lists) ≡ Steps n → Passed job (roomFor job lists) → (i : ℕ) → i < stepCount (job .run)
+      → dayAt (runOf job lists .days) (dayOfStep (job .run) i) ≡ dayOf (dayOfStep (job .run) i + 1)
   days-read n e p i h =
-      ap (λ (days : List ℕ). dayAt days (dayOfStep job i)) (days-filled n e)
-      ∙ table-read (lists .days) (days-fit job lists p) .day (dayOfStep job i) (omega (arith, hour-below p i h))
+      ap (λ (days : List ℕ). dayAt days (dayOfStep (job .run) i)) (days-filled n e)
+      ∙ table-read (lists .days) (days-fit job lists p) .day (dayOfStep (job .run) i) (omega (arith, hour-below p i h))
 
   -- the run whose hours read the list that it leaves
-  runs-the-same : (n : ℕ) → checked job (roomFine (job .run) lists) ≡ Steps n
+  runs-the-same : (n : ℕ) → checked job (roomFor job lists) ≡ Steps n
       → runByTable n (runOf job lists .days) job 0 (job .run .start) (whole 0) (lists .results) ≡ runOf job lists .ran
   unfolding runOf runChecked timeAt
   runs-the-same n e =
-      let p = passed job (roomFine (job .run) lists) n e in
+      let p = passed job (roomFor job lists) n e in
       let same : (k : ℕ) → k < 0 + n → stepByTable (runOf job lists .days) job (timeAt (job .run) k) ≡ stepAt job (timeAt (job .run) k) =
       λ k l. step-by-table (runOf job lists .days) job (timeAt (job .run) k) (days-read n e (p .0) k (omega (arith, l, p .1))) in
       runs-alike (runOf job lists .days) job n 0 (whole 0) (lists .results) same
       ∙ sym (ap (λ (checks : Checked). runChecked checks job (lists .results)) e)
 
-  days-untouched : (r : Refusal) → checked job (roomFine (job .run) lists) ≡ Refused r → runOf job lists .days ≡ lists .days
+  days-untouched : (r : Refusal) → checked job (roomFor job lists) ≡ Refused r → runOf job lists .days ≡ lists .days
   unfolding runOf daysLeft
   days-untouched r e = ap (λ (checks : Checked). daysLeft checks (lists .days)) e
 
   -- filled or not: what holds of the list as it was, and of it with the table, holds of the list that is left
   of-either : (P : List ℕ → Type 0) → P (lists .days) → (8784 ≤ length (lists .days) → P (withDayTable (lists .days))) → P (runOf job lists .days)
-  of-either P old new = go (checked job (roomFine (job .run) lists)) refl
+  of-either P old new = go (checked job (roomFor job lists)) refl
     where
-      go : (c : Checked) → checked job (roomFine (job .run) lists) ≡ c → P (runOf job lists .days)
-      go (Steps n) e = subst P (sym (days-filled n e)) (new (days-fit job lists (passed job (roomFine (job .run) lists) n e .0)))
+      go : (c : Checked) → checked job (roomFor job lists) ≡ c → P (runOf job lists .days)
+      go (Steps n) e = subst P (sym (days-filled n e)) (new (days-fit job lists (passed job (roomFor job lists) n e .0)))
       go (Refused r) e = subst P (sym (days-untouched r e)) old
 
 pub days-worked-out-once : DaysWorkedOutOnce
 days-worked-out-once job lists = record {
   same-results = same-without job lists;
   table-filled = λ n e.
-      let p = passed job (roomFine (job .run) lists) n e in
+      let p = passed job (roomFor job lists) n e in
       record {
         filled = days-filled job lists n e;
         day-in-year = λ i h. day-in-year (p .0) i (subst (λ (m : ℕ). i < m) (p .1) h);

@@ -12,7 +12,8 @@ use Rattle.jobs.specs.declared.answers.RunAnswer.the-variants.{Accepted,
 use Rattle.jobs.specs.Job.{Job}
 use Rattle.jobs.specs.JobChecks.{checked}
 use Rattle.jobs.specs.Step.{stepAt}
-use Rattle.jobs.specs.Run.{Ran, ran, putRow, onRow, Lent, roomFine, runOf, numberFor, stepFor, countFor}
+use Rattle.jobs.specs.Rows.{putRow}
+use Rattle.jobs.specs.Run.{Ran, ran, onRow, Lent, roomFor, runOf, numberFor, stepFor, countFor}
 
 -- ---- the run whose sum leaves the step out
 
@@ -31,7 +32,7 @@ productsChecked (check.Steps n) job results = productsFrom n job 0 (job .run .st
 productsChecked (check.Refused refusal) job results = ran (Refused refusal 0) results
 
 unfoldable pub productsRun : Job → Lent → Ran
-productsRun job lists = productsChecked (checked job (roomFine (job .run) lists)) job (lists .results)
+productsRun job lists = productsChecked (checked job (roomFor job lists)) job (lists .results)
 
 -- ---- the claim
 

@@ -19,6 +19,7 @@ use Rattle.object_checks.specs.Checks.{sectorsFine, windowFine}
 use Rattle.jobs.specs.declared.answers.Checked.{Checked}
 use Rattle.jobs.specs.declared.answers.Checked.the-variants.{Steps, Refused}
 use Rattle.jobs.specs.Job.{Job}
+use Rattle.jobs.specs.Totals.{totalsCount}
 
 -- the refusal where a test fails, else what comes next
 unfoldable pub tried : {Answer : Type 0} → (Refusal → Answer) → Bool → Refusal → Answer → Answer
@@ -38,6 +39,10 @@ readingsFine day step diffuse direct reflectivity =
 -- room for the table of days, also where there are no steps
 unfoldable pub daysFine : List ℕ → Bool
 daysFine days = leb 8784 (length days)
+
+-- room for the totals of the year, 9,048 bytes or in a leap year 9,072, also where there are no steps
+unfoldable pub totalsFine : Bool → List ℕ → Bool
+totalsFine leap totals = leb (24 * totalsCount leap) (length totals)
 
 -- room for the rows: six whole words for each step; a part word counts for nothing
 unfoldable pub resultsFine : Run → List ℕ → Bool

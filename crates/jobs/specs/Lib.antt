@@ -4,6 +4,8 @@
 pub mod Job
 pub mod JobChecks
 pub mod Step
+pub mod Rows
+pub mod Totals
 pub mod Numbers
 pub mod Run
 pub mod WithTable

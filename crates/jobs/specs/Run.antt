@@ -1,10 +1,10 @@
 -- The run: the checks, then step by step.
 use mathlib.Core.Bool.{Bool, _&&_}
 use mathlib.Core.List.{List}
-use Prim.Native.Nat.{ℕ, zero, suc, _+_, _*_}
+use Prim.Native.Nat.{ℕ, zero, suc, _+_}
 use lib.Ieee.{Float}
-use Rattle.doubles.specs.Arithmetic.{_⊕_, _⊗_, whole}
-use Rattle.words.specs.Words.{putDouble}
+use Rattle.doubles.specs.Arithmetic.{_⊕_, whole}
+use Rattle.sun.specs.Site.{leapYear}
 use Rattle.days.specs.Table.{withDayTable}
 use Rattle.simulation_time.specs.declared.run.Run.{Run}
 use Rattle.objects.specs.Refusals.{numberOf}
@@ -16,8 +16,10 @@ use Rattle.jobs.specs.declared.answers.Checked.the-variants as check
 use Rattle.jobs.specs.declared.answers.RunAnswer.{RunAnswer}
 use Rattle.jobs.specs.declared.answers.RunAnswer.the-variants.{Accepted, Refused}
 use Rattle.jobs.specs.Job.{Job}
-use Rattle.jobs.specs.JobChecks.{daysFine, resultsFine, checked}
+use Rattle.jobs.specs.JobChecks.{daysFine, totalsFine, resultsFine, checked}
 use Rattle.jobs.specs.Step.{stepAt}
+use Rattle.jobs.specs.Rows.{putRow, withRow}
+use Rattle.jobs.specs.Totals.{withTotals}
 
 -- ---- the answer in the specification's numbers
 
@@ -49,21 +51,6 @@ pub record Ran : Type 0 where
 abbrev pub ran : RunAnswer → List ℕ → Ran
 ran answer results = record { answer = answer; results = results }
 
--- the i-th row is six doubles, from word 6·i on
-unfoldable pub putRow : List ℕ → ℕ → Row → List ℕ
-putRow results i row =
-    let k = 6 * i in
-    let altitude = putDouble results k (row .altitude) in
-    let azimuth = putDouble altitude (k + 1) (row .azimuth) in
-    let direct = putDouble azimuth (k + 2) (row .direct) in
-    let diffuse = putDouble direct (k + 3) (row .diffuse) in
-    let total = putDouble diffuse (k + 4) (row .total) in
-    putDouble total (k + 5) (row .factor)
-
--- the sum with a row's factor times direct times step in hours, in this order: watt-hours per square metre
-unfoldable pub withRow : Float → Float → Row → Float
-withRow step sum row = sum ⊕ (row .factor ⊗ row .direct) ⊗ step
-
 -- a refused step ends the run with its number and its place; its row and later places stay as they were
 unfoldable pub onRow : StepAnswer → ℕ → List ℕ → (Row → Ran) → Ran
 onRow (step.Row row) i results next = next row
@@ -85,31 +72,48 @@ runChecked (check.Refused refusal) job results = ran (Refused refusal 0) results
 -- the lists that it is lent to store in
 pub record Lent : Type 0 where
   pub days : List ℕ
+  pub totals : List ℕ
   pub results : List ℕ
 
-abbrev pub lent : List ℕ → List ℕ → Lent
-lent days results = record { days = days; results = results }
+abbrev pub lent : List ℕ → List ℕ → List ℕ → Lent
+lent days totals results = record { days = days; totals = totals; results = results }
 
--- what it leaves: what the run comes to, and the list of days
+-- what it leaves: what the run comes to, the list of days and the totals
 pub record Left : Type 0 where
   pub ran : Ran
   pub days : List ℕ
+  pub totals : List ℕ
 
-abbrev pub left : RunAnswer → List ℕ → List ℕ → Left
-left answer days results = record { ran = ran answer results; days = days }
+abbrev pub left : RunAnswer → List ℕ → List ℕ → List ℕ → Left
+left answer days totals results = record { ran = ran answer results; days = days; totals = totals }
 
-unfoldable pub roomFine : Run → Lent → Bool
-roomFine run lists = daysFine (lists .days) && resultsFine run (lists .results)
+unfoldable pub roomFine : Bool → Run → Lent → Bool
+roomFine leap run lists = daysFine (lists .days) && (totalsFine leap (lists .totals) && resultsFine run (lists .results))
+
+abbrev pub roomFor : Job → Lent → Bool
+roomFor job lists = roomFine (leapYear (job .site)) (job .run) lists
 
 -- the table of days is filled where the checks have passed, before the first step
 unfoldable pub daysLeft : Checked → List ℕ → List ℕ
 daysLeft (check.Steps n) days = withDayTable days
 daysLeft (check.Refused refusal) days = days
 
+-- how many rows are stored: those of the steps before the one that is refused, or of all
+unfoldable pub rowsStored : RunAnswer → ℕ
+rowsStored (Accepted count sum) = count
+rowsStored (Refused refusal step) = step
+
+-- The totals are those of the rows that are stored, also where there are none or a later step is refused. A job that the checks turn
+-- down leaves the list as it was.
+unfoldable pub totalsLeft : Checked → Job → Ran → List ℕ → List ℕ
+totalsLeft (check.Steps n) job ran totals = withTotals (leapYear (job .site)) (job .run) (ran .results) (rowsStored (ran .answer)) totals
+totalsLeft (check.Refused refusal) job ran totals = totals
+
 unfoldable pub runOf : Job → Lent → Left
 runOf job lists =
-    let checks = checked job (roomFine (job .run) lists) in
-    record { ran = runChecked checks job (lists .results); days = daysLeft checks (lists .days) }
+    let checks = checked job (roomFor job lists) in
+    let ran = runChecked checks job (lists .results) in
+    record { ran = ran; days = daysLeft checks (lists .days); totals = totalsLeft checks job ran (lists .totals) }
 
 -- the run without a table: what `runOf` is compared with (`WithTable`)
 unfoldable pub plainRun : Job → List ℕ → Ran

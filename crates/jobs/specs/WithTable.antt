@@ -12,7 +12,7 @@ use Rattle.days.specs.Day.{dayOf}
 use Rattle.days.specs.Table.{dayAt, withDayTable}
 use Rattle.sun.specs.declared.site.Site.{Site}
 use Rattle.sun.specs.declared.hour.Hour.{Hour}
-use Rattle.sun.specs.Site.{hoursInYear}
+use Rattle.sun.specs.Site.{leapYear, hoursInYear}
 use Rattle.sun.specs.Hour.{sinCosOf, timeShift}
 use Rattle.sun.specs.HourParts.{hourBy}
 use Rattle.simulation_time.specs.Steps.{timeAt}
@@ -23,9 +23,11 @@ use Rattle.jobs.specs.declared.answers.StepAnswer.{StepAnswer}
 use Rattle.jobs.specs.declared.answers.RunAnswer.the-variants as run
 use Rattle.jobs.specs.declared.answers.Checked.the-variants.{Steps, Refused}
 use Rattle.jobs.specs.Job.{Job, readingAt}
-use Rattle.jobs.specs.JobChecks.{daysFine, checked}
+use Rattle.jobs.specs.JobChecks.{daysFine, totalsFine, checked}
 use Rattle.jobs.specs.Step.{irradianceByDay, shadingAt, rowWith, stepAt}
-use Rattle.jobs.specs.Run.{Ran, ran, putRow, withRow, onRow, Lent, roomFine, runOf, plainRun}
+use Rattle.jobs.specs.Rows.{putRow, withRow}
+use Rattle.jobs.specs.Totals.{dayOfStep}
+use Rattle.jobs.specs.Run.{Ran, ran, onRow, Lent, roomFor, runOf, plainRun}
 
 -- ---- a step whose hour reads its day from a list
 
@@ -50,27 +52,23 @@ runByTable (suc n) days job i time sum results =
 
 -- ---- the claim
 
--- the day of a job's i-th step, from 0
-abbrev pub dayOfStep : Job → ℕ → ℕ
-dayOfStep job i = currentHour (timeAt (job .run) i) / 24
-
 -- Where the checks have passed and there are n steps: the list of days that the run leaves is the one that was lent, with the table over
 -- its front, also where n is 0 or a step is refused. Each step's day is one of the year's, 365 or 366; its record there holds the values
 -- by which the step's row is defined. So the step whose hour reads them there is the step without the table, row or refusal, and the
 -- run of these steps is the run.
 pub record TableFilled (job : Job) (lists : Lent) (n : ℕ) : Type 0 where
   pub filled : runOf job lists .days ≡ withDayTable (lists .days)
-  pub day-in-year : (i : ℕ) → i < n → dayOfStep job i < hoursInYear (job .site) / 24
-  pub day-read : (i : ℕ) → i < n → dayAt (runOf job lists .days) (dayOfStep job i) ≡ dayOf (dayOfStep job i + 1)
+  pub day-in-year : (i : ℕ) → i < n → dayOfStep (job .run) i < hoursInYear (job .site) / 24
+  pub day-read : (i : ℕ) → i < n → dayAt (runOf job lists .days) (dayOfStep (job .run) i) ≡ dayOf (dayOfStep (job .run) i + 1)
   pub same-step : (i : ℕ) → i < n → stepByTable (runOf job lists .days) job (timeAt (job .run) i) ≡ stepAt job (timeAt (job .run) i)
   pub same-run : runByTable n (runOf job lists .days) job 0 (job .run .start) (whole 0) (lists .results) ≡ runOf job lists .ran
 
 -- every result of a run is the one without the table, in either year
 pub record WithTable (job : Job) (lists : Lent) : Type 0 where
-  pub same-results : T (daysFine (lists .days)) → runOf job lists .ran ≡ plainRun job (lists .results)
-  pub table-filled : (n : ℕ) → checked job (roomFine (job .run) lists) ≡ Steps n → TableFilled job lists n
+  pub same-results : T (daysFine (lists .days)) → T (totalsFine (leapYear (job .site)) (lists .totals)) → runOf job lists .ran ≡ plainRun job (lists .results)
+  pub table-filled : (n : ℕ) → checked job (roomFor job lists) ≡ Steps n → TableFilled job lists n
   -- a job that is turned down leaves the list as it was
-  pub untouched : (r : Refusal) → checked job (roomFine (job .run) lists) ≡ Refused r → runOf job lists .days ≡ lists .days
+  pub untouched : (r : Refusal) → checked job (roomFor job lists) ≡ Refused r → runOf job lists .days ≡ lists .days
   pub same-length : length (runOf job lists .days) ≡ length (lists .days)
   pub bytes-behind : (b : ℕ) → 8784 ≤ b → getD (runOf job lists .days) b 0 ≡ getD (lists .days) b 0
 

@@ -17,6 +17,14 @@ pub enum StepAnswer {
     Refused(Refusal),
 }
 
+// What is kept of one day or of one month: how many steps start in it, the largest total among their rows (NaN while there is none)
+// and the sum of factor times direct times step, in Wh/m².
+pub struct Totals {
+    pub count: u64,
+    pub largest: f64,
+    pub sum: f64,
+}
+
 // How many steps a job has that passes the checks before the first step, or why it is turned down (1 to 7).
 pub enum Checked {
     Steps(u64),

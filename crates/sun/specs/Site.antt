@@ -21,6 +21,9 @@ siteFine site =
     && leb (site .«leap_year») 1
     && leb (site .«direct_beam_conversion») 1
 
+abbrev pub leapYear : Site → Bool
+leapYear site = eqb (site .«leap_year») 1
+
 -- every step's hour is below this
 unfoldable pub hoursInYear : Site → ℕ
-hoursInYear site = cond (eqb (site .«leap_year») 1) 8784 8760
+hoursInYear site = cond (leapYear site) 8784 8760
