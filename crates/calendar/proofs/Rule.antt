@@ -81,3 +81,8 @@ pub calendar-right : CalendarRight
 unfolding right daysInYear
 calendar-right true day h = is-date true day (dateOf true day) (at (right true) 366 tt day h)
 calendar-right false day h = is-date false day (dateOf false day) (at (right false) 365 tt day h)
+
+pub year-few : (leap : Bool) → daysInYear leap ≤ 366
+unfolding daysInYear
+year-few true = omega arith
+year-few false = omega arith

@@ -5,6 +5,8 @@
 pub mod RowStores
 pub mod StepRows
 pub mod PassedChecks
+pub mod TotalsRecords
+pub mod TotalsLaws
 pub mod RunLaws
 pub mod Sums
 pub mod ObjectLists

@@ -86,7 +86,7 @@ step-row job time row e = go (shadingAt (job .surface) (sunAt (job .site) time) 
 
 -- ---- all six are doubles
 
-zero-fits : Fits (whole 0)
+pub zero-fits : Fits (whole 0)
 unfolding whole fits
 zero-fits = record { holds = tt }
 

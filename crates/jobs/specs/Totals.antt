@@ -1,12 +1,13 @@
 -- Day and month totals: what a run keeps beside its rows. They are those of the rows that are stored, worked out afresh.
-use mathlib.Core.Bool.{Bool, cond}
+use mathlib.Core.Bool.{Bool, cond, _||_}
 use mathlib.Core.List.{List, [], _∷_, _++_}
-use Prim.Native.Nat.{ℕ, zero, suc, _+_, _*_, _/_}
-use lib.Dec.{ltb, eqb}
+use Prim.Native.Nat.{ℕ, zero, suc, _+_, _-_, _*_, _/_}
+use lib.Dec.{eqb}
 use lib.ListN.{drop}
-use lib.Ieee.{Float, nan, isNan, lt}
+use lib.Ieee.{Float, nan}
 use Rattle.doubles.specs.Arithmetic.{whole}
-use Rattle.words.specs.Words.{bytesOf, bytesOfDouble}
+use Rattle.doubles.specs.Functions.{floatMax}
+use Rattle.words.specs.Words.{bytesOf, bytesOfDouble, wordAt, doubleAt, putWord, putDouble}
 use Rattle.calendar.specs.Calendar.{daysInYear, dateOf}
 use Rattle.simulation_time.specs.declared.run.Run.{Run}
 use Rattle.simulation_time.specs.Steps.{timeAt}
@@ -21,16 +22,12 @@ use Rattle.jobs.specs.Rows.{storedRow, withRow}
 unfoldable pub noTotals : Totals
 noTotals = record { count = 0; largest = nan; sum = whole 0 }
 
--- The largest total with one more. NaN is skipped; another one is taken where the largest is not above it: of equals the latest, and
--- where there is none yet the first, for NaN is above nothing.
-unfoldable pub largerTotal : Float → Float → Float
-largerTotal largest total = cond (isNan total) largest (cond (lt total largest) largest total)
-
--- one step more, which is so many hours long
+-- One step more, which is so many hours long. Of the largest total and the new one `floatMax` drops a NaN, and takes the new one where
+-- the largest is not above it: of equals the latest.
 unfoldable pub withStep : Float → Totals → Row → Totals
 withStep step totals row = record {
   count = totals .count + 1;
-  largest = largerTotal (totals .largest) (row .total);
+  largest = floatMax (totals .largest) (row .total);
   sum = withRow step (totals .sum) row;
 }
 
@@ -52,9 +49,13 @@ totalsOf part run results (suc n) =
 unfoldable pub totalsCount : Bool → ℕ
 totalsCount leap = daysInYear leap + 12
 
--- whether a day is in the k-th part: the k-th day, from 0, is one, and a month is all its days
+-- the place of the month of a day
+unfoldable pub monthPart : Bool → ℕ → ℕ
+monthPart leap day = daysInYear leap + dateOf leap day .month - 1
+
+-- whether a day is in the k-th part, from 0: it is that day, or one of that month
 unfoldable pub inPart : Bool → ℕ → ℕ → Bool
-inPart leap k day = cond (ltb k (daysInYear leap)) (eqb day k) (eqb (daysInYear leap + dateOf leap day .month) (k + 1))
+inPart leap k day = eqb k day || eqb k (monthPart leap day)
 
 unfoldable pub totalsAtPart : Bool → Run → List ℕ → ℕ → ℕ → Totals
 totalsAtPart leap run results n k = totalsOf (inPart leap k) run results n
@@ -64,6 +65,16 @@ totalsAtPart leap run results n k = totalsOf (inPart leap k) run results n
 -- a record is three words: 24 bytes
 unfoldable pub totalsBytes : Totals → List ℕ
 totalsBytes totals = bytesOf 8 (totals .count) ++ (bytesOfDouble (totals .largest) ++ bytesOfDouble (totals .sum))
+
+-- the k-th record of a list
+unfoldable pub totalsAt : List ℕ → ℕ → Totals
+totalsAt totals k = record { count = wordAt totals (3 * k); largest = doubleAt totals (3 * k + 1); sum = doubleAt totals (3 * k + 2) }
+
+unfoldable pub putTotals : List ℕ → ℕ → Totals → List ℕ
+putTotals totals k new =
+    let count = putWord totals (3 * k) (new .count) in
+    let largest = putDouble count (3 * k + 1) (new .largest) in
+    putDouble largest (3 * k + 2) (new .sum)
 
 -- so many records, from the k-th on
 unfoldable pub totalsRecords : (ℕ → Totals) → ℕ → ℕ → List ℕ

@@ -12,7 +12,8 @@ use Rattle.jobs.specs.declared.answers.StepAnswer.the-variants as step
 use Rattle.jobs.specs.declared.answers.RunAnswer.the-variants.{Accepted, Refused}
 use Rattle.jobs.specs.Job.{Job, readingAt}
 use Rattle.jobs.specs.Step.{stepWith, stepAt}
-use Rattle.jobs.specs.Run.{ran, putRow, withRow, runFrom}
+use Rattle.jobs.specs.Rows.{putRow, withRow}
+use Rattle.jobs.specs.Run.{ran, runFrom}
 use Rattle.jobs.proofs.RunLaws.{run-ended, run-refused, run-onward}
 
 pub job-step : (job : Job) (time : Float) (answer : StepAnswer) → answer ≡ stepWith (job .site) (job .surface) (job .sectors) (job .window) time (readingAt job time)

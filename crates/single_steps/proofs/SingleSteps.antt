@@ -23,7 +23,8 @@ use Rattle.single_steps.specs.Single.{timeFine, stepChecked, called, sto
 use Rattle.jobs.specs.JobChecks.{tried}
 use Rattle.jobs.specs.Job.{Job, readingAt}
 use Rattle.jobs.specs.Step.{stepAt}
-use Rattle.jobs.specs.Run.{putRow, Lent, runOf}
+use Rattle.jobs.specs.Rows.{putRow}
+use Rattle.jobs.specs.Run.{Lent, runOf}
 use Rattle.simulation_time.specs.Steps.{timeAt}
 use Rattle.jobs.proofs.RowStores.{Holding}
 use Rattle.jobs.proofs.RunLaws.{rowAt, filled, run-rows}

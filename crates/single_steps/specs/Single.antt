@@ -25,7 +25,7 @@ use Rattle.single_steps.specs.declared.Single.the-variants.{Accepted, Re
 use Rattle.weather.specs.Weather.{readingFine}
 use Rattle.jobs.specs.JobChecks.{tried}
 use Rattle.jobs.specs.Step.{sunAt, irradianceAt, stepWith}
-use Rattle.jobs.specs.Run.{putRow}
+use Rattle.jobs.specs.Rows.{putRow}
 
 -- 0 where the call is accepted: its results are then stored
 unfoldable pub singleNumber : Single → ℕ

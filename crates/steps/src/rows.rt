@@ -5,7 +5,7 @@ ghost use Rattle.simulation_time.specs.Timestep.{seriesIndex};
 ghost use Rattle.weather.specs.Weather.{readSeries};
 ghost use Rattle.jobs.specs.Step.{rowWith};
 ghost use Rattle.steps.specs.Kept.{irradianceKept, stepKept};
-ghost use Rattle.jobs.specs.Run.{putRow, withRow};
+ghost use Rattle.jobs.specs.Rows.{putRow, withRow};
 use crate::kept::Fixed;
 use crate::kept::KeptHour;
 use crate::kept::irradiance_kept;

@@ -19,7 +19,7 @@ use Rattle.words.proofs.Patterns.{nan-pattern}
 
 -- ---- numbers of n bytes
 
-length-bytesOf : (n w : ℕ) → length (bytesOf n w) ≡ n
+pub length-bytesOf : (n w : ℕ) → length (bytesOf n w) ≡ n
 unfolding bytesOf
 length-bytesOf zero w = refl
 length-bytesOf (suc n) w = ap suc (length-bytesOf n (w / 256))

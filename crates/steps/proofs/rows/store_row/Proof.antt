@@ -1,6 +1,6 @@
 -- `store_row` meets its contract.
 use mathlib.Core.Path.{refl}
-use Rattle.jobs.specs.Run.{putRow}
+use Rattle.jobs.specs.Rows.{putRow}
 use borrow.Author.Needs.{needs}
 use Rattle.steps.proofs.rows.store_row.Statement.{statement}
 use Rattle.steps.proofs.rows.store_row.Tie as tie

@@ -1,6 +1,6 @@
 -- `with_row` meets its contract.
 use mathlib.Core.Path.{refl}
-use Rattle.jobs.specs.Run.{withRow}
+use Rattle.jobs.specs.Rows.{withRow}
 use Rattle.steps.proofs.rows.with_row.Statement.{statement}
 use Rattle.steps.proofs.rows.with_row.Tie as tie
 

@@ -1,0 +1,83 @@
+-- The totals as they are kept are those of the stored rows, after each step. Assumes nothing.
+use mathlib.Core.Path.{_≡_, refl, sym, ap, ap₂, _∙_, subst}
+use mathlib.Core.Bool.{Bool, true, false, cond}
+use mathlib.Core.Logic.{_≢_}
+use mathlib.Core.List.{List, _++_}
+use Prim.Native.Nat.{ℕ, suc, _+_, _*_, _/_, _^_, _≤_, _<_}
+use native.Mathlib.Decide.{ℕ-discrete}
+use borrow.Author.Tests.{eq-eqb, ne-eqb}
+use lib.Dec.{eqb}
+use lib.ListN.{drop}
+use Rattle.words.specs.Words.{wordCount}
+use Rattle.calendar.specs.Calendar.{daysInYear}
+use Rattle.simulation_time.specs.declared.run.Run.{Run}
+use Rattle.jobs.specs.declared.answers.Row.{Row}
+use Rattle.jobs.specs.declared.answers.Totals.{Totals}
+use Rattle.jobs.specs.Rows.{putRow}
+use Rattle.jobs.specs.Totals.{withStep, dayOfStep, totalsOf, totalsCount, monthPart, inPart, totalsAtPart, totalsAt, putTotals, totalsRecords, withTotals}
+use Rattle.jobs.proofs.RowStores.{RowFits}
+use Rattle.jobs.proofs.TotalsRecords.{records-same, put-among}
+use Rattle.jobs.proofs.TotalsLaws.{part-next, month-from, month-to, day-to, day-in, month-in, no-other, totals-read}
+use Rattle.totals.specs.Kept.{emptied, withRowAdded}
+
+-- before the first step
+pub none-added : (leap : Bool) (run : Run) (results totals : List ℕ) → emptied leap totals ≡ withTotals leap run results 0 totals
+unfolding emptied withTotals totalsAtPart totalsOf
+none-added leap run results totals = refl
+
+-- each row, whose day is one of the year's
+module _ (leap : Bool) (run : Run) (results totals : List ℕ) (i : ℕ) (row : Row)
+  (room : 6 * i + 6 ≤ wordCount results) (fits : RowFits row) (few : i < 2 ^ 64) (h : dayOfStep run i < daysInYear leap) where
+  abbrev day : ℕ
+  day = dayOfStep run i
+
+  abbrev rest : List ℕ
+  rest = drop (24 * totalsCount leap) totals
+
+  abbrev old : ℕ → Totals
+  old = totalsAtPart leap run results i
+
+  abbrev new : ℕ → Totals
+  new = totalsAtPart leap run (putRow results i row) (suc i)
+
+  abbrev added : ℕ → Totals
+  added k = withStep (run .step) (old k) row
+
+  -- with the step in its day's record alone
+  abbrev ofDay : ℕ → Totals
+  ofDay k = cond (eqb k day) (added k) (old k)
+
+  one-more : (k : ℕ) → inPart leap k day ≡ true → new k ≡ added k
+  one-more k e = part-next leap run results i row room fits k ∙ ap (λ (b : Bool). cond b (added k) (old k)) e
+
+  none-more : (k : ℕ) → inPart leap k day ≡ false → new k ≡ old k
+  none-more k e = part-next leap run results i row room fits k ∙ ap (λ (b : Bool). cond b (added k) (old k)) e
+
+  abbrev month : ℕ
+  month = monthPart leap day
+
+  of-day : ofDay day ≡ added day
+  of-day = ap (λ (b : Bool). cond b (added day) (old day)) (eq-eqb day day refl)
+
+  of-others : (k : ℕ) → k ≢ day → ofDay k ≡ old k
+  of-others k o = ap (λ (b : Bool). cond b (added k) (old k)) (ne-eqb k day o)
+
+  -- and in its month's too
+  of-both : (k : ℕ) → k ≢ month → ofDay k ≡ new k
+  of-both k o = elim (ℕ-discrete k day) [
+    | yes e ↦ subst (λ (d : ℕ). ofDay d ≡ new d) (sym e) (of-day ∙ sym (one-more day (day-in leap day h)))
+    | no n ↦ of-others k n ∙ sym (none-more k (no-other leap day h k n o))
+  ]
+
+  pub row-added : withRowAdded leap day (run .step) row (withTotals leap run results i totals) ≡ withTotals leap run (putRow results i row) (suc i) totals
+  unfolding withRowAdded withTotals
+  row-added =
+      let count : ℕ = totalsCount leap in
+      let before : List ℕ = totalsRecords old count 0 ++ rest in
+      let read : (k : ℕ) → k < count → totalsAt before k ≡ old k = λ k l. totals-read leap run results i totals few k l in
+      let first : putTotals before day (withStep (run .step) (totalsAt before day) row) ≡ totalsRecords ofDay count 0 ++ rest =
+      ap (λ (t : Totals). putTotals before day (withStep (run .step) t row)) (read day (day-to leap day h))
+      ∙ put-among old count rest day (day-to leap day h) ofDay (added day) of-day (λ k l o. sym (of-others k o)) in
+      let step : totalsAt before month ≡ old month = read month (month-to leap day h) in
+      ap₂ (λ (l : List ℕ) (t : Totals). putTotals l month (withStep (run .step) t row)) first step
+      ∙ put-among ofDay count rest month (month-to leap day h) new (added month) (one-more month (month-in leap day h)) (λ k l o. of-both k o)
