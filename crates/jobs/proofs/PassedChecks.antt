@@ -15,6 +15,7 @@ use Rattle.doubles.specs.Order.{InRange}
 use Rattle.doubles.specs.Ranges.{within}
 use Rattle.doubles.proofs.Ranges.{both-of, within-range}
 use Rattle.words.specs.Words.{wordCount}
+use Rattle.calendar.specs.Calendar.{daysInYear}
 use Rattle.sun.specs.declared.site.Site.{Site}
 use Rattle.sun.specs.Site.{siteFine, leapYear, hoursInYear}
 use Rattle.simulation_time.specs.declared.run.Run.{Run}
@@ -37,7 +38,7 @@ use Rattle.jobs.specs.declared.answers.Checked.{Checked}
 use Rattle.jobs.specs.declared.answers.Checked.the-variants.{Steps, Refused}
 use Rattle.jobs.specs.Job.{Job, indexAt, readingAt}
 use Rattle.jobs.specs.JobChecks.{indicesFine, readingsFine, daysFine, totalsFine, resultsFine, tried, checked}
-use Rattle.jobs.specs.Totals.{totalsCount}
+use Rattle.jobs.specs.Totals.{dayOfStep, totalsCount}
 use Rattle.jobs.specs.Run.{Lent, roomFine, roomFor}
 use Rattle.jobs.specs.Comparison.{Doubles}
 
@@ -170,6 +171,17 @@ hour-in-year site run t i h =
 pub hour-of-leap-year : (site : Site) (run : Run) → T (runAccepted (hoursInYear site) run) → (i : ℕ) → i < stepCount run → currentHour (timeAt run i) < 8784
 hour-of-leap-year site run t i h = omega (arith, hour-in-year site run t i h, year-length site)
 
+-- so its day is one of the year's days
+pub day-of-year : (site : Site) (run : Run) → T (runAccepted (hoursInYear site) run) → (i : ℕ) → i < stepCount run → dayOfStep run i < daysInYear (leapYear site)
+day-of-year site run t i h = whole-days (currentHour (timeAt run i)) (hour-in-year site run t i h)
+  where
+    whole-days : (hour : ℕ) → hour < hoursInYear site → hour / 24 < daysInYear (leapYear site)
+    whole-days hour = unfold hoursInYear daysInYear in (go (leapYear site))
+      where
+        go : (b : Bool) → hour < cond b 8784 8760 → hour / 24 < cond b 366 365
+        go true l = omega (arith, l)
+        go false l = omega (arith, l)
+
 module _ {job : Job} {room : Bool} (p : Passed job room) where
   pub reading-fine : (i : ℕ) → i < stepCount (job .run) → T (readingFine (readingAt job (timeAt (job .run) i)))
   reading-fine i h =
@@ -181,15 +193,8 @@ module _ {job : Job} {room : Bool} (p : Passed job room) where
   hour-below = hour-of-leap-year (job .site) (job .run) (p .run-fine)
 
   -- and its day one of the year's days
-  pub day-in-year : (i : ℕ) → i < stepCount (job .run) → currentHour (timeAt (job .run) i) / 24 < hoursInYear (job .site) / 24
-  day-in-year i h = whole-days (currentHour (timeAt (job .run) i)) (hour-in-year (job .site) (job .run) (p .run-fine) i h)
-    where
-      whole-days : (hour : ℕ) → hour < hoursInYear (job .site) → hour / 24 < hoursInYear (job .site) / 24
-      whole-days hour = unfold hoursInYear in (go (eqb (job .site .«leap_year») 1))
-        where
-          go : (b : Bool) → hour < cond b 8784 8760 → hour / 24 < cond b 8784 8760 / 24
-          go true l = omega (arith, l)
-          go false l = omega (arith, l)
+  pub day-in-year : (i : ℕ) → i < stepCount (job .run) → dayOfStep (job .run) i < daysInYear (leapYear (job .site))
+  day-in-year = day-of-year (job .site) (job .run) (p .run-fine)
 
   -- the step is from a quarter of an hour to a day
   pub step-accepted : StepLength (job .run .step)

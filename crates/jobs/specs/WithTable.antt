@@ -7,12 +7,13 @@ use lib.Dec.{T}
 use lib.ListN.{length, getD}
 use lib.Ieee.{Float}
 use Rattle.doubles.specs.Arithmetic.{_⊕_, whole}
+use Rattle.calendar.specs.Calendar.{daysInYear}
 use Rattle.days.specs.declared.Day.{Day}
 use Rattle.days.specs.Day.{dayOf}
 use Rattle.days.specs.Table.{dayAt, withDayTable}
 use Rattle.sun.specs.declared.site.Site.{Site}
 use Rattle.sun.specs.declared.hour.Hour.{Hour}
-use Rattle.sun.specs.Site.{leapYear, hoursInYear}
+use Rattle.sun.specs.Site.{leapYear}
 use Rattle.sun.specs.Hour.{sinCosOf, timeShift}
 use Rattle.sun.specs.HourParts.{hourBy}
 use Rattle.simulation_time.specs.Steps.{timeAt}
@@ -58,7 +59,7 @@ runByTable (suc n) days job i time sum results =
 -- run of these steps is the run.
 pub record TableFilled (job : Job) (lists : Lent) (n : ℕ) : Type 0 where
   pub filled : runOf job lists .days ≡ withDayTable (lists .days)
-  pub day-in-year : (i : ℕ) → i < n → dayOfStep (job .run) i < hoursInYear (job .site) / 24
+  pub day-in-year : (i : ℕ) → i < n → dayOfStep (job .run) i < daysInYear (leapYear (job .site))
   pub day-read : (i : ℕ) → i < n → dayAt (runOf job lists .days) (dayOfStep (job .run) i) ≡ dayOf (dayOfStep (job .run) i + 1)
   pub same-step : (i : ℕ) → i < n → stepByTable (runOf job lists .days) job (timeAt (job .run) i) ≡ stepAt job (timeAt (job .run) i)
   pub same-run : runByTable n (runOf job lists .days) job 0 (job .run .start) (whole 0) (lists .results) ≡ runOf job lists .ran

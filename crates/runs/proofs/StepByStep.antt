@@ -1,10 +1,16 @@
 -- A run goes on from a step by its row, ends at a refused one, and ends with the last; here over a loop that counts up to `count`.
-use mathlib.Core.Path.{_≡_, sym, ap}
+use mathlib.Core.Path.{_≡_, sym, ap, ap₂, _∙_, subst}
+use mathlib.Core.Bool.{Bool}
 use mathlib.Core.List.{List}
-use Prim.Native.Nat.{ℕ, suc, _+_, _-_, _<_}
+use Prim.Native.Nat.{ℕ, suc, _+_, _-_, _*_, _/_, _≤_, _<_}
 use native.Mathlib.Omega.{arith}
 use lib.Ieee.{Float}
 use Rattle.doubles.specs.Arithmetic.{_⊕_, whole}
+use Rattle.words.specs.Words.{wordCount}
+use Rattle.calendar.specs.Calendar.{daysInYear}
+use Rattle.sun.specs.Site.{leapYear}
+use Rattle.simulation_time.specs.declared.run.Run.{Run}
+use Rattle.simulation_time.specs.Steps.{timeAt}
 use Rattle.objects.specs.declared.answers.Refusal.{Refusal}
 use Rattle.jobs.specs.declared.answers.Row.{Row}
 use Rattle.jobs.specs.declared.answers.StepAnswer.{StepAnswer}
@@ -13,8 +19,13 @@ use Rattle.jobs.specs.declared.answers.RunAnswer.the-variants.{Accepted, Refuse
 use Rattle.jobs.specs.Job.{Job, readingAt}
 use Rattle.jobs.specs.Step.{stepWith, stepAt}
 use Rattle.jobs.specs.Rows.{putRow, withRow}
-use Rattle.jobs.specs.Run.{ran, runFrom}
+use Rattle.jobs.specs.Totals.{dayOfStep, totalsCount, totalsAt, withTotals}
+use Rattle.jobs.specs.declared.answers.RunAnswer.{RunAnswer}
+use Rattle.jobs.specs.Run.{Ran, ran, rowsStored, runFrom}
+use Rattle.jobs.proofs.StepRows.{step-row, row-fits}
 use Rattle.jobs.proofs.RunLaws.{run-ended, run-refused, run-onward}
+use Rattle.totals.specs.Kept.{emptied, withRowAdded}
+use Rattle.totals.proofs.Kept.{few-added, row-added, over-emptied}
 
 pub job-step : (job : Job) (time : Float) (answer : StepAnswer) → answer ≡ stepWith (job .site) (job .surface) (job .sectors) (job .window) time (readingAt job time)
     → answer ≡ stepAt job time
@@ -37,3 +48,32 @@ module _ (job : Job) (count i : ℕ) (time sum : Float) (results : List ℕ) whe
 
 pub at-start : (job : Job) (count : ℕ) (results : List ℕ) → runFrom (count - 0) job 0 (job .run .start) (whole 0) results ≡ runFrom count job 0 (job .run .start) (whole 0) results
 at-start job count results = let z : count - 0 ≡ count = omega arith in ap (λ (n : ℕ). runFrom n job 0 (job .run .start) (whole 0) results) z
+
+-- the totals go on by the row that is stored
+module _ (job : Job) (i : ℕ) (results totals₀ totals : List ℕ) (few : i < 35137) (room : 6 * i + 6 ≤ wordCount results)
+    (there : dayOfStep (job .run) i < daysInYear (leapYear (job .site)))
+    (kept : totals ≡ withTotals (leapYear (job .site)) (job .run) results i totals₀) where
+  abbrev leap : Bool
+  leap = leapYear (job .site)
+
+  pub totals-next : (row : Row) (day : ℕ) (totals' results' : List ℕ) → stepAt job (timeAt (job .run) i) ≡ step.Row row → day ≡ dayOfStep (job .run) i
+      → totals' ≡ withRowAdded leap day (job .run .step) row totals → results' ≡ putRow results i row
+      → totals' ≡ withTotals leap (job .run) results' (i + 1) totals₀
+  totals-next row day totals' results' s d t r =
+      let one : suc i ≡ i + 1 = omega arith in
+      let fits = row-fits (step-row job (timeAt (job .run) i) row s) in
+      t ∙ ap₂ (λ (n : ℕ) (l : List ℕ). withRowAdded leap n (job .run .step) row l) d kept
+      ∙ row-added leap (job .run) results totals₀ i row room fits few there
+      ∙ ap₂ (λ (l : List ℕ) (n : ℕ). withTotals leap (job .run) l n totals₀) (sym r) one
+
+  -- each record counts few steps
+  pub few-counted : (k : ℕ) → k < totalsCount leap → totalsAt totals k .count < 35137
+  few-counted k h = subst (λ (l : List ℕ). totalsAt l k .count < 35137) (sym kept) (few-added leap (job .run) results totals₀ i k few h)
+
+-- the totals of a run whose list was emptied before
+pub totals-done : (leap : Bool) (run : Run) (totals₀ totals totals' results' : List ℕ) (answer : RunAnswer) (done : Ran)
+    → totals ≡ emptied leap totals₀ → totals' ≡ withTotals leap run results' (rowsStored answer) totals → ran answer results' ≡ done
+    → totals' ≡ withTotals leap run (done .results) (rowsStored (done .answer)) totals₀
+totals-done leap run totals₀ totals totals' results' answer done e t r =
+    t ∙ ap (withTotals leap run results' (rowsStored answer)) e ∙ over-emptied leap run results' (rowsStored answer) totals₀
+    ∙ ap (λ (x : Ran). withTotals leap run (x .results) (rowsStored (x .answer)) totals₀) r

@@ -1,19 +1,27 @@
 // The run: the checks before the first step, then step by step.
 ghost use mathlib.Core.Path.{_≡_};
 ghost use mathlib.Core.Bool.{true};
+ghost use Prim.Native.Nat.{_*_, _≤_, _<_};
 ghost use Rattle.doubles.specs.Arithmetic.{whole};
 ghost use Rattle.object_checks.specs.Checks.{sectorsFine, windowFine};
+ghost use Rattle.words.specs.Words.{wordCount};
+ghost use Rattle.calendar.specs.Calendar.{daysInYear};
 ghost use Rattle.days.specs.Table.{HoldsDays};
-ghost use Rattle.sun.specs.Site.{siteFine, hoursInYear};
+ghost use Rattle.sun.specs.Site.{siteFine, leapYear, hoursInYear};
 ghost use Rattle.simulation_time.specs.Steps.{stepCount};
 ghost use Rattle.simulation_time.specs.RunChecks.{runAccepted};
 ghost use Rattle.jobs.specs.declared.answers.RunAnswer.the-variants.{Refused};
 ghost use Rattle.jobs.specs.Job.{jobOf};
 ghost use Rattle.jobs.specs.JobChecks.{seriesChecked, checked};
-ghost use Rattle.jobs.specs.Run.{ran, lent, left, roomFine, runFrom, runOf};
+ghost use Rattle.jobs.specs.Rows.{putRow, withRow};
+ghost use Rattle.jobs.specs.Totals.{monthPart, totalsAt, withTotals};
+ghost use Rattle.jobs.specs.Run.{ran, lent, left, roomFine, runFrom, rowsStored, runOf};
+ghost use Rattle.totals.specs.Kept.{emptied, withRowAdded};
 use crate::series::series_fine;
+use calendar::days_in_year;
 use days::table::fill_days;
 use jobs::answers::Checked;
+use jobs::answers::Row;
 use jobs::answers::RunAnswer;
 use jobs::answers::StepAnswer;
 use object_checks::sectors_fine;
@@ -41,14 +49,18 @@ use steps::rows::with_row;
 use sun::site::Site;
 use sun::site::hours_in_year;
 use sun::site::site_fine;
+use totals::add_row;
+use totals::empty_totals;
 use words::word_count;
 
-// Room for the table of days and for every step's row.
-fn room_fine(run: Run, count: u64, days: &[u8], results: &[u8]) -> bool
+// Room for the table of days, for the totals of the year and for every step's row.
+fn room_fine(leap: bool, run: Run, count: u64, days: &[u8], totals: &[u8], results: &[u8]) -> bool
     requires { ⌜ count ≡ stepCount run ⌝ }
-    ensures { λ r. ⌜ r ≡ roomFine run (lent (now (days .entry)) (now (results .entry))) ⌝ }
+    ensures { λ r. ⌜ r ≡ roomFine leap run (lent (now (days .entry)) (now (totals .entry)) (now (results .entry))) ⌝ }
 {
-    (8784 <= days.len()) & (6 * count <= word_count(results) as u64)
+    let records = (days_in_year(leap) + 12) as usize;
+    (8784 <= days.len())
+        & ((24 * records <= totals.len()) & (6 * count <= word_count(results) as u64))
 }
 
 // Refusals 5 to 7: every step's index on all three series before any value, and the room.
@@ -60,12 +72,14 @@ fn check_series(
     diffuse: &[u8],
     direct: &[u8],
     reflectivity: &[u8],
+    leap: bool,
     days: &[u8],
+    totals: &[u8],
     results: &[u8],
 ) -> Checked
     requires { ⌜ count ≡ stepCount run ⌝ }
-    ensures { λ r. ⌜ r ≡ seriesChecked «start_day» «series_step» run
-        (now (diffuse .entry)) (now (direct .entry)) (now (reflectivity .entry)) (roomFine run (lent (now (days .entry)) (now (results .entry)))) ⌝ }
+    ensures { λ r. ⌜ r ≡ seriesChecked «start_day» «series_step» run (now (diffuse .entry)) (now (direct .entry)) (now (reflectivity .entry))
+        (roomFine leap run (lent (now (days .entry)) (now (totals .entry)) (now (results .entry)))) ⌝ }
 {
     let fine = series_fine(
         run,
@@ -82,7 +96,7 @@ fn check_series(
     if !fine.readings {
         return Checked::Refused(Refusal::Reading);
     }
-    if !room_fine(run, count, days, results) {
+    if !room_fine(leap, run, count, days, totals, results) {
         return Checked::Refused(Refusal::Results);
     }
     Checked::Steps(count)
@@ -99,11 +113,12 @@ fn check_job(
     sectors: &[u8],
     window: &[u8],
     days: &[u8],
+    totals: &[u8],
     results: &[u8],
 ) -> Checked
     ensures { λ r. ⌜ r ≡ checked
         (jobOf site run surface (now (diffuse .entry)) (now (direct .entry)) (now (reflectivity .entry)) (now (sectors .entry)) (now (window .entry)))
-        (roomFine run (lent (now (days .entry)) (now (results .entry)))) ⌝ }
+        (roomFine (leapYear site) run (lent (now (days .entry)) (now (totals .entry)) (now (results .entry)))) ⌝ }
 {
     if !site_fine(site) {
         return Checked::Refused(Refusal::Site);
@@ -126,7 +141,9 @@ fn check_job(
         diffuse,
         direct,
         reflectivity,
+        site.leap_year == 1,
         days,
+        totals,
         results,
     )
 }
@@ -138,6 +155,30 @@ fn refused_at(refusal: Refusal, step: u64) -> RunAnswer
         refusal: refusal,
         step: step,
     }
+}
+
+// A step's row, stored as the i-th and added to the totals of its day and its month; and the sum with it.
+fn keep_row(
+    results: &mut [u8],
+    totals: &mut [u8],
+    i: usize,
+    leap: bool,
+    day: u32,
+    step: f64,
+    sum: f64,
+    row: Row,
+) -> f64
+    requires { ⌜ i < 35137 ⌝ }
+    requires { ⌜ day < daysInYear leap ⌝ }
+    requires { ⌜ totalsAt (now totals) day .count < 35137 ⌝ }
+    requires { ⌜ totalsAt (now totals) (monthPart leap day) .count < 35137 ⌝ }
+    ensures { λ r. ⌜ r ≡ withRow step sum row ⌝ }
+    ensures { λ _. ⌜ now (totals .exit) ≡ withRowAdded leap day step row (now (totals .entry)) ⌝ }
+    ensures { λ _. ⌜ now (results .exit) ≡ putRow (now (results .entry)) i row ⌝ }
+{
+    store_row(results, i, row);
+    add_row(totals, leap, day, step, row);
+    with_row(step, sum, row)
 }
 
 // All steps of a job that has passed the checks. The sectors are read into a table once, a day is read from the table of days, and
@@ -153,6 +194,7 @@ fn run_steps(
     sectors: &[u8],
     window: &[u8],
     days: &[u8],
+    totals: &mut [u8],
     results: &mut [u8],
 ) -> RunAnswer
     requires { ⌜ siteFine site ≡ true ⌝ }
@@ -161,10 +203,14 @@ fn run_steps(
     requires { ⌜ sectorsFine (now sectors) ≡ true ⌝ }
     requires { ⌜ windowFine (now window) ≡ true ⌝ }
     requires { ⌜ HoldsDays (now days) ⌝ }
+    requires { ⌜ now totals ≡ emptied (leapYear site) (now totals) ⌝ }
+    requires { ⌜ 6 * count ≤ wordCount (now results) ⌝ }
     ensures { λ r. ⌜ ran r (now (results .exit)) ≡ runFrom count
         (jobOf site run surface (now (diffuse .entry)) (now (direct .entry)) (now (reflectivity .entry)) (now (sectors .entry)) (now (window .entry)))
         0 (run .start) (whole 0) (now (results .entry)) ⌝ }
+    ensures { λ r. ⌜ now (totals .exit) ≡ withTotals (leapYear site) run (now (results .exit)) (rowsStored r) (now (totals .entry)) ⌝ }
 {
+    let leap = site.leap_year == 1;
     let objects = window_of(window);
     let n = sector_count(sectors);
     let places = sectors_of(sectors, n);
@@ -212,8 +258,16 @@ fn run_steps(
                 return refused_at(refusal, i);
             }
             StepAnswer::Row(row) => {
-                store_row(results, i as usize, row);
-                sum = with_row(run.step, sum, row);
+                sum = keep_row(
+                    results,
+                    totals,
+                    i as usize,
+                    leap,
+                    hour / 24,
+                    run.step,
+                    sum,
+                    row,
+                );
             }
         }
         time += run.step;
@@ -225,7 +279,7 @@ fn run_steps(
     }
 }
 
-// One call of the run: the answer, the table of days, and in the results a row for each step.
+// One call of the run: the answer, the table of days, the totals of days and months, and in the results a row for each step.
 pub fn run_job(
     site: Site,
     run: Run,
@@ -236,11 +290,12 @@ pub fn run_job(
     sectors: &[u8],
     window: &[u8],
     days: &mut [u8],
+    totals: &mut [u8],
     results: &mut [u8],
 ) -> RunAnswer
-    ensures { λ r. ⌜ left r (now (days .exit)) (now (results .exit)) ≡ runOf
+    ensures { λ r. ⌜ left r (now (days .exit)) (now (totals .exit)) (now (results .exit)) ≡ runOf
         (jobOf site run surface (now (diffuse .entry)) (now (direct .entry)) (now (reflectivity .entry)) (now (sectors .entry)) (now (window .entry)))
-        (lent (now (days .entry)) (now (results .entry))) ⌝ }
+        (lent (now (days .entry)) (now (totals .entry)) (now (results .entry))) ⌝ }
 {
     let answer = check_job(
         site,
@@ -252,12 +307,14 @@ pub fn run_job(
         sectors,
         window,
         days,
+        totals,
         results,
     );
     match answer {
         Checked::Refused(refusal) => refused_at(refusal, 0),
         Checked::Steps(count) => {
             fill_days(days);
+            empty_totals(totals, site.leap_year == 1);
             run_steps(
                 site,
                 run,
@@ -269,6 +326,7 @@ pub fn run_job(
                 sectors,
                 window,
                 days,
+                totals,
                 results,
             )
         }

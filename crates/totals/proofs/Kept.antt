@@ -5,29 +5,68 @@ use mathlib.Core.Logic.{_≢_}
 use mathlib.Core.List.{List, _++_}
 use Prim.Native.Nat.{ℕ, suc, _+_, _*_, _/_, _^_, _≤_, _<_}
 use native.Mathlib.Decide.{ℕ-discrete}
+use native.Mathlib.Omega.{arith}
+use native.Mathlib.Nat.{lt-trans}
 use borrow.Author.Tests.{eq-eqb, ne-eqb}
-use lib.Dec.{eqb}
-use lib.ListN.{drop}
+use lib.Dec.{eqb, lit<}
+use lib.ListN.{length, drop}
+use lib.Seq.{drop-at}
+use lib.Ieee.{Float}
 use Rattle.words.specs.Words.{wordCount}
 use Rattle.calendar.specs.Calendar.{daysInYear}
 use Rattle.simulation_time.specs.declared.run.Run.{Run}
 use Rattle.jobs.specs.declared.answers.Row.{Row}
 use Rattle.jobs.specs.declared.answers.Totals.{Totals}
 use Rattle.jobs.specs.Rows.{putRow}
-use Rattle.jobs.specs.Totals.{withStep, dayOfStep, totalsOf, totalsCount, monthPart, inPart, totalsAtPart, totalsAt, putTotals, totalsRecords, withTotals}
+use Rattle.jobs.specs.Totals.{noTotals, withStep, dayOfStep, totalsOf, totalsCount, monthPart, inPart, totalsAtPart, totalsAt, putTotals, totalsRecords, withTotals}
 use Rattle.jobs.proofs.RowStores.{RowFits}
-use Rattle.jobs.proofs.TotalsRecords.{records-same, put-among}
-use Rattle.jobs.proofs.TotalsLaws.{part-next, month-from, month-to, day-to, day-in, month-in, no-other, totals-read}
+use Rattle.jobs.proofs.TotalsRecords.{length-records, length-putTotals, put-among}
+use Rattle.jobs.proofs.TotalsLaws.{totals-few, part-next, month-from, month-to, day-to, day-in, month-in, no-other, totals-read}
 use Rattle.totals.specs.Kept.{emptied, withRowAdded}
+
+-- 64 bits hold the number of any step
+pub small : (i : ℕ) → i < 35137 → i < 2 ^ 64
+small i h = lt-trans h (lit< tt)
 
 -- before the first step
 pub none-added : (leap : Bool) (run : Run) (results totals : List ℕ) → emptied leap totals ≡ withTotals leap run results 0 totals
 unfolding emptied withTotals totalsAtPart totalsOf
 none-added leap run results totals = refl
 
+-- emptying leaves the bytes behind
+behind-emptied : (leap : Bool) (totals : List ℕ) → drop (24 * totalsCount leap) (emptied leap totals) ≡ drop (24 * totalsCount leap) totals
+unfolding emptied
+behind-emptied leap totals =
+    drop-at (totalsRecords (λ (k : ℕ). noTotals) (totalsCount leap) 0) (drop (24 * totalsCount leap) totals) (24 * totalsCount leap) (length-records (λ (k : ℕ). noTotals) (totalsCount leap) 0)
+
+pub emptied-again : (leap : Bool) (totals : List ℕ) → emptied leap totals ≡ emptied leap (emptied leap totals)
+unfolding emptied
+emptied-again leap totals = ap (λ (rest : List ℕ). totalsRecords (λ (k : ℕ). noTotals) (totalsCount leap) 0 ++ rest) (sym (behind-emptied leap totals))
+
+-- so it makes no difference to the totals whether the list was emptied
+pub over-emptied : (leap : Bool) (run : Run) (results : List ℕ) (n : ℕ) (totals : List ℕ)
+    → withTotals leap run results n (emptied leap totals) ≡ withTotals leap run results n totals
+unfolding withTotals
+over-emptied leap run results n totals =
+    ap (λ (rest : List ℕ). totalsRecords (totalsAtPart leap run results n) (totalsCount leap) 0 ++ rest) (behind-emptied leap totals)
+
+-- so long are they as before
+pub length-added : (leap : Bool) (day : ℕ) (step : Float) (row : Row) (totals : List ℕ) → length (withRowAdded leap day step row totals) ≡ length totals
+unfolding withRowAdded
+length-added leap day step row totals = length-putTotals _ _ _ ∙ length-putTotals totals day _
+
+-- no record counts more steps than there are rows
+pub few-added : (leap : Bool) (run : Run) (results totals : List ℕ) (i k : ℕ) → i < 35137 → k < totalsCount leap
+    → totalsAt (withTotals leap run results i totals) k .count < 35137
+unfolding totalsAtPart
+few-added leap run results totals i k h l =
+    let few : totalsAt (withTotals leap run results i totals) k .count ≤ i =
+    subst (λ (t : Totals). t .count ≤ i) (sym (totals-read leap run results i totals (small i h) k l)) (totals-few (inPart leap k) run results i) in
+    omega (arith, few, h)
+
 -- each row, whose day is one of the year's
 module _ (leap : Bool) (run : Run) (results totals : List ℕ) (i : ℕ) (row : Row)
-  (room : 6 * i + 6 ≤ wordCount results) (fits : RowFits row) (few : i < 2 ^ 64) (h : dayOfStep run i < daysInYear leap) where
+    (room : 6 * i + 6 ≤ wordCount results) (fits : RowFits row) (few : i < 35137) (h : dayOfStep run i < daysInYear leap) where
   abbrev day : ℕ
   day = dayOfStep run i
 
@@ -74,7 +113,7 @@ module _ (leap : Bool) (run : Run) (results totals : List ℕ) (i : ℕ) (row : 
   row-added =
       let count : ℕ = totalsCount leap in
       let before : List ℕ = totalsRecords old count 0 ++ rest in
-      let read : (k : ℕ) → k < count → totalsAt before k ≡ old k = λ k l. totals-read leap run results i totals few k l in
+      let read : (k : ℕ) → k < count → totalsAt before k ≡ old k = λ k l. totals-read leap run results i totals (small i few) k l in
       let first : putTotals before day (withStep (run .step) (totalsAt before day) row) ≡ totalsRecords ofDay count 0 ++ rest =
       ap (λ (t : Totals). putTotals before day (withStep (run .step) t row)) (read day (day-to leap day h))
       ∙ put-among old count rest day (day-to leap day h) ofDay (added day) of-day (λ k l o. sym (of-others k o)) in

@@ -8,7 +8,7 @@ use Rattle.simulation_time.specs.RunChecks.{runAccepted, checkedRun}
 use Rattle.simulation_time.proofs.HoursOfSteps.{checked-count}
 use Rattle.jobs.specs.Job.{Job, jobOf}
 use Rattle.jobs.specs.Run.{lent, roomFine}
-use Rattle.sun.specs.Site.{hoursInYear}
+use Rattle.sun.specs.Site.{leapYear, hoursInYear}
 use Rattle.runs.proofs.CheckSteps.{site-refused, run-refused, surface-refused, object-refused, first-passed, start-day}
 use borrow.Author.Needs.{needs}
 use Rattle.runs.proofs.run.check_job.Statement.{statement}
@@ -20,13 +20,13 @@ job c =
     jobOf (a .site) (a .run) (a .surface) (now (a .diffuse)) (now (a .direct)) (now (a .reflectivity)) (now (a .sectors)) (now (a .window))
 
 abbrev room : tie.Start → Bool
-room s = roomFine (s .args .run) (lent (now (s .args .days)) (now (s .args .results)))
+room s = roomFine (leapYear (s .args .site)) (s .args .run) (lent (now (s .args .days)) (now (s .args .totals)) (now (s .args .results)))
 
 site-fine-requires : tie.Need-site-fine-requires
 site-fine-requires c κs = search needs
 
 returns : tie.Need-returns
-returns c = let s = c .before .before .before .before .before .before .before .before .before in site-refused (job s) (room s) (sym (c .before .site-fine .ensures) ∙ not-true _ (c .if1 .taken))
+returns c = let s = c .before .before .before .before .before .before .before .before .before .before in site-refused (job s) (room s) (sym (c .before .site-fine .ensures) ∙ not-true _ (c .if1 .taken))
 
 hours-in-year-requires : tie.Need-hours-in-year-requires
 hours-in-year-requires c κs = search needs
@@ -37,7 +37,7 @@ check-run-requires c κs = search needs
 returns-2 : tie.Need-returns-2
 unfolding checkedRun
 returns-2 c =
-    let s = c .before .before .before .before .before .before .before .before .before .before .before .before .before in
+    let s = c .before .before .before .before .before .before .before .before .before .before .before .before .before .before in
     let site = sym (c .before .before .before .before .before .site-fine .ensures) ∙ not-false _ (c .before .before .before .before .if1 .left) in
     let h = c .before .before .check-run .ensures ∙ ap (λ n. checkedRun n (s .args .run)) (c .before .before .before .hours-in-year .ensures) in let steps : runAccepted (hoursInYear (s .args .site)) (s .args .run) ≡ false = sym (ap (λ x. x .fine) h) ∙ not-true _ (c .if2 .taken) in
     run-refused (job s) (room s) site steps
@@ -48,7 +48,7 @@ surface-fine-requires c κs = search needs
 returns-3 : tie.Need-returns-3
 unfolding checkedRun
 returns-3 c =
-    let s = c .before .before .before .before .before .before .before .before .before .before .before .before .before .before .before in
+    let s = c .before .before .before .before .before .before .before .before .before .before .before .before .before .before .before .before in
     let site = sym (c .before .before .before .before .before .before .before .site-fine .ensures) ∙ not-false _ (c .before .before .before .before .before .before .if1 .left) in
     let h = c .before .before .before .before .check-run .ensures ∙ ap (λ n. checkedRun n (s .args .run)) (c .before .before .before .before .before .hours-in-year .ensures) in let steps : runAccepted (hoursInYear (s .args .site)) (s .args .run) ≡ true = sym (ap (λ x. x .fine) h) ∙ not-false _ (c .before .before .if2 .left) in
     surface-refused (job s) (room s) site steps (sym (c .before .surface-fine .ensures) ∙ not-true _ (c .if3 .taken))
@@ -62,7 +62,7 @@ window-fine-requires c κs = search needs
 returns-4 : tie.Need-returns-4
 unfolding checkedRun
 returns-4 c =
-    let s = c .before .before .before .before .before .before .before .before .before .before .before .before .before .before .before .before .before .before in
+    let s = c .before .before .before .before .before .before .before .before .before .before .before .before .before .before .before .before .before .before .before in
     let site = sym (c .before .before .before .before .before .before .before .before .before .before .site-fine .ensures) ∙ not-false _ (c .before .before .before .before .before .before .before .before .before .if1 .left) in
     let h = c .before .before .before .before .before .before .before .check-run .ensures ∙ ap (λ n. checkedRun n (s .args .run)) (c .before .before .before .before .before .before .before .before .hours-in-year .ensures) in let steps : runAccepted (hoursInYear (s .args .site)) (s .args .run) ≡ true = sym (ap (λ x. x .fine) h) ∙ not-false _ (c .before .before .before .before .before .if2 .left) in
     let surface = sym (c .before .before .before .before .surface-fine .ensures) ∙ not-false _ (c .before .before .before .if3 .left) in
@@ -70,7 +70,7 @@ returns-4 c =
 
 cast-check-series : tie.Need-cast-check-series
 cast-check-series c =
-    let s = c .before .before .before .before .before .before .before .before .before .before .before .before .before .before .before .before .before .before .before in
+    let s = c .before .before .before .before .before .before .before .before .before .before .before .before .before .before .before .before .before .before .before .before in
     let site = sym (c .before .before .before .before .before .before .before .before .before .before .before .site-fine .ensures) ∙ not-false _ (c .before .before .before .before .before .before .before .before .before .before .if1 .left) in
     let day = start-day (s .args .site) (subst T (sym site) tt) in
     search needs
@@ -78,20 +78,20 @@ cast-check-series c =
 check-series-requires : tie.Need-check-series-requires
 unfolding checkedRun
 check-series-requires c κs =
-    let s = c .before .before .before .before .before .before .before .before .before .before .before .before .before .before .before .before .before .before .before in
-    let site = sym (c .before .before .before .before .before .before .before .before .before .before .before .site-fine .ensures) ∙ not-false _ (c .before .before .before .before .before .before .before .before .before .before .if1 .left) in
-    let h = c .before .before .before .before .before .before .before .before .check-run .ensures ∙ ap (λ n. checkedRun n (s .args .run)) (c .before .before .before .before .before .before .before .before .before .hours-in-year .ensures) in let steps : runAccepted (hoursInYear (s .args .site)) (s .args .run) ≡ true = sym (ap (λ x. x .fine) h) ∙ not-false _ (c .before .before .before .before .before .before .if2 .left) in
+    let s = c .before .before .before .before .before .before .before .before .before .before .before .before .before .before .before .before .before .before .before .before .before in
+    let site = sym (c .before .before .before .before .before .before .before .before .before .before .before .before .site-fine .ensures) ∙ not-false _ (c .before .before .before .before .before .before .before .before .before .before .before .if1 .left) in
+    let h = c .before .before .before .before .before .before .before .before .before .check-run .ensures ∙ ap (λ n. checkedRun n (s .args .run)) (c .before .before .before .before .before .before .before .before .before .before .hours-in-year .ensures) in let steps : runAccepted (hoursInYear (s .args .site)) (s .args .run) ≡ true = sym (ap (λ x. x .fine) h) ∙ not-false _ (c .before .before .before .before .before .before .before .if2 .left) in
     ap (λ x. x .count) h ∙ checked-count (hoursInYear (s .args .site)) (s .args .run) steps
 
 returns-5 : tie.Need-returns-5
 unfolding checkedRun
 returns-5 c =
-    let s = c .before .before .before .before .before .before .before .before .before .before .before .before .before .before .before .before .before .before .before .before in
-    let site = sym (c .before .before .before .before .before .before .before .before .before .before .before .before .site-fine .ensures) ∙ not-false _ (c .before .before .before .before .before .before .before .before .before .before .before .if1 .left) in
-    let h = c .before .before .before .before .before .before .before .before .before .check-run .ensures ∙ ap (λ n. checkedRun n (s .args .run)) (c .before .before .before .before .before .before .before .before .before .before .hours-in-year .ensures) in let steps : runAccepted (hoursInYear (s .args .site)) (s .args .run) ≡ true = sym (ap (λ x. x .fine) h) ∙ not-false _ (c .before .before .before .before .before .before .before .if2 .left) in
-    let surface = sym (c .before .before .before .before .before .before .surface-fine .ensures) ∙ not-false _ (c .before .before .before .before .before .if3 .left) in
+    let s = c .before .before .before .before .before .before .before .before .before .before .before .before .before .before .before .before .before .before .before .before .before .before in
+    let site = sym (c .before .before .before .before .before .before .before .before .before .before .before .before .before .site-fine .ensures) ∙ not-false _ (c .before .before .before .before .before .before .before .before .before .before .before .before .if1 .left) in
+    let h = c .before .before .before .before .before .before .before .before .before .before .check-run .ensures ∙ ap (λ n. checkedRun n (s .args .run)) (c .before .before .before .before .before .before .before .before .before .before .before .hours-in-year .ensures) in let steps : runAccepted (hoursInYear (s .args .site)) (s .args .run) ≡ true = sym (ap (λ x. x .fine) h) ∙ not-false _ (c .before .before .before .before .before .before .before .before .if2 .left) in
+    let surface = sym (c .before .before .before .before .before .before .before .surface-fine .ensures) ∙ not-false _ (c .before .before .before .before .before .before .if3 .left) in
     c .check-series .ensures
-    ∙ first-passed (job s) (room s) site steps surface (sym (ap₂ _&&_ (c .before .before .before .before .sectors-fine .ensures) (c .before .before .before .window-fine .ensures)) ∙ not-false _ (c .before .before .if4 .left))
+    ∙ first-passed (job s) (room s) site steps surface (sym (ap₂ _&&_ (c .before .before .before .before .before .sectors-fine .ensures) (c .before .before .before .before .window-fine .ensures)) ∙ not-false _ (c .before .before .before .if4 .left))
 
 pub check-job-spec : {M : Type 1} → statement M
 check-job-spec =

@@ -27,27 +27,27 @@ unfolding times
 readings s b e = let a = s .args in sym (e ∙ ap (λ n. readingsFine (a .start-day) (a .series-step) (now (a .diffuse)) (now (a .direct)) (now (a .reflectivity)) (timesFrom n (a .run .step) (a .run .start))) (s .pre))
 
 abbrev room : tie.Start → Bool
-room s = roomFine (s .args .run) (lent (now (s .args .days)) (now (s .args .results)))
+room s = roomFine (s .args .leap) (s .args .run) (lent (now (s .args .days)) (now (s .args .totals)) (now (s .args .results)))
 
 series-fine-requires : tie.Need-series-fine-requires
 series-fine-requires c κs = tt
 
 returns : tie.Need-returns
-returns c = let s = c .before .before .before .before .before .before .before .before in series-refused (s .args .start-day) (s .args .series-step) (s .args .run) (now (s .args .diffuse)) (now (s .args .direct)) (now (s .args .reflectivity)) (room s) (indices s _ (c .before .before .series-fine .ensures .0) ∙ not-true _ (c .if1 .taken))
+returns c = let s = c .before .before .before .before .before .before .before .before .before in series-refused (s .args .start-day) (s .args .series-step) (s .args .run) (now (s .args .diffuse)) (now (s .args .direct)) (now (s .args .reflectivity)) (room s) (indices s _ (c .before .before .series-fine .ensures .0) ∙ not-true _ (c .if1 .taken))
 
 returns-2 : tie.Need-returns-2
 returns-2 c =
-    let s = c .before .before .before .before .before .before .before .before .before .before in
+    let s = c .before .before .before .before .before .before .before .before .before .before .before in
     let fine = c .before .before .before .before .series-fine .ensures in
     let i = indices s _ (fine .0) ∙ not-false _ (c .before .before .if1 .left) in
     reading-refused (s .args .start-day) (s .args .series-step) (s .args .run) (now (s .args .diffuse)) (now (s .args .direct)) (now (s .args .reflectivity)) (room s) i (readings s _ (fine .1) ∙ not-true _ (c .if2 .taken))
 
 room-fine-requires : tie.Need-room-fine-requires
-room-fine-requires c κs = c .before .before .before .before .before .before .before .before .before .before .pre
+room-fine-requires c κs = c .before .before .before .before .before .before .before .before .before .before .before .pre
 
 returns-3 : tie.Need-returns-3
 returns-3 c =
-    let s = c .before .before .before .before .before .before .before .before .before .before .before .before in
+    let s = c .before .before .before .before .before .before .before .before .before .before .before .before .before in
     let fine = c .before .before .before .before .before .before .series-fine .ensures in
     let i = indices s _ (fine .0) ∙ not-false _ (c .before .before .before .before .if1 .left) in
     let r = readings s _ (fine .1) ∙ not-false _ (c .before .before .if2 .left) in
@@ -55,7 +55,7 @@ returns-3 c =
 
 returns-4 : tie.Need-returns-4
 returns-4 c =
-    let s = c .before .before .before .before .before .before .before .before .before .before .before .before in
+    let s = c .before .before .before .before .before .before .before .before .before .before .before .before .before in
     let fine = c .before .before .before .before .before .before .series-fine .ensures in
     let i = indices s _ (fine .0) ∙ not-false _ (c .before .before .before .before .if1 .left) in
     let r = readings s _ (fine .1) ∙ not-false _ (c .before .before .if2 .left) in

@@ -2,10 +2,11 @@
 -- that of its hour, and so is the factor where it is shaded.
 use mathlib.Core.Path.{_≡_, refl, sym, _∙_, ap, subst}
 use mathlib.Core.Bool.{Bool, true, false, not}
+use mathlib.Core.List.{List}
 use mathlib.Core.Logic.{⊎-elim}
 use lib.Dec.{T}
 use lib.Ieee.{Float, ofBits}
-use Prim.Native.Nat.{ℕ, suc, _+_, _-_, _/_, _≤_, _<_}
+use Prim.Native.Nat.{ℕ, suc, _+_, _-_, _*_, _/_, _≤_, _<_}
 use native.Mathlib.Omega.{arith}
 use borrow.Author.Needs.{needs}
 use denote.Ref.{now}
@@ -25,20 +26,28 @@ use Rattle.object_checks.proofs.ReadableSectors.{readable}
 use Rattle.object_checks.proofs.AcceptedWindow.{window-count, window-places}
 use Rattle.shading.proofs.SunPlaces.{index-fits, factor-by-table}
 use Rattle.jobs.specs.Job.{Job, jobOf, indexAt, readingAt}
-use Rattle.jobs.specs.Step.{shadingAt}
+use Rattle.jobs.specs.Step.{shadingAt, stepAt}
+use Rattle.jobs.specs.declared.answers.StepAnswer.the-variants as step
 use Rattle.jobs.specs.declared.answers.RunAnswer.{RunAnswer}
-use Rattle.jobs.specs.Run.{ran, runFrom}
-use Rattle.jobs.proofs.PassedChecks.{hour-of-leap-year}
+use Rattle.words.specs.Words.{wordCount}
+use Rattle.calendar.specs.Calendar.{daysInYear}
+use Rattle.sun.specs.Site.{leapYear}
+use Rattle.jobs.specs.Rows.{putRow, withRow}
+use Rattle.jobs.specs.Totals.{dayOfStep, withTotals}
+use Rattle.jobs.specs.Run.{ran, runFrom, rowsStored}
+use Rattle.jobs.proofs.PassedChecks.{hour-of-leap-year, day-of-year}
+use Rattle.jobs.proofs.TotalsLaws.{day-to, month-to}
 use Rattle.jobs.proofs.RowStores.{length-putRow}
 use Rattle.steps.specs.Kept.{fixedOf, keptDay, keptHour}
 use Rattle.steps.proofs.StepKept.{kept-factor, by-kept, its-hour, of-its-hour, day-of-its-hour, of-its-day}
 use Rattle.runs.proofs.CheckSteps.{start-day}
-use Rattle.runs.proofs.StepByStep.{job-step, row-next, refused-here, at-end, at-start}
+use Rattle.totals.proofs.Kept.{none-added, length-added}
+use Rattle.runs.proofs.StepByStep.{job-step, row-next, refused-here, at-end, at-start, totals-next, few-counted}
 use Rattle.runs.proofs.run.run_steps.Statement.{statement}
 use Rattle.runs.proofs.run.run_steps.Tie as tie
 
 abbrev Inv-loop : tie.InvT-loop
-Inv-loop site run count surface diffuse direct reflectivity sectors window days results₀ objects n places fixed day₀ kept₀ factor₀ shaded₀ time₀ sum₀ i₀ results day kept factor shaded time sum i =
+Inv-loop site run count surface diffuse direct reflectivity sectors window days totals₀ results₀ leap objects n places fixed day₀ kept₀ factor₀ shaded₀ time₀ sum₀ i₀ totals results day kept factor shaded time sum i =
     (i ≤ count)
     × (length results ≡ length results₀)
     × (fixed ≡ fixedOf site surface)
@@ -51,9 +60,11 @@ Inv-loop site run count surface diffuse direct reflectivity sectors window days 
     × (time ≡ timeAt run i)
     × (runFrom (count - i) (jobOf site run surface diffuse direct reflectivity sectors window) i time sum results
     ≡ runFrom count (jobOf site run surface diffuse direct reflectivity sectors window) 0 (run .start) (whole 0) results₀)
+    × (length totals ≡ length totals₀)
+    × (totals ≡ withTotals (leapYear site) run results i totals₀)
 
 abbrev μ-loop : tie.MeasureT-loop
-μ-loop site run count surface diffuse direct reflectivity sectors window days results₀ objects n places fixed day₀ kept₀ factor₀ shaded₀ time₀ sum₀ i₀ results day kept factor shaded time sum i = count - i
+μ-loop site run count surface diffuse direct reflectivity sectors window days totals₀ results₀ leap objects n places fixed day₀ kept₀ factor₀ shaded₀ time₀ sum₀ i₀ totals results day kept factor shaded time sum i = count - i
 
 few-sectors : (c : tie.Start Inv-loop μ-loop) (n : ℕ) → n ≡ sectorCount (now (c .args .sectors)) → n ≤ 36
 few-sectors c n e = subst (λ (m : ℕ). m ≤ 36) (sym e) (sector-count (now (c .args .sectors)) (subst T (sym (c .pre .1 .1 .1 .0)) tt))
@@ -67,14 +78,14 @@ job c =
     jobOf (a .site) (a .run) (a .surface) (now (a .diffuse)) (now (a .direct)) (now (a .reflectivity)) (now (a .sectors)) (now (a .window))
 
 window-of-requires : tie.Need-window-of-requires Inv-loop μ-loop
-window-of-requires c κs = let s = c .before .before .before .before .before .before .before in window-count (now (s .args .window)) (subst T (sym (s .pre .1 .1 .1 .1 .0)) tt)
+window-of-requires c κs = let s = c .before .before .before .before .before .before .before .before .before in window-count (now (s .args .window)) (subst T (sym (s .pre .1 .1 .1 .1 .0)) tt)
 
 sector-count-requires : tie.Need-sector-count-requires Inv-loop μ-loop
 sector-count-requires c κs = tt
 
 sectors-of-requires : tie.Need-sectors-of-requires Inv-loop μ-loop
 sectors-of-requires c κs =
-    let s = c .before .before .before .before .before .before .before .before .before in
+    let s = c .before .before .before .before .before .before .before .before .before .before .before in
     let count = c .sector-count .ensures in
     (readable (now (s .args .sectors)) (subst T (sym (s .pre .1 .1 .1 .0)) tt), omega (arith, count))
 
@@ -82,7 +93,7 @@ fixed-of-requires : tie.Need-fixed-of-requires Inv-loop μ-loop
 fixed-of-requires c κs = tt
 
 read-day-requires : tie.Need-read-day-requires Inv-loop μ-loop
-read-day-requires c κs = (c .before .before .before .before .before .before .before .before .before .before .before .pre .1 .1 .1 .1 .1, omega arith)
+read-day-requires c κs = (c .before .before .before .before .before .before .before .before .before .before .before .before .before .pre .1 .1 .1 .1 .1 .0, omega arith)
 
 kept-hour-requires : tie.Need-kept-hour-requires Inv-loop μ-loop
 kept-hour-requires c κs = (c .before .fixed-of .ensures, c .read-day .ensures)
@@ -93,7 +104,7 @@ never e = absurd (subst T (sym e) tt)
 loop-holds : tie.Need-loop-holds Inv-loop μ-loop
 unfolding ofBits whole placed timeAt
 loop-holds c =
-    let s = c .before .before .before .before .before .before .before .before .before .before .before .before .before in
+    let s = c .before .before .before .before .before .before .before .before .before .before .before .before .before .before .before in
     let count = c .before .before .before .before .sector-count .ensures in
     let few = few-sectors s _ count in (
       omega arith,
@@ -107,6 +118,8 @@ loop-holds c =
       λ e. never e,
       refl,
       at-start (job s) (s .args .count) (now (s .args .results)),
+      refl,
+      s .pre .1 .1 .1 .1 .1 .1 .0 ∙ none-added (leapYear (s .args .site)) (s .args .run) (now (s .args .results)) (now (s .args .totals)),
     )
 
 current-hour-requires : tie.Need-current-hour-requires Inv-loop μ-loop
@@ -121,9 +134,9 @@ day-there s i time e h =
 day-for-requires : tie.Need-day-for-requires Inv-loop μ-loop
 day-for-requires c κs =
     let l = c .before .before .before .before in
-    let s = l .before .before .before .before .before .before .before .before .before .before .before .before .before .before in
+    let s = l .before .before .before .before .before .before .before .before .before .before .before .before .before .before .before .before in
     let there = day-there s (l .loop .i) (l .loop .time) (l .loop .inv .9) (c .before .before .before .loop-test .taken) in
-    (s .pre .1 .1 .1 .1 .1, (subst (λ (h : ℕ). h / 24 < 366) (sym (c .before .before .current-hour .ensures)) there, of-its-day _ _ (l .loop .inv .6)))
+    (s .pre .1 .1 .1 .1 .1 .0, (subst (λ (h : ℕ). h / 24 < 366) (sym (c .before .before .current-hour .ensures)) there, of-its-day _ _ (l .loop .inv .6)))
 
 kept-hour-requires-2 : tie.Need-kept-hour-requires-2 Inv-loop μ-loop
 kept-hour-requires-2 c κs = (c .before .before .before .before .before .loop .inv .2, c .day-for .ensures)
@@ -131,13 +144,13 @@ kept-hour-requires-2 c κs = (c .before .before .before .before .before .loop .i
 -- the day and the hour that the step goes by, and its factor where it is shaded, whichever way they came
 kept-now : (c : tie.Joined1 Inv-loop μ-loop)
     → let l = c .before .before .before .before in
-    let s = l .before .before .before .before .before .before .before .before .before .before .before .before .before .before in
+    let s = l .before .before .before .before .before .before .before .before .before .before .before .before .before .before .before .before in
     (c .if1 .day ≡ keptDay (currentHour (l .loop .time) / 24))
     × (c .if1 .kept ≡ keptHour (s .args .site) (s .args .surface) (currentHour (l .loop .time)))
     × (c .if1 .shaded ≡ true → l .loop .factor ≡ shadingAt (s .args .surface) (hourOf (s .args .site) (currentHour (l .loop .time))) (now (s .args .sectors)) (now (s .args .window)))
 kept-now c =
     let l = c .before .before .before .before in
-    let a = l .before .before .before .before .before .before .before .before .before .before .before .before .before .before .args in
+    let a = l .before .before .before .before .before .before .before .before .before .before .before .before .before .before .before .before .args in
     let q = l .loop .inv in
     let same = c .before .before .current-hour .ensures in
     let hour = keptHour (a .site) (a .surface) in
@@ -161,7 +174,7 @@ place-index-requires c κs = tt
 there : (c : tie.After-place-index Inv-loop μ-loop) → c .place-index .result < 36
 there c =
     let l = c .before .before .before .before .before .before .before in
-    let a = l .before .before .before .before .before .before .before .before .before .before .before .before .before .before .args in
+    let a = l .before .before .before .before .before .before .before .before .before .before .before .before .before .before .before .before .args in
     subst (λ (i : ℕ). i < 36) (sym (c .place-index .ensures)) (index-fits (a .surface) _ _ _ _ (l .loop .inv .4) _ (c .before .sun-place .ensures))
 
 mul-segment : tie.Need-mul-segment Inv-loop μ-loop
@@ -180,11 +193,11 @@ holds false e = sym e
 -- the factor that the step goes by, whichever way it came
 factor-now : (c : tie.Joined2 Inv-loop μ-loop)
     → let l = c .before .before .before .before .before in
-    let s = l .before .before .before .before .before .before .before .before .before .before .before .before .before .before in
+    let s = l .before .before .before .before .before .before .before .before .before .before .before .before .before .before .before .before in
     c .if2 .factor ≡ shadingAt (s .args .surface) (hourOf (s .args .site) (currentHour (l .loop .time))) (now (s .args .sectors)) (now (s .args .window))
 factor-now c =
     let l = c .before .before .before .before .before in
-    let s = l .before .before .before .before .before .before .before .before .before .before .before .before .before .before in
+    let s = l .before .before .before .before .before .before .before .before .before .before .before .before .before .before .before .before in
     let a = s .args in
     let q = l .loop .inv in
     let kept = kept-now (c .before) in
@@ -197,7 +210,7 @@ factor-now c =
     (c .if2 .came)
 
 step-at-requires : tie.Need-step-at-requires Inv-loop μ-loop
-step-at-requires c κs = let s = c .before .before .before .before .before .before .before .before .before .before .before .before .before .before .before .before .before .before .before in start-day (s .args .site) (subst T (sym (s .pre .0)) tt)
+step-at-requires c κs = let s = c .before .before .before .before .before .before .before .before .before .before .before .before .before .before .before .before .before .before .before .before .before in start-day (s .args .site) (subst T (sym (s .pre .0)) tt)
 
 enum-known-answer : tie.Need-enum-known-answer Inv-loop μ-loop
 enum-known-answer c = search needs
@@ -206,34 +219,58 @@ refused-at-requires : tie.Need-refused-at-requires Inv-loop μ-loop
 refused-at-requires c κs = tt
 
 same-length : tie.Need-same-length Inv-loop μ-loop
-same-length c = c .before .before .before .before .before .before .before .before .before .before .loop .inv .1
+same-length c = c .before .before .before .before .before .before .before .before .before .before .loop .inv .11
+
+same-length-2 : tie.Need-same-length-2 Inv-loop μ-loop
+same-length-2 c = c .before .before .before .before .before .before .before .before .before .before .loop .inv .1
 
 returns : tie.Need-returns Inv-loop μ-loop
-unfolding readingAt indexAt
+unfolding readingAt indexAt rowsStored
 returns c =
     let j = c .before .before .before .before .before in
     let l = j .before .before .before .before .before in
-    let s = l .before .before .before .before .before .before .before .before .before .before .before .before .before .before in
+    let s = l .before .before .before .before .before .before .before .before .before .before .before .before .before .before .before .before in
     let q = l .loop in
     let e = job-step (job s) (q .time) _ (by-kept (s .args .site) (s .args .surface) (now (s .args .sectors)) (now (s .args .window)) (q .time) (readingAt (job s) (q .time)) _ _ _ _ (q .inv .2) (kept-now (j .before) .1) (factor-now j) (c .before .before .before .before .step-at .ensures)) in
-    ap (λ (r : RunAnswer). ran r (q .results)) (c .refused-at .ensures)
-    ∙ refused-here (job s) (s .args .count) (q .i) (q .time) (q .sum) (q .results) _ (sym e ∙ c .before .before .answer .given .1) (omega (arith, j .before .before .before .before .loop-test .taken))
-    ∙ q .inv .10
+    let below : q .i < s .args .count = omega (arith, j .before .before .before .before .loop-test .taken) in (
+      ap (λ (r : RunAnswer). ran r (q .results)) (c .refused-at .ensures)
+          ∙ refused-here (job s) (s .args .count) (q .i) (q .time) (q .sum) (q .results) _ (sym e ∙ c .before .before .answer .given .1) below
+          ∙ q .inv .10,
+      q .inv .12 ∙ ap (λ (r : RunAnswer). withTotals (leapYear (s .args .site)) (s .args .run) (q .results) (rowsStored r) (now (s .args .totals))) (sym (c .refused-at .ensures)),
+    )
 
 enum-known-answer-2 : tie.Need-enum-known-answer-2 Inv-loop μ-loop
 enum-known-answer-2 c = search needs
 
-store-row-requires : tie.Need-store-row-requires Inv-loop μ-loop
-store-row-requires c κs = let j = c .before .before .before .before .before in let s = j .before .before .before .before .before .before .before .before .before .before .before .before .before .before .before .before .before .before .before in omega (arith, j .before .before .before .before .loop-test .taken, few-steps s)
+-- what the totals have where the loop goes on
+module _ (s : tie.Start Inv-loop μ-loop) (i : ℕ) (h : i < s .args .count) where
+  few : i < 35137
+  few = omega (arith, h, few-steps s)
 
-with-row-requires : tie.Need-with-row-requires Inv-loop μ-loop
-with-row-requires c κs = tt
+  day-of : dayOfStep (s .args .run) i < daysInYear (leapYear (s .args .site))
+  day-of = day-of-year (s .args .site) (s .args .run) (subst T (sym (s .pre .1 .0)) tt) i (subst (λ (n : ℕ). i < n) (s .pre .1 .1 .0) h)
+
+  room : (results : List ℕ) → length results ≡ length (now (s .args .results)) → 6 * i + 6 ≤ wordCount results
+  room results e = let fits = s .pre .1 .1 .1 .1 .1 .1 .1 in unfold wordCount in omega (arith, e, h, fits)
+
+keep-row-requires : tie.Need-keep-row-requires Inv-loop μ-loop
+keep-row-requires c κs =
+    let j = c .before .before .before .before .before .before in
+    let l = j .before .before .before .before .before in
+    let s = l .before .before .before .before .before .before .before .before .before .before .before .before .before .before .before .before in
+    let q = l .loop in
+    let on = j .before .before .before .before .loop-test .taken in
+    let day = ap (λ (h : ℕ). h / 24) (j .before .before .before .current-hour .ensures) ∙ ap (λ (t : Float). currentHour t / 24) (q .inv .9) in
+    let leap = leapYear (s .args .site) in
+    let there = subst (λ (d : ℕ). d < daysInYear leap) (sym day) (day-of s (q .i) on) in
+    let counted = few-counted (job s) (q .i) (q .results) (now (s .args .totals)) (q .totals) (few s (q .i) on) (room s (q .i) on (q .results) (q .inv .1)) (day-of s (q .i) on) (q .inv .12) in
+    (few s (q .i) on, (there, (counted _ (day-to leap _ there), counted _ (month-to leap _ there))))
 
 add-i : tie.Need-add-i Inv-loop μ-loop
-add-i c = let j = c .before .before .before .before .before .before .before .before .before .before in let s = j .before .before .before .before .before .before .before .before .before .before .before .before .before .before .before .before .before .before .before in omega (arith, j .before .before .before .before .loop-test .taken, few-steps s)
+add-i c = let j = c .before .before .before .before .before .before .before .before .before .before .before .before in let s = j .before .before .before .before .before .before .before .before .before .before .before .before .before .before .before .before .before .before .before .before .before in omega (arith, j .before .before .before .before .loop-test .taken, few-steps s)
 
 loop-less : tie.Need-loop-less Inv-loop μ-loop
-loop-less c = let j = c .before .before .before .before .before .before .before .before .before .before in omega (arith, j .before .before .before .before .loop-test .taken)
+loop-less c = let j = c .before .before .before .before .before .before .before .before .before .before .before .before in omega (arith, j .before .before .before .before .loop-test .taken)
 
 next-time : (run : Run) (i : ℕ) → timeAt run i ⊕ run .step ≡ timeAt run (i + 1)
 unfolding timeAt
@@ -242,19 +279,22 @@ next-time run i = let e : i + 1 ≡ suc i = omega arith in rw e
 loop-again : tie.Need-loop-again Inv-loop μ-loop
 unfolding readingAt indexAt
 loop-again c =
-    let j = c .before .before .before .before .before .before .before .before .before .before in
+    let j = c .before .before .before .before .before .before .before .before .before .before .before .before in
     let l = j .before .before .before .before .before in
-    let s = l .before .before .before .before .before .before .before .before .before .before .before .before .before .before in
+    let s = l .before .before .before .before .before .before .before .before .before .before .before .before .before .before .before .before in
     let a = s .args in
     let q = l .loop in
-    let row = c .before .before .before .before .before .before .before .answer2 .given .0 .0 in
+    let row = c .before .before .before .before .before .before .before .before .before .answer2 .given .0 .0 in
     let kept = kept-now (j .before) in
     let hour = its-hour (a .site) (a .surface) _ _ (kept .1) in
     let shade : ℕ → FactorAnswer = λ (h : ℕ). shadingAt (a .surface) (hourOf (a .site) h) (now (a .sectors)) (now (a .window)) in
-    let e = job-step (job s) (q .time) _ (by-kept (a .site) (a .surface) (now (a .sectors)) (now (a .window)) (q .time) (readingAt (job s) (q .time)) _ _ _ _ (q .inv .2) (kept .1) (factor-now j) (c .before .before .before .before .before .before .before .before .before .step-at .ensures)) in
+    let e = job-step (job s) (q .time) _ (by-kept (a .site) (a .surface) (now (a .sectors)) (now (a .window)) (q .time) (readingAt (job s) (q .time)) _ _ _ _ (q .inv .2) (kept .1) (factor-now j) (c .before .before .before .before .before .before .before .before .before .before .before .step-at .ensures)) in
     let on = j .before .before .before .before .loop-test .taken in
-    let stored = c .before .before .before .before .store-row .ensures in
-    let added = c .before .with-row .ensures in (
+    let kept-row = c .before .before .before .before .before .keep-row .ensures in
+    let stored = kept-row .1 .1 in
+    let added = kept-row .0 in
+    let here = sym e ∙ c .before .before .before .before .before .before .before .before .before .answer2 .given .1 in
+    let day = ap (λ (h : ℕ). h / 24) (j .before .before .before .current-hour .ensures) ∙ ap (λ (t : Float). currentHour t / 24) (q .inv .9) in (
       omega (arith, on),
       ap length stored ∙ length-putRow (q .results) (q .i) row ∙ q .inv .1,
       q .inv .2,
@@ -266,19 +306,28 @@ loop-again c =
       λ _. factor-now j ∙ ap shade (sym hour),
       ap (λ (t : Float). t ⊕ a .run .step) (q .inv .9) ∙ next-time (a .run) (q .i),
       (λ x. runFrom (a .count - (q .i + 1)) (job s) (q .i + 1) (q .time ⊕ a .run .step) (added x) (stored x))
-          ∙ row-next (job s) (a .count) (q .i) (q .time) (q .sum) (q .results) row (sym e ∙ c .before .before .before .before .before .before .before .answer2 .given .1) on
+          ∙ row-next (job s) (a .count) (q .i) (q .time) (q .sum) (q .results) row here on
           ∙ q .inv .10,
+      ap length (kept-row .1 .0) ∙ length-added _ _ _ row (q .totals) ∙ q .inv .11,
+      totals-next (job s) (q .i) (q .results) (now (a .totals)) (q .totals) (few s (q .i) on) (room s (q .i) on (q .results) (q .inv .1)) (day-of s (q .i) on) (q .inv .12) row _ _ _ (subst (λ (t : Float). stepAt (job s) t ≡ step.Row row) (q .inv .9) here) day (kept-row .1 .0) stored,
     )
 
-same-length-2 : tie.Need-same-length-2 Inv-loop μ-loop
-same-length-2 c = c .before .loop .inv .1
+same-length-3 : tie.Need-same-length-3 Inv-loop μ-loop
+same-length-3 c = c .before .loop .inv .11
+
+same-length-4 : tie.Need-same-length-4 Inv-loop μ-loop
+same-length-4 c = c .before .loop .inv .1
 
 returns-2 : tie.Need-returns-2 Inv-loop μ-loop
+unfolding rowsStored
 returns-2 c =
     let l = c .before in
-    let s = l .before .before .before .before .before .before .before .before .before .before .before .before .before .before in
+    let s = l .before .before .before .before .before .before .before .before .before .before .before .before .before .before .before .before in
     let q = l .loop in
-    at-end (job s) (s .args .count) (q .i) (q .time) (q .sum) (q .results) (omega (arith, c .loop-test .left, q .inv .0)) ∙ q .inv .10
+    let done : q .i ≡ s .args .count = omega (arith, c .loop-test .left, q .inv .0) in (
+      at-end (job s) (s .args .count) (q .i) (q .time) (q .sum) (q .results) done ∙ q .inv .10,
+      q .inv .12 ∙ ap (λ (n : ℕ). withTotals (leapYear (s .args .site)) (s .args .run) (q .results) n (now (s .args .totals))) done,
+    )
 
 pub run-steps-spec : {M : Type 1} → statement M
 run-steps-spec =
@@ -305,12 +354,13 @@ run-steps-spec =
     enum-known-answer
     refused-at-requires
     same-length
+    same-length-2
     returns
     enum-known-answer-2
-    store-row-requires
-    with-row-requires
+    keep-row-requires
     add-i
     loop-less
     loop-again
-    same-length-2
+    same-length-3
+    same-length-4
     returns-2)
