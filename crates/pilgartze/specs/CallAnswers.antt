@@ -27,9 +27,9 @@ factorFor (Refused r) = record { number = numberOf r; factor = whole 0 }
 
 -- ---- what a call leaves: its answer, and the lists at exit that it was lent to store in
 
--- the table of days, and the results
-unfoldable pub runLeaves : Left → Answer × List ℕ × List ℕ
-runLeaves left = (answerFor (left .ran .answer), left .days, left .ran .results)
+-- the table of days, the totals and the results
+unfoldable pub runLeaves : Left → Answer × List ℕ × List ℕ × List ℕ
+runLeaves left = (answerFor (left .ran .answer), left .days, left .totals, left .ran .results)
 
 unfoldable pub callLeaves : Called → ℕ × List ℕ
 callLeaves left = (singleNumber (left .answer), left .results)

@@ -1,5 +1,5 @@
-// The library that a C program links. Each function checks all that it is given, ends, and touches nothing but the results
-// and the table of days.
+// The library that a C program links. Each function checks all that it is given, ends, and touches nothing but the results,
+// the totals and the table of days.
 // `include/pilgartze.h` says the same for C.
 ghost use mathlib.Core.Path.{_≡_};
 ghost use Rattle.shading.specs.Call.{factorCall};
@@ -101,16 +101,16 @@ fn surface_of(tilt: f64, orientation: f64, base_height: f64, height: f64, width:
     }
 }
 
-// The version of the library that is linked: 3.0.0, as the header's PILGARTZE_VERSION.
+// The version of the library that is linked: 4.0.0, as the header's PILGARTZE_VERSION.
 #[no_mangle]
 pub extern "C" fn pilgartze_version() -> u64
     ensures { λ r. ⌜ r ≡ version ⌝ }
 {
-    3000000
+    4000000
 }
 
-// A run: the table of days, a row of six doubles for each step, and the sum of factor times direct times step. That height and width are
-// doubles is what the claim on two jobs compared asks of them (`Comparison` of `jobs`).
+// A run: the table of days, the totals of each day and month, a row of six doubles for each step, and the sum of factor times direct
+// times step. That height and width are doubles is what the claim on two jobs compared asks of them (`Comparison` of `jobs`).
 #[no_mangle]
 pub extern "C" fn pilgartze_run(
     latitude: f64,
@@ -134,13 +134,14 @@ pub extern "C" fn pilgartze_run(
     sectors: &[u8],
     window: &[u8],
     days: &mut [u8],
+    totals: &mut [u8],
     results: &mut [u8],
 ) -> Answer
-    ensures { λ r. ⌜ (r, now (days .exit), now (results .exit)) ≡ runLeaves (runOf
+    ensures { λ r. ⌜ (r, now (days .exit), now (totals .exit), now (results .exit)) ≡ runLeaves (runOf
         (jobOf (siteOf latitude longitude timezone «start_day» «series_step» «leap_year» «direct_beam_conversion»)
         (timesOf start end step) (surfaceOf tilt orientation «base_height» height width)
         (now (diffuse .entry)) (now (direct .entry)) (now (reflectivity .entry)) (now (sectors .entry)) (now (window .entry)))
-        (lent (now (days .entry)) (now (results .entry)))) ⌝ }
+        (lent (now (days .entry)) (now (totals .entry)) (now (results .entry)))) ⌝ }
     ensures { λ _. ⌜ Doubles (surfaceOf tilt orientation «base_height» height width) ⌝ }
 {
     let site = site_of(
@@ -168,6 +169,7 @@ pub extern "C" fn pilgartze_run(
         sectors,
         window,
         days,
+        totals,
         results,
     ))
 }

@@ -24,10 +24,10 @@ use Rattle.jobs.specs.JobChecks.{tried}
 use Rattle.jobs.specs.Job.{Job, readingAt}
 use Rattle.jobs.specs.Step.{stepAt}
 use Rattle.jobs.specs.Rows.{putRow}
-use Rattle.jobs.specs.Run.{Lent, runOf}
+use Rattle.jobs.specs.Run.{Lent, rowsStored, runOf}
 use Rattle.simulation_time.specs.Steps.{timeAt}
 use Rattle.jobs.proofs.RowStores.{Holding}
-use Rattle.jobs.proofs.RunLaws.{rowAt, filled, run-rows}
+use Rattle.jobs.proofs.RunLaws.{rowAt, run-rows}
 
 isAccepted : Single → Bool
 isAccepted Accepted = true
@@ -65,7 +65,7 @@ pub record RunsRow (job : Job) (r : Lent) (s : List ℕ) (i : ℕ) : Type 0 wher
   pub stored : stepCall (job .site) (timeAt (job .run) i) (job .surface) (readingAt job (timeAt (job .run) i)) (job .sectors) (job .window) s
       ≡ called Accepted (putRow s 0 (rowAt job i))
 
-pub runs-row : (job : Job) (r : Lent) (s : List ℕ) (i : ℕ) → i < filled (runOf job r .ran .answer)
+pub runs-row : (job : Job) (r : Lent) (s : List ℕ) (i : ℕ) → i < rowsStored (runOf job r .ran .answer)
     → stepChecked (job .site) (timeAt (job .run) i) (job .surface) (readingAt job (timeAt (job .run) i)) (job .sectors) (job .window) s ≡ Accepted
     → RunsRow job r s i
 unfolding stepCall unlessRefused storedStep stepAt

@@ -25,16 +25,21 @@ same-length c = search needs
 same-length-2 : tie.Need-same-length-2
 same-length-2 c = search needs
 
+same-length-3 : tie.Need-same-length-3
+same-length-3 c = search needs
+
 returns : tie.Need-returns
 unfolding runLeaves
 returns c =
-    let s = c .before .before .before .before .before .before .before .before in
-    let passed = s .before .before .before .before .before .before .before .before .before .good .1 .1 .1 .1 .1 .1 .1 .1 .1 .1 .1 .1 in
-    let e = rw (s .surface-of .ensures, s .before .site-of .ensures, toZ-ofZ (s .before .before .before .before .before .before .before .before .before .fits .timezone)) at (c .before .before .before .before .before .run-job .ensures) in
+    let s = c .before .before .before .before .before .before .before .before .before .before .before in
+    let start = s .before .before .before .before .before .before .before .before .before .before in
+    let passed = start .good .1 .1 .1 .1 .1 .1 .1 .1 .1 .1 .1 .1 in
+    let e = rw (s .surface-of .ensures, s .before .site-of .ensures, toZ-ofZ (start .fits .timezone)) at (c .before .before .before .before .before .before .before .run-job .ensures) in
     let answer = c .answer-for .ensures ∙ ap (λ x. answerFor (x .ran .answer)) e in
     let days = ap (λ x. x .days) e in
+    let totals = ap (λ x. x .totals) e in
     let results = ap (λ x. x .ran .results) e in (
-      λ i. (answer i, days i, results i),
+      λ i. (answer i, days i, totals i, results i),
       record {
         height-fits = record { holds = passes _ (passed .1 .0 .1) };
         width-fits = record { holds = passes _ (passed .1 .1 .0 .1) };
@@ -42,4 +47,4 @@ returns c =
     )
 
 pub pilgartze-run-spec : {M : Type 1} → statement M
-pilgartze-run-spec = tie.close (tie.spec site-of-requires surface-of-requires run-job-requires answer-for-requires same-length same-length-2 returns)
+pilgartze-run-spec = tie.close (tie.spec site-of-requires surface-of-requires run-job-requires answer-for-requires same-length same-length-2 same-length-3 returns)
