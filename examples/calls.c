@@ -354,7 +354,19 @@ static void check_lengths(void)
 
 /* ---- The totals of days and months ---------------------------------------------------------------------------- */
 
-/* Four days in June, and 20 days about the end of February by steps of 5 hours, in either year. */
+/* The sums of its days, added up. */
+static double days_of_march(uint64_t leap)
+{
+    double sum = 0.0;
+    int day;
+    for (day = days_before[leap][3]; day < days_before[leap][4]; day++) {
+        sum += pilgartze_day_totals(&totals, leap, (uint64_t)day)->sum;
+    }
+    return sum;
+}
+
+/* Four days in June; 20 days about the end of February by steps of 2.7 hours, in either year, where the sum of March is
+ * not that of its days' sums, to the bit; and no steps. */
 static void check_totals(void)
 {
     job made = good_job();
@@ -373,10 +385,10 @@ static void check_totals(void)
         made.site.series_step = 5.0;
         made.run.start = 24.0 * 50;
         made.run.end = 24.0 * 70;
-        made.run.step = 5.0;
-        check(run_job(&made).count == 96, "steps about the end of February", (int)leap);
-        check(pilgartze_month_totals(&totals, leap, 3)->sum > 0.0, "sun in March", (int)leap);
-        check_year(&made, 96, "totals about the end of February");
+        made.run.step = 2.7;
+        check(run_job(&made).count == 178, "steps about the end of February", (int)leap);
+        check(pilgartze_month_totals(&totals, leap, 3)->sum != days_of_march(leap), "the sum of March", (int)leap);
+        check_year(&made, 178, "totals about the end of February");
     }
     made.run.end = made.run.start;
     check(run_job(&made).number == 0, "totals of no steps", 0);
@@ -401,6 +413,16 @@ static void check_end_of_february(void)
         check(pilgartze_month_totals(&totals, leap, 3)->count == 1 - leap, "March", (int)leap);
         check(pilgartze_day_totals(&totals, leap, 59)->largest == rows[0].total, "the total of its row", (int)leap);
     }
+}
+
+/* At night the sky's light on a window can come out below 0: so then is the largest total. */
+static void check_night(void)
+{
+    job made = good_job();
+    made.run.start += 22.0;
+    made.run.end = made.run.start + 1.0;
+    check(run_job(&made).count == 2 && rows[0].total < 0.0, "totals at night", 0);
+    check_year(&made, 2, "totals at night");
 }
 
 /* How many hours each month of a whole year has. */
@@ -567,6 +589,7 @@ int main(int argc, char **argv)
     check_lengths();
     check_totals();
     check_end_of_february();
+    check_night();
     check_months(0);
     check_months(1);
     check_totals_lengths(0);
