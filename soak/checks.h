@@ -41,7 +41,7 @@ typedef struct soak {
     uint64_t short_days;       /* runs refused with a table that was too short */
     uint64_t short_no_steps;   /* of these, with no steps */
     uint64_t short_totals;     /* runs refused with totals that were too short */
-    uint64_t short_totals_no_steps; /* of these, with no steps */
+    uint64_t totals_no_steps;  /* of these, with no steps */
     uint64_t leap_days;        /* runs with steps on 29 February */
     uint64_t first_of_march;   /* runs with steps on 1 March of a common year */
     uint64_t steps_overnight;  /* steps that end on another day than they start */

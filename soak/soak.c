@@ -141,7 +141,7 @@ static void tell_totals(const soak *in)
            "common year, %llu steps that end on another day, %llu sums of months that are not those of their days, "
            "%llu days whose largest total is below 0; %llu pairs of runs with other objects, %llu of them with another "
            "sum\n",
-           (unsigned long long)in->short_totals, (unsigned long long)in->short_totals_no_steps,
+           (unsigned long long)in->short_totals, (unsigned long long)in->totals_no_steps,
            (unsigned long long)in->leap_days, (unsigned long long)in->first_of_march,
            (unsigned long long)in->steps_overnight, (unsigned long long)in->sums_apart,
            (unsigned long long)in->largest_below_0, (unsigned long long)in->pairs,
@@ -180,7 +180,7 @@ static int too_few_days(const soak *in)
 /* What a wrong day or month, a sum from other sums or a largest total from 0 would not show in. */
 static int too_few_totals(const soak *in)
 {
-    if (in->short_totals == 0 || in->short_totals_no_steps == 0 || in->leap_days == 0 || in->first_of_march == 0 ||
+    if (in->short_totals == 0 || in->totals_no_steps == 0 || in->leap_days == 0 || in->first_of_march == 0 ||
         in->steps_overnight == 0 || in->sums_apart == 0 || in->largest_below_0 == 0 || in->pairs_apart == 0) {
         printf("soak: a kind of totals was never seen\n");
         return 1;

@@ -139,7 +139,7 @@ void count_totals(soak *in, const desk *on, const job *of, const pilgartze_answe
     size_t i;
     if (answer->number == PILGARTZE_REFUSED_RESULTS && of->totals < PILGARTZE_TOTALS_LENGTH(leap_year)) {
         in->short_totals += 1;
-        in->short_totals_no_steps += step_count(&of->run) == 0 ? 1 : 0;
+        in->totals_no_steps += step_count(&of->run) == 0 ? 1 : 0;
     }
     if (stored == 0) {
         return;
