@@ -347,7 +347,7 @@ typedef struct pilgartze_totals {
 #define PILGARTZE_MOST_TOTALS 378
 
 /* Totals of a year: its 365 or 366 days, 1 January first, and right behind them its 12 months. So January stands at
- * PILGARTZE_DAYS_IN_YEAR(leap_year), and in a common year the last of all is not touched; pilgartze_day_totals and
+ * PILGARTZE_DAYS_IN_YEAR(leap_year), and in a common year the last of the 378 is not touched; pilgartze_day_totals and
  * pilgartze_month_totals below find them. Emptied (0, NaN, 0) before the first step and kept from step to step, in
  * every run that is not refused 1 to 7: also in one with no steps, and where a step is refused they are those of the
  * rows before it. */
