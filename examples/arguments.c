@@ -5,7 +5,7 @@
 #include <stdio.h>
 
 #define MOST_NUMBERS 16
-#define MOST_LISTS 7
+#define MOST_LISTS 8
 
 /* What the last call brought: its numbers and its lists, in order. */
 static struct {
@@ -77,7 +77,7 @@ pilgartze_answer pilgartze_run(
     double base_height, double height, double width, const uint8_t *diffuse, size_t diffuse_length,
     const uint8_t *direct, size_t direct_length, const uint8_t *reflectivity, size_t reflectivity_length,
     const uint8_t *sectors, size_t sectors_length, const uint8_t *window, size_t window_length, uint8_t *days,
-    size_t days_length, uint8_t *results, size_t results_length)
+    size_t days_length, uint8_t *totals, size_t totals_length, uint8_t *results, size_t results_length)
 {
     const pilgartze_answer answer = {101, 102, 103, 104.5};
     record_site(latitude, longitude, timezone, start_day, series_step, leap_year, direct_beam_conversion);
@@ -89,6 +89,7 @@ pilgartze_answer pilgartze_run(
     list(sectors, sectors_length);
     list(window, window_length);
     list(days, days_length);
+    list(totals, totals_length);
     list(results, results_length);
     return answer;
 }
@@ -150,6 +151,7 @@ static const double reflectivity[5] = {0, 0, 0, 0, 0};
 static pilgartze_sector sectors[3];
 static pilgartze_window_object objects[2];
 static pilgartze_day_table days;
+static pilgartze_year_totals totals;
 static pilgartze_row rows[4];
 
 static void check_numbers(const char *what, const double *expected, int count)
@@ -170,7 +172,8 @@ static void check_run(const pilgartze_weather *weather, const pilgartze_shading 
 {
     static const double expected[15] = {1.5,  2.5,  -3,   4,    5.5,  6,    7,   11.5,
                                         12.5, 13.5, 21.5, 22.5, 23.5, 24.5, 25.5};
-    const pilgartze_answer answer = pilgartze_run_job(&site, &run, &surface, weather, shading, &days, rows, 4);
+    const pilgartze_answer answer =
+        pilgartze_run_job(&site, &run, &surface, weather, shading, &days, &totals, rows, 4);
     check_numbers("run", expected, 15);
     check_list("run", 0, diffuse, 40);
     check_list("run", 1, direct, 40);
@@ -178,8 +181,9 @@ static void check_run(const pilgartze_weather *weather, const pilgartze_shading 
     check_list("run", 3, sectors, 648);
     check_list("run", 4, objects, 64);
     check_list("run", 5, &days, 8784);
-    check_list("run", 6, rows, 192);
-    check(call.list_count == 7, "run's lists", 0);
+    check_list("run", 6, &totals, 9072);
+    check_list("run", 7, rows, 192);
+    check(call.list_count == 8, "run's lists", 0);
     check(answer.number == 101 && answer.step == 102 && answer.count == 103 && answer.sum == 104.5, "run's answer", 0);
 }
 
@@ -217,18 +221,19 @@ static void check_empty(const char *what, int first, int end)
     }
 }
 
-/* Empty lists that are NULL: any pointer but NULL, and length 0. The table of days is never empty. A count of -1 wraps
- * to no small length. */
+/* Empty lists that are NULL: any pointer but NULL, and length 0. The table of days and the totals are never empty. A
+ * count of -1 wraps to no small length. */
 static void check_empty_lists(void)
 {
     const pilgartze_weather no_weather = {NULL, NULL, NULL, 0};
     const pilgartze_shading no_shading = {NULL, 0, NULL, 0};
     const pilgartze_shading wrong = {sectors, (size_t)1 << 61, objects, (size_t)-1};
-    pilgartze_run_job(&site, &run, &surface, &no_weather, &no_shading, &days, NULL, 0);
+    pilgartze_run_job(&site, &run, &surface, &no_weather, &no_shading, &days, &totals, NULL, 0);
     check_empty("empty run", 0, 5);
     check_list("empty run", 5, &days, 8784);
-    check_empty("empty run", 6, 7);
-    check(call.list_count == 7, "empty run", -1);
+    check_list("empty run", 6, &totals, 9072);
+    check_empty("empty run", 7, 8);
+    check(call.list_count == 8, "empty run", -1);
     pilgartze_step_at(&site, 41.5, &surface, &reading, &no_shading, &rows[0]);
     check_empty("empty step", 0, 2);
     check(call.list_count == 3, "empty step", -1);
@@ -310,6 +315,61 @@ static void check_results(void)
     check(table.days[365].extra_terrestrial_radiation == 3 && PILGARTZE_DAYS == 366, "day", 2);
 }
 
+#if PILGARTZE_TOTALS_LENGTH(0) != 9048 || PILGARTZE_TOTALS_LENGTH(1) != 9072
+#error "the totals have another length"
+#endif
+
+/* The macros as sizes of arrays, and beside numbers with and without a sign. */
+static void check_totals_macros(void)
+{
+    static pilgartze_totals common[PILGARTZE_TOTALS_COUNT(0)];
+    static pilgartze_totals leap[PILGARTZE_TOTALS_COUNT(1)];
+    static uint8_t bytes[PILGARTZE_TOTALS_LENGTH(0)];
+    uint64_t leap_year;
+    check(sizeof common == sizeof bytes && sizeof leap == sizeof totals, "totals, sizes", 0);
+    check(PILGARTZE_MOST_TOTALS == 378 && PILGARTZE_MONTHS == 12, "totals, numbers", 0);
+    for (leap_year = 0; leap_year <= 1; leap_year++) {
+        const size_t days_in_year = PILGARTZE_DAYS_IN_YEAR(leap_year);
+        const int records = PILGARTZE_TOTALS_COUNT(leap_year);
+        check(days_in_year == 365 + leap_year && records == (int)days_in_year + 12, "totals, count", (int)leap_year);
+        check(leap_year + PILGARTZE_TOTALS_LENGTH(leap_year) == 25 * leap_year + 9048, "totals, length", records);
+    }
+}
+
+/* Each day and each month of either year in its place, and none beside them. */
+static void check_totals_places(uint64_t leap_year)
+{
+    static const uint64_t no_months[] = {0, 13, UINT64_C(1) << 63, UINT64_MAX};
+    const uint64_t days_in_year = 365 + leap_year;
+    uint64_t i;
+    for (i = 0; i < days_in_year; i++) {
+        check(pilgartze_day_totals(&totals, leap_year, i) == &totals.totals[i], "a day's totals", (int)i);
+    }
+    check(pilgartze_day_totals(&totals, leap_year, days_in_year) == NULL, "the day after the year", 0);
+    check(pilgartze_day_totals(&totals, leap_year, UINT64_MAX) == NULL, "a day before the year", 0);
+    for (i = 1; i <= 12; i++) {
+        const pilgartze_totals *const expected = &totals.totals[days_in_year + i - 1];
+        check(pilgartze_month_totals(&totals, leap_year, i) == expected, "a month's totals", (int)i);
+    }
+    for (i = 0; i < 4; i++) {
+        check(pilgartze_month_totals(&totals, leap_year, no_months[i]) == NULL, "no month", (int)i);
+    }
+}
+
+/* A record as the library stores it: a whole number, then two doubles. */
+static void check_totals(void)
+{
+    double stored[3] = {0, 81.5, 82.5};
+    stored[0] = word(83);
+    memcpy((char *)&totals + 24 * 377, stored, 24);
+    check(totals.totals[377].count == 83 && totals.totals[377].largest == 81.5, "totals", 0);
+    check(totals.totals[377].sum == 82.5, "totals", 2);
+    check(pilgartze_month_totals(&totals, 1, 12)->count == 83, "totals of December", 0);
+    check_totals_macros();
+    check_totals_places(0);
+    check_totals_places(1);
+}
+
 static void check_refusal_words(void)
 {
     static const char *const expected[14] = {"accepted", "site",    "run", "surface", "object",    "series", "reading",
@@ -333,6 +393,7 @@ int main(void)
     check_sector();
     check_objects();
     check_results();
+    check_totals();
     check_refusal_words();
     printf("arguments: %d of %d checks held\n", checks - failures, checks);
     return failures == 0 ? 0 : 1;

@@ -1,6 +1,6 @@
 /* A test of the library through include/pilgartze.h: that it is of the header's version; that the four calls agree with
- * each other, bit for bit; some factors that are known; the table of days; and each refusal, with what is then stored.
- * Good C99 and good C++11.
+ * each other, bit for bit; some factors that are known; the table of days; the totals of days and months; and each
+ * refusal, with what is then stored. Good C99 and good C++11.
  *
  * With any argument it prints some results of its job in place of the test: what examples/from_python.py prints. */
 #include "pilgartze.h"
@@ -28,6 +28,7 @@ typedef struct job {
 static pilgartze_row rows[STEPS];
 static pilgartze_day_table days;
 static pilgartze_day_table filled; /* as the good job leaves it */
+static pilgartze_year_totals totals;
 static int failures = 0;
 static int checks = 0;
 
@@ -79,7 +80,9 @@ static pilgartze_answer run_job(const job *of)
     const pilgartze_shading shading = shading_of(of);
     memset(rows, UNTOUCHED, sizeof rows);
     memset(&days, UNTOUCHED, sizeof days);
-    return pilgartze_run_job(&of->site, &of->run, &of->surface, &weather, &shading, &days, rows, of->row_count);
+    memset(&totals, UNTOUCHED, sizeof totals);
+    return pilgartze_run_job(&of->site, &of->run, &of->surface, &weather, &shading, &days, &totals, rows,
+                             of->row_count);
 }
 
 /* ---- The version ---------------------------------------------------------------------------------------------- */
@@ -195,7 +198,54 @@ static int untouched(size_t from)
     return all_untouched(rows + from, (STEPS - from) * sizeof rows[0]);
 }
 
-/* A refused run, with its rows and its table. */
+/* ---- The totals of rows --------------------------------------------------------------------------------------- */
+
+static const int days_before[2][14] = {{0, 0, 31, 59, 90, 120, 151, 181, 212, 243, 273, 304, 334, 365},
+                                       {0, 0, 31, 60, 91, 121, 152, 182, 213, 244, 274, 305, 335, 366}};
+
+static pilgartze_totals no_totals(void)
+{
+    const uint64_t nan = UINT64_C(0x7FF8000000000000);
+    pilgartze_totals made = {0, 0.0, 0.0};
+    memcpy(&made.largest, &nan, sizeof nan);
+    return made;
+}
+
+/* Those of the first rows of a run, as far as they start from one day up to another. */
+static pilgartze_totals totals_between(const job *of, size_t count, int from, int to)
+{
+    pilgartze_totals made = no_totals();
+    double time = of->run.start;
+    size_t i;
+    for (i = 0; i < count; i++) {
+        if (time >= 24.0 * from && time < 24.0 * to) {
+            made.largest = made.count == 0 || rows[i].total >= made.largest ? rows[i].total : made.largest;
+            made.sum += rows[i].factor * rows[i].direct * of->run.step;
+            made.count += 1;
+        }
+        time += of->run.step;
+    }
+    return made;
+}
+
+/* All totals of the year, with so many rows stored; in a common year the room for one more is left as it was. */
+static void check_year(const job *of, size_t count, const char *what)
+{
+    const uint64_t leap = of->site.leap_year;
+    pilgartze_totals should;
+    int i;
+    for (i = 0; i < PILGARTZE_DAYS_IN_YEAR(leap); i++) {
+        should = totals_between(of, count, i, i + 1);
+        check(same(pilgartze_day_totals(&totals, leap, (uint64_t)i), &should, sizeof should), what, i);
+    }
+    for (i = 1; i <= 12; i++) {
+        should = totals_between(of, count, days_before[leap][i], days_before[leap][i + 1]);
+        check(same(pilgartze_month_totals(&totals, leap, (uint64_t)i), &should, sizeof should), what, 1000 + i);
+    }
+    check(leap == 1 || all_untouched(&totals.totals[PILGARTZE_TOTALS_COUNT(0)], sizeof should), what, -1);
+}
+
+/* A refused run, with its rows, its table and its totals. */
 static void check_refused(const job *spoilt, uint64_t number)
 {
     const pilgartze_answer answer = run_job(spoilt);
@@ -204,12 +254,17 @@ static void check_refused(const job *spoilt, uint64_t number)
     check(answer.step < STEPS && untouched((size_t)answer.step), "untouched", (int)number);
     check(number >= PILGARTZE_REFUSED_GAP ? same(&days, &filled, sizeof days) : all_untouched(&days, sizeof days),
           "days of a refused run", (int)number);
+    if (number >= PILGARTZE_REFUSED_GAP) {
+        check_year(spoilt, (size_t)answer.step, "totals of a refused run");
+    } else {
+        check(all_untouched(&totals, sizeof totals), "totals of a refused run", (int)number);
+    }
 }
 
 /* ---- The table of days ---------------------------------------------------------------------------------------- */
 
-/* The number of the job with a list of that length for the table. */
-static uint64_t run_lent(const job *of, uint8_t *list, size_t length)
+/* The number of the job with lists of these lengths for the table and for the totals. */
+static uint64_t run_with_lists(const job *of, uint8_t *table, size_t table_length, uint8_t *sums, size_t sums_length)
 {
     const pilgartze_site *const site = &of->site;
     const pilgartze_surface *const surface = &of->surface;
@@ -220,8 +275,19 @@ static uint64_t run_lent(const job *of, uint8_t *list, size_t length)
                surface->orientation, surface->base_height, surface->height, surface->width,
                (const uint8_t *)of->diffuse, series, (const uint8_t *)of->direct, series,
                (const uint8_t *)of->reflectivity, series, (const uint8_t *)of->sectors, sizeof of->sectors,
-               (const uint8_t *)of->window, sizeof of->window, list, length, (uint8_t *)rows, sizeof rows)
+               (const uint8_t *)of->window, sizeof of->window, table, table_length, sums, sums_length,
+               (uint8_t *)rows, sizeof rows)
         .number;
+}
+
+static uint64_t run_lent(const job *of, uint8_t *list, size_t length)
+{
+    return run_with_lists(of, list, length, (uint8_t *)&totals, sizeof totals);
+}
+
+static uint64_t run_with_totals(const job *of, uint8_t *list, size_t length)
+{
+    return run_with_lists(of, (uint8_t *)&days, sizeof days, list, length);
 }
 
 /* Midsummer, midwinter, and the earth nearest to the sun and farthest from it, by day of the year from 1. */
@@ -286,6 +352,128 @@ static void check_lengths(void)
     check(run_lent(&made, list, 0) == PILGARTZE_REFUSED_SURFACE, "no list, and no width", 0);
 }
 
+/* ---- The totals of days and months ---------------------------------------------------------------------------- */
+
+/* The sums of its days, added up. */
+static double days_of_march(uint64_t leap)
+{
+    double sum = 0.0;
+    int day;
+    for (day = days_before[leap][3]; day < days_before[leap][4]; day++) {
+        sum += pilgartze_day_totals(&totals, leap, (uint64_t)day)->sum;
+    }
+    return sum;
+}
+
+/* Four days in June; 20 days about the end of February by steps of 2.7 hours, in either year, where the sum of March is
+ * not that of its days' sums, to the bit; and no steps. */
+static void check_totals(void)
+{
+    job made = good_job();
+    uint64_t leap;
+    check(run_job(&made).number == 0, "totals", 0);
+    check_year(&made, STEPS, "totals in June");
+    check(pilgartze_month_totals(&totals, 0, 6)->count == STEPS, "steps in June", 0);
+    check(pilgartze_day_totals(&totals, 0, 170)->count == 48, "steps on 20 June", 0);
+    check(pilgartze_day_totals(&totals, 0, 365) == NULL, "no such day", 0);
+    check(pilgartze_month_totals(&totals, 0, 0) == NULL && pilgartze_month_totals(&totals, 0, 13) == NULL,
+          "no such month", 0);
+    for (leap = 0; leap <= 1; leap++) {
+        made = good_job();
+        made.site.leap_year = leap;
+        made.site.start_day = 50;
+        made.site.series_step = 5.0;
+        made.run.start = 24.0 * 50;
+        made.run.end = 24.0 * 70;
+        made.run.step = 2.7;
+        check(run_job(&made).count == 178, "steps about the end of February", (int)leap);
+        check(pilgartze_month_totals(&totals, leap, 3)->sum != days_of_march(leap), "the sum of March", (int)leap);
+        check_year(&made, 178, "totals about the end of February");
+    }
+    made.run.end = made.run.start;
+    check(run_job(&made).number == 0, "totals of no steps", 0);
+    check_year(&made, 0, "totals of no steps");
+}
+
+/* Day 59 is 29 February or 1 March. A step of 24 hours from noon belongs whole to the day of that noon. */
+static void check_end_of_february(void)
+{
+    uint64_t leap;
+    for (leap = 0; leap <= 1; leap++) {
+        job made = good_job();
+        made.site.leap_year = leap;
+        made.site.start_day = 59;
+        made.run.start = 24.0 * 59 + 12.0;
+        made.run.end = 24.0 * 60 + 12.0;
+        made.run.step = 24.0;
+        check(run_job(&made).count == 1 && rows[0].total > 0.0, "a step from noon to noon", (int)leap);
+        check(pilgartze_day_totals(&totals, leap, 59)->count == 1, "the day of its start", (int)leap);
+        check(pilgartze_day_totals(&totals, leap, 60)->count == 0, "the day of its end", (int)leap);
+        check(pilgartze_month_totals(&totals, leap, 2)->count == leap, "February", (int)leap);
+        check(pilgartze_month_totals(&totals, leap, 3)->count == 1 - leap, "March", (int)leap);
+        check(pilgartze_day_totals(&totals, leap, 59)->largest == rows[0].total, "the total of its row", (int)leap);
+    }
+}
+
+/* At night the sky's light on a window can come out below 0: so then is the largest total. */
+static void check_night(void)
+{
+    job made = good_job();
+    made.run.start += 22.0;
+    made.run.end = made.run.start + 1.0;
+    check(run_job(&made).count == 2 && rows[0].total < 0.0, "totals at night", 0);
+    check_year(&made, 2, "totals at night");
+}
+
+/* How many hours each month of a whole year has. */
+static void check_months(uint64_t leap)
+{
+    static const uint64_t hours[12] = {744, 672, 744, 720, 744, 720, 744, 744, 720, 744, 720, 744};
+    static double dark[8784];
+    static pilgartze_row all[8784];
+    const size_t count = 24 * (size_t)PILGARTZE_DAYS_IN_YEAR(leap);
+    const pilgartze_weather weather = {dark, dark, dark, count};
+    const pilgartze_run_times year = {0.0, (double)count, 1.0};
+    const pilgartze_site site = {51.06, -1.31, 0, 0, 1.0, leap, 0};
+    const pilgartze_surface surface = {90.0, 135.0, 0.9, 1.2, 1.8};
+    const pilgartze_sector sky = pilgartze_free_sector(0.0, 360.0);
+    const pilgartze_shading shading = {&sky, 1, NULL, 0};
+    uint64_t i;
+    check(pilgartze_run_job(&site, &year, &surface, &weather, &shading, &days, &totals, all, count).count == count,
+          "a year of hours", (int)leap);
+    for (i = 1; i <= 12; i++) {
+        check(pilgartze_month_totals(&totals, leap, i)->count == hours[i - 1] + (i == 2 ? 24 * leap : 0),
+              "hours of a month", (int)i);
+    }
+    for (i = 0; i < PILGARTZE_DAYS_IN_YEAR(leap); i++) {
+        check(pilgartze_day_totals(&totals, leap, i)->count == 24, "hours of a day", (int)i);
+    }
+}
+
+/* Bytes behind the totals stay as they were; a list one byte too short is refused, for no steps too. */
+static void check_totals_lengths(uint64_t leap)
+{
+    const size_t length = PILGARTZE_TOTALS_LENGTH(leap);
+    job made = good_job();
+    uint8_t list[PILGARTZE_TOTALS_LENGTH(1) + 100];
+    made.site.leap_year = leap;
+    run_job(&made);
+    memset(list, UNTOUCHED, sizeof list);
+    check(run_with_totals(&made, list + 1, length + 99) == 0, "long totals", (int)leap);
+    check(same(list + 1, &totals, length) && all_untouched(list + 1 + length, 99), "long totals", 2 + (int)leap);
+    check(run_with_totals(&made, list, length) == 0 && same(list, &totals, length), "totals of the length", (int)leap);
+    memset(list, UNTOUCHED, sizeof list);
+    memset(rows, UNTOUCHED, sizeof rows);
+    memset(&days, UNTOUCHED, sizeof days);
+    check(run_with_totals(&made, list, length - 1) == PILGARTZE_REFUSED_RESULTS, "short totals", (int)leap);
+    check(untouched(0) && all_untouched(&days, sizeof days), "rows and days of short totals", (int)leap);
+    made.run.end = made.run.start;
+    check(run_with_totals(&made, list, length - 1) == PILGARTZE_REFUSED_RESULTS, "short totals, no steps", (int)leap);
+    check(all_untouched(list, sizeof list), "short totals", 2 + (int)leap);
+    made.surface.width = 0.0;
+    check(run_with_totals(&made, list, 0) == PILGARTZE_REFUSED_SURFACE, "no totals, and no width", (int)leap);
+}
+
 /* ---- Refusals ------------------------------------------------------------------------------------------------- */
 
 /* 1 to 7: nothing is stored. */
@@ -348,7 +536,13 @@ static void check_single_refusals(void)
 
 /* ---- The job's results ---------------------------------------------------------------------------------------- */
 
-/* The sum with the overhang so deep, and the row of a morning hour. 17 digits tell any two doubles apart. */
+static void print_totals(const char *name, const pilgartze_totals *of)
+{
+    printf("  %s: %u steps, largest total %.17g, %.17g Wh/m2\n", name, (unsigned)of->count, of->largest, of->sum);
+}
+
+/* The sum with the overhang so deep, that of a day and of the month, and the row of a morning hour. 17 digits tell any
+ * two doubles apart. */
 static void print_run(job *of, double depth)
 {
     const pilgartze_row *const row = &rows[16];
@@ -356,6 +550,8 @@ static void print_run(job *of, double depth)
     of->window[0] = pilgartze_overhang(depth, 0.15);
     answer = run_job(of);
     printf("overhang %.1f m: %u steps, %.17g Wh/m2\n", depth, (unsigned)answer.count, answer.sum);
+    print_totals("21 June", pilgartze_day_totals(&totals, of->site.leap_year, 171));
+    print_totals("June", pilgartze_month_totals(&totals, of->site.leap_year, 6));
     printf("  at 8:00: altitude %.17g, azimuth %.17g, direct %.17g, diffuse %.17g, total %.17g, factor %.17g\n",
            row->altitude, row->azimuth, row->direct, row->diffuse, row->total, row->factor);
 }
@@ -391,6 +587,13 @@ int main(int argc, char **argv)
     check_days();
     check_filled();
     check_lengths();
+    check_totals();
+    check_end_of_february();
+    check_night();
+    check_months(0);
+    check_months(1);
+    check_totals_lengths(0);
+    check_totals_lengths(1);
     check_early_refusals();
     check_late_refusals();
     check_single_refusals();

@@ -10,6 +10,7 @@ static double hundred[HOURS];
 static double fifth[HOURS];
 static pilgartze_row rows[HOURS];
 static pilgartze_day_table days;
+static pilgartze_year_totals totals;
 static const pilgartze_weather weather = {hundred, hundred, fifth, HOURS};
 static const pilgartze_run_times year = {0.0, HOURS, 1.0};
 static const pilgartze_reading reading = {100.0, 600.0, 0.2};
@@ -99,18 +100,18 @@ static void overhead(void)
     pilgartze_site site = site_at(-21.43550546822772, 24.689999999999987, 0);
     pilgartze_surface flat = facing(0.0, 316.0, 1.0, 1.0);
     const pilgartze_run_times noon = {322.0, 323.0, 1.0};
-    pilgartze_answer answer = pilgartze_run_job(&site, &noon, &flat, &weather, &bare, &days, rows, HOURS);
+    pilgartze_answer answer = pilgartze_run_job(&site, &noon, &flat, &weather, &bare, &days, &totals, rows, HOURS);
     check(answer.number == PILGARTZE_REFUSED_NO_SECTOR && answer.step == 0, 18, "the sun overhead, in no sector");
-    answer = pilgartze_run_job(&site, &year, &flat, &weather, &bare, &days, rows, HOURS);
+    answer = pilgartze_run_job(&site, &year, &flat, &weather, &bare, &days, &totals, rows, HOURS);
     check(answer.number == PILGARTZE_REFUSED_NO_SECTOR && answer.step == 322, 18, "a year with that hour");
     flat.orientation = 136.0;
-    answer = pilgartze_run_job(&site, &noon, &flat, &weather, &bare, &days, rows, HOURS);
+    answer = pilgartze_run_job(&site, &noon, &flat, &weather, &bare, &days, &totals, rows, HOURS);
     check(answer.number == 0 && answer.count == 1 && all_numbers(rows), 18, "turned round, outside the beam");
     check(rows[0].altitude == 90.0 && rows[0].azimuth == 313.4613623615226, 18, "the sun overhead");
     check(about(rows[0].direct, 117.8412) && rows[0].total == 200.0 && rows[0].factor == 1.0, 18, "its light");
     flat.orientation = 316.0;
     site.longitude = 24.69;
-    check(pilgartze_run_job(&site, &year, &flat, &weather, &bare, &days, rows, HOURS).count == HOURS, 18,
+    check(pilgartze_run_job(&site, &year, &flat, &weather, &bare, &days, &totals, rows, HOURS).count == HOURS, 18,
           "the same some bits further east");
     check(all_numbers(&rows[322]) && rows[322].altitude == 90.0 && rows[322].azimuth == 73.3347932457816, 18,
           "the sun overhead, in a sector");
@@ -148,7 +149,7 @@ static void square(void)
           "the sun square on the glass");
     sun = irradiance(site, 11.0, glass, no_light);
     check(sun.direct == 0.0 && sun.diffuse == 0.0 && sun.total == 0.0, 18, "the same with no light");
-    answer = pilgartze_run_job(&site, &day, &glass, &weather, &bare, &days, rows, HOURS);
+    answer = pilgartze_run_job(&site, &day, &glass, &weather, &bare, &days, &totals, rows, HOURS);
     check(answer.number == 0 && about(answer.sum, 1207.448), 18, "the sum of such a day");
 }
 
@@ -165,10 +166,10 @@ static void clocks(void)
     pilgartze_breakdown below = irradiance(site_at(19.0, 72.75 - 7.5, 5), 4116.0, upright, reading);
     pilgartze_row first;
     check(above.altitude == below.altitude && above.azimuth == below.azimuth, 23, "a half-hour zone from both sides");
-    check(pilgartze_run_job(&site, &odd, &upright, &weather, &bare, &days, rows, HOURS).count == 11, 12,
+    check(pilgartze_run_job(&site, &odd, &upright, &weather, &bare, &days, &totals, rows, HOURS).count == 11, 12,
           "steps of 0.3");
     site.start_day = 100;
-    check(pilgartze_run_job(&site, &early, &upright, &short_series, &bare, &days, rows, HOURS).count == 50, 24,
+    check(pilgartze_run_job(&site, &early, &upright, &short_series, &bare, &days, &totals, rows, HOURS).count == 50, 24,
           "a run that starts before its series");
     check(pilgartze_step_at(&site, 2364.0, &upright, &reading, &bare, &first) == 0, 24, "a step by itself");
     check(rows[12].altitude == first.altitude && rows[12].direct > 0.0, 24, "the first value for an earlier day");
@@ -194,14 +195,15 @@ static void last_step(void)
     const pilgartze_run_times three_hours = {0.0, 3.0, 0.3};
     const pilgartze_run_times one_hour = {1.0, 2.0, 0.3};
     const pilgartze_run_times backwards = {2.0, 1.0, 0.3};
-    pilgartze_answer answer = pilgartze_run_job(&sydney, &three_hours, &upright, &weather, &bare, &days, rows, HOURS);
+    pilgartze_answer answer =
+        pilgartze_run_job(&sydney, &three_hours, &upright, &weather, &bare, &days, &totals, rows, HOURS);
     check(answer.count == 11 && rows[10].direct > 0.0, 25, "3 hours in 11 steps of 0.3");
     check(answer.sum == over_rows(11, 0.3), 25, "the sum of 3.3 hours");
     check(about(answer.sum - over_rows(10, 0.3), rows[10].direct * 0.3), 25, "0.3 hours more than the run has");
-    answer = pilgartze_run_job(&sydney, &one_hour, &upright, &weather, &bare, &days, rows, HOURS);
+    answer = pilgartze_run_job(&sydney, &one_hour, &upright, &weather, &bare, &days, &totals, rows, HOURS);
     check(answer.count == 4 && rows[3].direct == rows[0].direct, 25, "an hour in 4 steps of 0.3");
     check(answer.sum == over_rows(4, 0.3) && about(answer.sum, 1.2 * rows[0].direct), 25, "the sum of 1.2 hours");
-    answer = pilgartze_run_job(&sydney, &backwards, &upright, &weather, &bare, &days, rows, HOURS);
+    answer = pilgartze_run_job(&sydney, &backwards, &upright, &weather, &bare, &days, &totals, rows, HOURS);
     check(answer.count == 1 && rows[0].direct > 0.0, 25, "a start above the end");
     check(answer.sum == rows[0].direct * 0.3, 25, "the sum of its one step");
 }
@@ -210,10 +212,10 @@ static void midnight(void)
 {
     const pilgartze_surface north = facing(90.0, 0.0, 1.0, 1.2);
     pilgartze_site site = site_at(47.5, 7.5, 1);
-    pilgartze_answer answer = pilgartze_run_job(&site, &year, &north, &weather, &bare, &days, rows, HOURS);
+    pilgartze_answer answer = pilgartze_run_job(&site, &year, &north, &weather, &bare, &days, &totals, rows, HOURS);
     check(answer.number == PILGARTZE_REFUSED_NO_SECTOR && answer.step == 8592, 9, "midnight exactly in the north");
     site.longitude = 7.5001;
-    check(pilgartze_run_job(&site, &year, &north, &weather, &bare, &days, rows, HOURS).count == HOURS, 9,
+    check(pilgartze_run_job(&site, &year, &north, &weather, &bare, &days, &totals, rows, HOURS).count == HOURS, 9,
           "the same a few metres further east");
 }
 

@@ -1,5 +1,6 @@
 #!/usr/bin/env python3
 """Calls from Python, by ctypes: four summer days by half hours, with an overhang of two depths, and two factors.
+Of each run it also prints the totals of a day and of the month.
 
     examples/from_python.py LIBRARY
 
@@ -14,6 +15,8 @@ from ctypes import c_double, c_int64, c_size_t, c_uint64, c_void_p
 HOURS = 96
 STEPS = 192
 DAYS = 366
+DAYS_IN_YEAR = 365  # of a common year
+MONTHS = 12
 
 # include/pilgartze.h says what each field means.
 SITE = (51.06, -1.31, 0, 170, 1.0, 0, 0)
@@ -44,6 +47,12 @@ class DayValues(ctypes.Structure):
     _fields_ = [(name, c_double) for name in ("declination", "equation_of_time", "extra_terrestrial_radiation")]
 
 
+class Totals(ctypes.Structure):
+    """Of a day or of a month. A year's stand in one list, the days first, from 1 January on."""
+
+    _fields_ = [("count", c_uint64), ("largest", c_double), ("sum", c_double)]
+
+
 class Answer(ctypes.Structure):
     _fields_ = [("number", c_uint64), ("step", c_uint64), ("count", c_uint64), ("sum", c_double)]
 
@@ -63,7 +72,7 @@ def load(path):
     one_list = [c_void_p, c_size_t]
     library.pilgartze_version.argtypes = []
     library.pilgartze_version.restype = c_uint64
-    library.pilgartze_run.argtypes = site + [c_double] * 3 + surface + one_list * 7
+    library.pilgartze_run.argtypes = site + [c_double] * 3 + surface + one_list * 8
     library.pilgartze_run.restype = Answer
     library.pilgartze_factor.argtypes = [c_double] * 2 + surface + one_list * 2
     library.pilgartze_factor.restype = FactorAnswer
@@ -98,19 +107,27 @@ def make_shading(depth):
     return sectors, window
 
 
+def print_totals(name, of):
+    print("  %s: %d steps, largest total %.17g, %.17g Wh/m2" % (name, of.count, of.largest, of.sum))
+
+
 def print_run(library, depth):
-    """The sum with the overhang so deep, and the row of a morning hour. 17 digits tell any two doubles apart."""
+    """The sum with the overhang so deep, that of a day and of the month, and the row of a morning hour. 17 digits tell
+    any two doubles apart."""
     diffuse = series(10.0 * (i % 24) for i in range(HOURS))
     direct = series(7.5 * i for i in range(HOURS))
     reflectivity = series([0.2] * HOURS)
     sectors, window = make_shading(depth)
     days = (DayValues * DAYS)()
+    totals = (Totals * (DAYS_IN_YEAR + MONTHS))()
     rows = (Row * STEPS)()
-    lists = lent(diffuse, direct, reflectivity, sectors, window, days, rows)
+    lists = lent(diffuse, direct, reflectivity, sectors, window, days, totals, rows)
     answer = library.pilgartze_run(*SITE, *RUN, *SURFACE, *lists)
     if answer.number != 0:
         sys.exit(f"turned down by number {answer.number} at step {answer.step}")
     print("overhang %.1f m: %d steps, %.17g Wh/m2" % (depth, answer.count, answer.sum))
+    print_totals("21 June", totals[171])
+    print_totals("June", totals[DAYS_IN_YEAR + 5])
     row = rows[16]
     print("  at 8:00: " + ", ".join("%s %.17g" % (name, getattr(row, name)) for name, _ in Row._fields_))
 

@@ -87,14 +87,15 @@ static void make_street(pilgartze_sector *sectors)
 
 /* ---- Quotes --------------------------------------------------------------------------------------------------- */
 
-/* How much of the direct sun gets past the shade from one hour of the year to another, in Wh/m2. A job that is turned
- * down ends the program. */
-static double quote(double start, double end, const pilgartze_weather *weather, const pilgartze_shading *shading)
+/* How much of the direct sun gets past the shade in a year, in Wh/m2; that of each month is in the totals. A job that
+ * is turned down ends the program. */
+static double quote(const pilgartze_weather *weather, const pilgartze_shading *shading, pilgartze_year_totals *totals)
 {
-    static pilgartze_row rows[HOURS]; /* room for each hour's sun, irradiance and factor, of which the sum is made */
-    const pilgartze_run_times hours = {start, end, 1.0};
+    static pilgartze_row rows[HOURS]; /* room for each hour's sun, irradiance and factor, of which the sums are made */
+    const pilgartze_run_times hours = {0.0, HOURS, 1.0};
     pilgartze_day_table days; /* the run works each day out once, in here */
-    const pilgartze_answer answer = pilgartze_run_job(&site, &hours, &window, weather, shading, &days, rows, HOURS);
+    const pilgartze_answer answer =
+        pilgartze_run_job(&site, &hours, &window, weather, shading, &days, totals, rows, HOURS);
     if (answer.number != PILGARTZE_ACCEPTED) {
         fprintf(stderr, "turned down: %s (%u) at step %u\n", pilgartze_refusal_word(answer.number),
                 (unsigned)answer.number, (unsigned)answer.step);
@@ -103,48 +104,45 @@ static double quote(double start, double end, const pilgartze_weather *weather, 
     return answer.sum;
 }
 
-/* All of the direct sun is what a window without any shade is quoted. The mean factor is that of the direct sun: shaded
- * over unshaded. */
-static void print_line(const char *name, double start, double end, const pilgartze_weather *weather,
-                       const pilgartze_shading *shading)
+/* The mean factor is that of the direct sun: shaded over unshaded. */
+static void print_line(const char *name, double direct, double shaded)
 {
-    const pilgartze_sector sky = pilgartze_free_sector(0.0, 360.0);
-    const pilgartze_shading nothing = {&sky, 1, NULL, 0};
-    const double direct = quote(start, end, weather, &nothing);
-    const double shaded = quote(start, end, weather, shading);
     printf("%-10s %10.1f %10.1f %12.3f\n", name, direct / WH_PER_KWH, shaded / WH_PER_KWH,
            direct > 0.0 ? shaded / direct : 1.0);
 }
 
+/* All of the direct sun is what a window without any shade is quoted. So there are two runs of the year, without shade
+ * and with it; their totals have the months. */
 static void print_months(const pilgartze_weather *weather, const pilgartze_shading *shading)
 {
-    static const struct {
-        const char *name;
-        int days;
-    } months[12] = {{"January", 31},   {"February", 28}, {"March", 31},    {"April", 30},
-                    {"May", 31},       {"June", 30},     {"July", 31},     {"August", 31},
-                    {"September", 30}, {"October", 31},  {"November", 30}, {"December", 31}};
-    int start = 0;
-    int i;
+    static const char *const names[PILGARTZE_MONTHS] = {"January",   "February", "March",    "April",
+                                                        "May",       "June",     "July",     "August",
+                                                        "September", "October",  "November", "December"};
+    const pilgartze_sector sky = pilgartze_free_sector(0.0, 360.0);
+    const pilgartze_shading nothing = {&sky, 1, NULL, 0};
+    pilgartze_year_totals direct, shaded;
+    const double year_direct = quote(weather, &nothing, &direct);
+    const double year_shaded = quote(weather, shading, &shaded);
+    uint64_t month;
     printf("%-10s %10s %10s %12s\n", "kWh/m2", "direct", "shaded", "mean factor");
-    for (i = 0; i < 12; i++) {
-        const int end = start + 24 * months[i].days;
-        print_line(months[i].name, start, end, weather, shading);
-        start = end;
+    for (month = 1; month <= PILGARTZE_MONTHS; month++) {
+        print_line(names[month - 1], pilgartze_month_totals(&direct, site.leap_year, month)->sum,
+                   pilgartze_month_totals(&shaded, site.leap_year, month)->sum);
     }
-    print_line("Year", 0, HOURS, weather, shading);
+    print_line("Year", year_direct, year_shaded);
 }
 
-/* The overhang from 0.2 m to 2 m: a run of the year for each. */
+/* The overhang from 0.2 m to 2 m: a run of the year for each, whose months are not shown. */
 static void drag_overhang(const pilgartze_weather *weather, const pilgartze_shading *shading,
                           pilgartze_window_object *overhang)
 {
+    pilgartze_year_totals totals;
     int i;
     printf("%-10s %21s\n", "overhang", "shaded, kWh/m2");
     for (i = 1; i <= 10; i++) {
         const double depth = 0.2 * i;
         *overhang = pilgartze_overhang(depth, overhang_gap);
-        printf("%8.2f m %21.1f\n", depth, quote(0, HOURS, weather, shading) / WH_PER_KWH);
+        printf("%8.2f m %21.1f\n", depth, quote(weather, shading, &totals) / WH_PER_KWH);
     }
 }
 

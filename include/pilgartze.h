@@ -3,7 +3,8 @@
  *
  * A site, its weather and a surface go in. For each step of a run the sun's position, the irradiance on the surface and
  * a direct shading factor come out, and the sum of factor times direct irradiance times step over all steps: how much
- * direct sun got past the shade, in Wh/m2. The same sum is kept for each day and each month of the year.
+ * direct sun got past the shade, in Wh/m2. For each day and each month of the year that sum is kept too, with the count
+ * of its steps and the largest total irradiance.
  *
  * Four calls are in the library: pilgartze_run, pilgartze_step, pilgartze_irradiance and pilgartze_factor. They take
  * plain numbers and lists of bytes. Below them stand inline functions that take structs and arrays in their place:
@@ -20,8 +21,8 @@
  *   be. It would be stored as 7FF8000000000000, and only the bits of a NaN in the answer's sum are left open.)
  * It keeps no state, takes no memory from the heap and at most PILGARTZE_STACK_BYTES of the stack, and calls nothing of
  * the C library but memcpy and memset, not even its mathematics.
- * So any number of threads may call at once, also with the same series, sectors and window, as long as each has results,
- * totals and a table of days of its own.
+ * So any number of threads may call at once, also with the same series, sectors and window, as long as each has
+ * results, totals and a table of days of its own.
  *
  * Also proved: two jobs compared. A job is one call of the run; a shade extent is the height or width of shade that is
  * worked out for one object. Take two accepted jobs with
@@ -31,10 +32,9 @@
  * - no shade extent that is NaN, in either job, at any step.
  * Then both have the same steps and the same direct values. Every factor lies from 0 to 1, and is exactly 1 with no
  * objects. Each sum lies from 0 to the unshaded sum, that of direct times step, and is that one, bit for bit, with no
- * objects. The same objects, in any order and number, give the same factors and sum, bit for bit. Where either job holds
- * all objects of the other, sector by sector and at the window, its factors are nowhere larger, nor is its sum.
- * Day by day and month by month the totals of both have the same count and the same largest total; the same objects give
- * the same totals, byte for byte, and more objects never a larger sum of a day or of a month.
+ * objects. The same objects, in any order and number, give the same factors, sum and totals, bit for bit. Where either
+ * job holds all objects of the other, sector by sector and at the window, its factors are nowhere larger, nor is its
+ * sum, nor that of any day or month. Day by day and month by month both have the same count and the same largest total.
  * Objects are the same where all their words are. That no extent is NaN is measured, not proved: none is known to be.
  *
  * What the library asks, as any C function does:
@@ -42,8 +42,8 @@
  * - The results, the totals and the table of days overlap no other list, nor each other. (The lists that are only read
  *   may overlap each other.)
  * - An empty list of a raw call has length 0 and any pointer but NULL. The inline functions see to that: there a list
- *   with count 0 may be NULL. Pointers to structs (site, run, surface, weather, reading, shading, table of days, totals,
- *   row) may not be NULL.
+ *   with count 0 may be NULL. Pointers to structs (site, run, surface, weather, reading, shading, table of days,
+ *   totals, row) may not be NULL.
  * - The floating-point unit is in its usual mode: it rounds to nearest, flushes no subnormals to zero (a program built
  *   with -ffast-math may do so) and stops the program at no exception (feenableexcept).
  *
@@ -326,30 +326,31 @@ typedef struct pilgartze_day_table {
     pilgartze_day_values days[PILGARTZE_DAYS];
 } pilgartze_day_table;
 
-/* What a run keeps of one day or of one month: of the steps that start in it. A step belongs whole to the day in which it
- * starts, also one of 24 hours that starts at noon. */
+/* What a run keeps of one day or of one month: of the steps that start in it. A step belongs whole to the day in which
+ * it starts, also one of 24 hours that starts at noon. */
 typedef struct pilgartze_totals {
     uint64_t count; /* how many steps */
-    double largest; /* the largest total of their rows, in W/m2, unshaded; NaN where there is no step */
+    double largest; /* the largest total of their rows, in W/m2, unshaded; NaN (7FF8000000000000) with no steps */
     double sum;     /* in Wh/m2: from 0, step by step, plus (factor * direct) * step, as in the answer; a month's is not
                        added up from its days' sums, so that its last bits can differ from theirs */
 } pilgartze_totals;
 
 #define PILGARTZE_MONTHS 12
 
-/* How many days a year has, how many totals a run keeps for it, a day's and then a month's, and their length in bytes:
- * 9048, in a leap year 9072. Leap_year is 0 or 1, as in the site. */
+/* How many days a year has, how many totals a run keeps for it, its days' and then its months', and their length in
+ * bytes. Leap_year is 0 or 1, as in the site. */
 #define PILGARTZE_DAYS_IN_YEAR(leap_year) ((leap_year) != 0 ? 366 : 365)
-#define PILGARTZE_TOTALS_COUNT(leap_year) (PILGARTZE_DAYS_IN_YEAR(leap_year) + PILGARTZE_MONTHS)
-#define PILGARTZE_TOTALS_LENGTH(leap_year) (24 * PILGARTZE_TOTALS_COUNT(leap_year))
+#define PILGARTZE_TOTALS_COUNT(leap_year) ((leap_year) != 0 ? 378 : 377)
+#define PILGARTZE_TOTALS_LENGTH(leap_year) ((leap_year) != 0 ? 9072 : 9048)
 
 /* No year has more. */
-#define PILGARTZE_MOST_TOTALS PILGARTZE_TOTALS_COUNT(1)
+#define PILGARTZE_MOST_TOTALS 378
 
 /* Totals of a year: its 365 or 366 days, 1 January first, and right behind them its 12 months. So January stands at
- * PILGARTZE_DAYS_IN_YEAR(leap_year); pilgartze_day_totals and pilgartze_month_totals below find them. Emptied (0, NaN, 0)
- * before the first step and kept from step to step, in every run that is not refused 1 to 7: also in one with no steps,
- * and where a later step is refused they are those of the rows before it. */
+ * PILGARTZE_DAYS_IN_YEAR(leap_year), and in a common year the last of the 378 is not touched; pilgartze_day_totals and
+ * pilgartze_month_totals below find them. Emptied (0, NaN, 0) before the first step and kept from step to step, in
+ * every run that is not refused 1 to 7: also in one with no steps, and where a step is refused they are those of the
+ * rows before it. */
 typedef struct pilgartze_year_totals {
     pilgartze_totals totals[PILGARTZE_MOST_TOTALS];
 } pilgartze_year_totals;
@@ -402,8 +403,8 @@ PILGARTZE_SIZE(pilgartze_factor_answer, 16);
 
 /* Numbers in the order of the structs above, then lists, each a pointer and a length in bytes. A series is a list of
  * doubles, sectors are records of 216 bytes (struct pilgartze_sector), window objects of 32, days and totals of 24,
- * results of 48 or 72; every word is 8 bytes, least byte first. Pointers need no alignment. A part of a double at the end
- * of a series or of results counts for nothing. */
+ * results of 48 or 72; every word is 8 bytes, least byte first. Pointers need no alignment. A part of a double at the
+ * end of a series or of results counts for nothing. */
 
 /* A run over all steps. Accepted: one row of 48 bytes for each step, in order; bytes past the last row are untouched.
  * Refused 1 to 7: nothing is stored. Refused 8 to 11 at a step: the rows of the steps before it are stored, all other
@@ -412,9 +413,10 @@ PILGARTZE_SIZE(pilgartze_factor_answer, 16);
  * for short results. Where the run is not refused 1 to 7 all of the table is stored, before the first step; bytes past
  * it are untouched. What was in it before does not matter.
  * Totals is room for the totals of the year, PILGARTZE_TOTALS_LENGTH(leap_year) bytes or more; where it is shorter the
- * run is refused 7. Where the run is not refused 1 to 7 all of them are emptied before the first step, and each step's row
- * is added to its day's and to its month's; bytes past them are untouched. Where a step is refused 8 to 11 they are those
- * of the rows that are stored, though count and sum of the answer are 0. */
+ * run is refused 7. Where the run is not refused 1 to 7 all of them are emptied before the first step, and each step's
+ * row is added to its day's and to its month's; bytes past them are untouched. What was in them before does not matter.
+ * Where a step is refused 8 to 11 they are those of the rows that are stored, though count and sum of the answer are 0.
+ */
 pilgartze_answer pilgartze_run(
     double latitude, double longitude, int64_t timezone, uint64_t start_day, double series_step, uint64_t leap_year,
     uint64_t direct_beam_conversion, double start, double end, double step, double tilt, double orientation,
@@ -553,7 +555,7 @@ static inline size_t pilgartze_length(size_t count, size_t size)
 }
 
 /* pilgartze_run with structs. The rows are room for row_count results. For series of different lengths call
- * pilgartze_run itself. (Version 1 had no days, and no version before 4 has totals: declare a pilgartze_day_table and a
+ * pilgartze_run itself. (Version 1 had no days, and no version before 4 had totals: declare a pilgartze_day_table and a
  * pilgartze_year_totals, and pass their addresses before the rows.) */
 static inline pilgartze_answer pilgartze_run_job(const pilgartze_site *site, const pilgartze_run_times *run,
                                                  const pilgartze_surface *surface, const pilgartze_weather *weather,
@@ -578,8 +580,9 @@ static inline pilgartze_answer pilgartze_run_job(const pilgartze_site *site, con
         row_count == 0 ? &nothing : (uint8_t *)rows, pilgartze_length(row_count, sizeof(pilgartze_row)));
 }
 
-/* The totals of a day of the year, which counts from 0 (0..364, in a leap year 365), and of a month (1..12), as a run
- * with that leap_year leaves them. NULL where the year has no such day or month. */
+/* The totals of a day of the year, counted from 0 (0..364, in a leap year 0..365), and of a month (1..12), as a run
+ * with that leap_year leaves them. NULL where the year has no such day or month. In a common year 28 February is day 58
+ * and 1 March day 59. */
 static inline const pilgartze_totals *pilgartze_day_totals(const pilgartze_year_totals *totals, uint64_t leap_year,
                                                            uint64_t day)
 {

@@ -10,7 +10,7 @@ static pilgartze_answer run_of(const job *of, const lent *at)
         surface->base_height, surface->height, surface->width, at->lists[DIFFUSE], of->lengths[DIFFUSE],
         at->lists[DIRECT], of->lengths[DIRECT], at->lists[REFLECTIVITY], of->lengths[REFLECTIVITY],
         at->lists[SECTORS], of->lengths[SECTORS], at->lists[WINDOW], of->lengths[WINDOW], at->days, of->days,
-        at->results, of->results[RUN]);
+        at->totals, of->totals, at->results, of->results[RUN]);
 }
 
 static uint64_t step_of(const job *of, const lent *at)
@@ -86,6 +86,11 @@ static int came_to_steps(const pilgartze_answer *answer)
 size_t days_stored_by(const pilgartze_answer *answer)
 {
     return came_to_steps(answer) ? PILGARTZE_DAYS_LENGTH : 0;
+}
+
+size_t totals_stored_by(const job *of, const pilgartze_answer *answer)
+{
+    return came_to_steps(answer) ? PILGARTZE_TOTALS_LENGTH(of->site.leap_year) : 0;
 }
 
 size_t stored_by(enum call call, const pilgartze_answer *answer)

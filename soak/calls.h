@@ -8,6 +8,7 @@
 typedef struct lent {
     const uint8_t *lists[LISTS];
     uint8_t *days;
+    uint8_t *totals;
     uint8_t *results;
 } lent;
 
@@ -21,5 +22,7 @@ int can_give(enum call call, uint64_t number);
 size_t stored_by(enum call call, const pilgartze_answer *answer);
 /* How many bytes of the table of days a run stores that gave this answer. */
 size_t days_stored_by(const pilgartze_answer *answer);
+/* And of the totals. */
+size_t totals_stored_by(const job *of, const pilgartze_answer *answer);
 
 #endif

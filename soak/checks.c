@@ -166,6 +166,9 @@ static const char *wrong_results(soak *in, const desk *on, enum call call, const
     if (wrong == NULL && (call == RUN || call == STEP)) {
         wrong = wrong_rows(in, on->at.results, call, of, answer);
     }
+    if (wrong == NULL && call == RUN) {
+        wrong = wrong_totals(on, of, answer);
+    }
     if (wrong == NULL && call == FACTOR && (answer->number == 0 || answer->number >= PILGARTZE_REFUSED_GAP)) {
         wrong = wrong_walk(in, FACTOR, of, of->altitude, of->azimuth, answer->number);
     }
@@ -181,6 +184,7 @@ pilgartze_answer tried(soak *in, desk *on, enum call call, const job *of, int at
     lay_results(on, of->results[call], at_the_end, fill);
     if (call == RUN) {
         lay_former_days(in, on, of->days, fill);
+        lay_former_totals(in, on, of->totals, fill);
     }
     watched_call(name_of(call));
     answer = answer_to(call, of, &on->at);
@@ -194,11 +198,12 @@ pilgartze_answer tried(soak *in, desk *on, enum call call, const job *of, int at
     in->seen[call][answer.number] += 1;
     if (call == RUN) {
         count_days(in, of, &answer);
+        count_totals(in, on, of, &answer);
     }
     return answer;
 }
 
-/* Once on each desk, with all lists against other ends, and with other bytes in the results and in the days. */
+/* Once on each desk, with all lists against other ends, and with other bytes in results, days and totals. */
 static void try_twice(soak *in, enum call call, const job *of, int at_the_end, uint8_t fill)
 {
     const pilgartze_answer first = tried(in, &in->first, call, of, at_the_end, fill);

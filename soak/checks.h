@@ -18,7 +18,8 @@ typedef struct soak {
     uint64_t turn;
     int on_the_heap;
     desk first, second;
-    uint8_t days[PILGARTZE_DAYS_LENGTH]; /* the table of the first run */
+    uint8_t days[PILGARTZE_DAYS_LENGTH];        /* the table of the first run */
+    uint8_t totals[PILGARTZE_TOTALS_LENGTH(1)]; /* the totals of the last that came to its steps */
     uint64_t seen[CALLS][PILGARTZE_REFUSED_LINE];
     uint64_t walks[CALLS][NO_SECTOR][PILGARTZE_MOST_SECTORS]; /* inside the beam, by place */
     uint64_t sound;            /* sound jobs */
@@ -39,6 +40,15 @@ typedef struct soak {
     uint64_t days_no_steps;    /* accepted runs with no steps, with the same */
     uint64_t short_days;       /* runs refused with a table that was too short */
     uint64_t short_no_steps;   /* of these, with no steps */
+    uint64_t short_totals;     /* runs refused with totals that were too short */
+    uint64_t totals_no_steps;  /* of these, with no steps */
+    uint64_t leap_days;        /* runs with steps on 29 February */
+    uint64_t first_of_march;   /* runs with steps on 1 March of a common year */
+    uint64_t steps_overnight;  /* steps that end on another day than they start */
+    uint64_t sums_apart;       /* sums of months that are not those of their days' sums */
+    uint64_t largest_below_0;  /* days whose largest total is below 0 */
+    uint64_t pairs;            /* pairs of accepted runs with other objects */
+    uint64_t pairs_apart;      /* of these, with another sum */
 } soak;
 
 /* Ends the program, after it has told what does not hold of which call of which job. */
@@ -48,14 +58,22 @@ void failed(const soak *in, const char *what, enum call call, const job *of, con
 pilgartze_answer tried(soak *in, desk *on, enum call call, const job *of, int at_the_end, uint8_t fill);
 /* Takes the table of days of the first run, to which all later ones are held. */
 void learn_days(soak *in);
-/* Makes a table of days of that length, with former bytes by the fill. */
+/* What is in a table of that length before a call. A fill and its complement make other bytes: each the byte itself
+ * throughout, or one of them any bytes and the other a table from before, of that size, in which one byte is not right,
+ * as in one that is lent again and was written to. */
+void make_former(source from, uint8_t *former, size_t length, uint8_t fill, const uint8_t *before, size_t size);
+/* Makes a table of days of that length, with former bytes by the fill; and totals. */
 void lay_former_days(const soak *in, desk *on, size_t length, uint8_t fill);
+void lay_former_totals(const soak *in, desk *on, size_t length, uint8_t fill);
 /* What is wrong with the table after a run, or NULL. */
 const char *wrong_days(const soak *in, const desk *on, const job *of, const pilgartze_answer *answer);
-/* What is wrong with a run's number by the lengths of the table and the results, or NULL. */
+/* What is wrong with the totals after it, or NULL; the results are still there. */
+const char *wrong_totals(const desk *on, const job *of, const pilgartze_answer *answer);
+/* What is wrong with a run's number by the lengths of the table, the totals and the results, or NULL. */
 const char *wrong_length(const job *of, uint64_t number);
-/* Counts what became of the table. */
+/* Counts what became of the table, and of the totals. */
 void count_days(soak *in, const job *of, const pilgartze_answer *answer);
+void count_totals(soak *in, const desk *on, const job *of, const pilgartze_answer *answer);
 /* All four calls, each twice. */
 void try_calls(soak *in, source *from, const job *of);
 /* Some step of a run by itself. */
@@ -68,8 +86,10 @@ const char *wrong_walk(soak *in, enum call call, const job *of, double altitude,
 int tell_walks(const soak *in);
 /* Puts the sun of the single step into the job, for the factor. */
 void sun_of_step(soak *in, job *of);
-/* A table of days that is too short. */
-void try_short_days(soak *in, source *from, const job *of);
+/* A table of days and totals that are too short. */
+void try_short_tables(soak *in, source *from, const job *of);
+/* The same job with its objects in another order, and with fewer of them. */
+void try_other_objects(soak *in, source *from, const job *of);
 /* Two threads at once, with the same lists. */
 void try_threads(soak *in, source *from, const job *of);
 /* One list lent for all three series. */

@@ -12,24 +12,26 @@ static void any_former(source *from, uint8_t *former, size_t length)
     }
 }
 
-/* A fill and its complement make other bytes: each the byte itself throughout, or one of them any bytes and the other a
- * table from before in which one byte is not right, as in one that is lent again and was written to. */
-void lay_former_days(const soak *in, desk *on, size_t length, uint8_t fill)
+void make_former(source from, uint8_t *former, size_t length, uint8_t fill, const uint8_t *before, size_t size)
 {
-    source from = source_of(in->seed + in->turn, fill);
     switch (fill % 3) {
     case 0:
-        memset(on->former, fill, length + BESIDE);
+        memset(former, fill, length + BESIDE);
         break;
     case 1:
-        any_former(&from, on->former, length + BESIDE);
+        any_former(&from, former, length + BESIDE);
         break;
     default:
-        any_former(&from, on->former, length + BESIDE);
-        memcpy(on->former, in->days, length < sizeof in->days ? length : sizeof in->days);
-        on->former[random_below(&from, sizeof in->days)] ^= 1;
+        any_former(&from, former, length + BESIDE);
+        memcpy(former, before, length < size ? length : size);
+        former[random_below(&from, size)] ^= 1;
         break;
     }
+}
+
+void lay_former_days(const soak *in, desk *on, size_t length, uint8_t fill)
+{
+    make_former(source_of(in->seed + in->turn, fill), on->days.former, length, fill, in->days, sizeof in->days);
     lay_days(on, length, fill % 2 != 0);
 }
 
@@ -63,14 +65,19 @@ const char *wrong_days(const soak *in, const desk *on, const job *of, const pilg
 
 const char *wrong_length(const job *of, uint64_t number)
 {
-    const int too_short = of->days < PILGARTZE_DAYS_LENGTH;
+    const int short_days = of->days < PILGARTZE_DAYS_LENGTH;
+    const int short_totals = of->totals < PILGARTZE_TOTALS_LENGTH(of->site.leap_year);
     if (number == PILGARTZE_REFUSED_RESULTS) {
         const size_t room = of->results[RUN] / sizeof(pilgartze_row);
-        return too_short || room < step_count(&of->run) ? NULL : "refused 7, and nothing is too short";
+        const int too_short = short_days || short_totals || room < step_count(&of->run);
+        return too_short ? NULL : "refused 7, and nothing is too short";
     }
-    return too_short && (number == 0 || number >= PILGARTZE_REFUSED_GAP)
-               ? "a table of days that is too short is not refused"
-               : NULL;
+    if (number != 0 && number < PILGARTZE_REFUSED_GAP) {
+        return NULL;
+    }
+    return short_days     ? "a table of days that is too short is not refused"
+           : short_totals ? "totals that are too short are not refused"
+                          : NULL;
 }
 
 void count_days(soak *in, const job *of, const pilgartze_answer *answer)
@@ -84,20 +91,35 @@ void count_days(soak *in, const job *of, const pilgartze_answer *answer)
     in->days_at_step_0 += number >= PILGARTZE_REFUSED_GAP && answer->step == 0 ? 1 : 0;
 }
 
-/* The job with a table long enough and with one too short, by a byte as often as by any number: refused 7, but 1 to 6
- * come before. The lists stand on the first desk already. */
-void try_short_days(soak *in, source *from, const job *of)
+/* Too short by a byte as often as by any number. */
+static size_t shorter(source *from, size_t length)
 {
-    job changed = *of;
+    return one_in(from, 2) ? length - 1 : random_below(from, length);
+}
+
+/* The job with table and totals long enough, and with one of them too short: refused 7, but 1 to 6 come before. The
+ * lists stand on the first desk already. */
+void try_short_tables(soak *in, source *from, const job *of)
+{
+    static const char *const wrong[] = {"with a short table of days not the number that it should be",
+                                        "with short totals not the number that it should be"};
+    job changed[2] = {*of, *of};
     pilgartze_answer answer;
     uint64_t number;
-    changed.days = PILGARTZE_DAYS_LENGTH;
-    number = tried(in, &in->first, RUN, &changed, 1, 0).number;
+    int i;
+    for (i = 0; i < 2; i++) {
+        changed[i].days = PILGARTZE_DAYS_LENGTH;
+        changed[i].totals = PILGARTZE_TOTALS_LENGTH(of->site.leap_year);
+    }
+    number = tried(in, &in->first, RUN, &changed[0], 1, 0).number;
     number = number == 0 || number > PILGARTZE_REFUSED_RESULTS ? PILGARTZE_REFUSED_RESULTS : number;
-    changed.days -= one_in(from, 2) ? 1 : 1 + random_below(from, PILGARTZE_DAYS_LENGTH);
-    answer = tried(in, &in->first, RUN, &changed, 1, (uint8_t)random_word(from));
-    if (answer.number != number) {
-        failed(in, "with a short table of days not the number that it should be", RUN, &changed, &answer);
+    changed[0].days = shorter(from, changed[0].days);
+    changed[1].totals = shorter(from, changed[1].totals);
+    for (i = 0; i < 2; i++) {
+        answer = tried(in, &in->first, RUN, &changed[i], 1, (uint8_t)random_word(from));
+        if (answer.number != number) {
+            failed(in, wrong[i], RUN, &changed[i], &answer);
+        }
     }
 }
 
@@ -107,8 +129,10 @@ static void take_table(soak *in, const job *of, uint8_t fill, uint8_t *into)
 {
     desk *const on = &in->first;
     pilgartze_answer answer;
-    memset(on->former, fill, of->days + BESIDE);
+    memset(on->days.former, fill, of->days + BESIDE);
     lay_days(on, of->days, 1);
+    memset(on->totals.former, fill, of->totals + BESIDE);
+    lay_totals(on, of->totals, 1);
     lay_results(on, of->results[RUN], 1, 0);
     watched_call(name_of(RUN));
     answer = answer_to(RUN, of, &on->at);
@@ -134,6 +158,7 @@ void learn_days(soak *in)
     }
     of.results[RUN] = 24 * sizeof(pilgartze_row);
     of.days = MOST_DAYS;
+    of.totals = MOST_TOTALS;
     lay_out(&in->first, &of, 0, 0, 0);
     take_table(in, &of, 0x00, in->days);
     take_table(in, &of, 0xFF, second);

@@ -16,6 +16,17 @@ static uint8_t *block(const uint8_t *old, size_t length)
     return made;
 }
 
+static table new_table(int on_the_heap, size_t most)
+{
+    table made;
+    memset(&made, 0, sizeof made);
+    if (!on_the_heap) {
+        made.room = pages_for(most + BESIDE);
+    }
+    made.former = block(NULL, most + BESIDE + 7);
+    return made;
+}
+
 desk new_desk(int on_the_heap)
 {
     desk made;
@@ -27,9 +38,9 @@ desk new_desk(int on_the_heap)
     }
     if (!on_the_heap) {
         made.results = pages_for(MOST_RESULTS + BESIDE);
-        made.days = pages_for(MOST_DAYS + BESIDE);
     }
-    made.former = block(NULL, MOST_DAYS + BESIDE + 7);
+    made.days = new_table(on_the_heap, MOST_DAYS);
+    made.totals = new_table(on_the_heap, MOST_TOTALS);
     return made;
 }
 
@@ -66,21 +77,34 @@ void lay_results(desk *on, size_t length, int at_the_end, uint8_t fill)
 }
 
 /* Before a table that stands against the end of its pages, else behind it. */
-static uint8_t *beside_days(const desk *on, size_t length)
+static uint8_t *beside(const table *of, uint8_t *at, size_t length)
 {
-    return on->days_at_the_end ? on->at.days - BESIDE : on->at.days + length;
+    return of->at_the_end ? at - BESIDE : at + length;
+}
+
+/* Where the table is then; old is where it was. */
+static uint8_t *laid(const desk *on, table *of, const uint8_t *old, size_t length, int at_the_end)
+{
+    uint8_t *at;
+    of->at_the_end = at_the_end;
+    if (on->on_the_heap) {
+        at = block(old, length);
+    } else {
+        at = of->room.writable + offset_in(&of->room, at_the_end, length);
+        memcpy(beside(of, at, length), of->former + length, BESIDE);
+    }
+    memcpy(at, of->former, length);
+    return at;
 }
 
 void lay_days(desk *on, size_t length, int at_the_end)
 {
-    on->days_at_the_end = at_the_end;
-    if (on->on_the_heap) {
-        on->at.days = block(on->at.days, length);
-    } else {
-        on->at.days = on->days.writable + offset_in(&on->days, at_the_end, length);
-        memcpy(beside_days(on, length), on->former + length, BESIDE);
-    }
-    memcpy(on->at.days, on->former, length);
+    on->at.days = laid(on, &on->days, on->at.days, length, at_the_end);
+}
+
+void lay_totals(desk *on, size_t length, int at_the_end)
+{
+    on->at.totals = laid(on, &on->totals, on->at.totals, length, at_the_end);
 }
 
 int lists_kept(const desk *on, const job *of)
@@ -107,9 +131,18 @@ int results_kept(const desk *on, size_t from, size_t length)
            all_are(on->at.results + from, length - from + behind, on->fill);
 }
 
+static int table_kept(const desk *on, const table *of, uint8_t *at, size_t from, size_t length)
+{
+    return memcmp(at + from, of->former + from, length - from) == 0 &&
+           (on->on_the_heap || memcmp(beside(of, at, length), of->former + length, BESIDE) == 0);
+}
+
 int days_kept(const desk *on, size_t from, size_t length)
 {
-    const size_t beside = on->on_the_heap ? 0 : BESIDE;
-    return memcmp(on->at.days + from, on->former + from, length - from) == 0 &&
-           (beside == 0 || memcmp(beside_days(on, length), on->former + length, beside) == 0);
+    return table_kept(on, &on->days, on->at.days, from, length);
+}
+
+int totals_kept(const desk *on, size_t from, size_t length)
+{
+    return table_kept(on, &on->totals, on->at.totals, from, length);
 }

@@ -16,6 +16,7 @@ enum call { RUN, STEP, IRRADIANCE, FACTOR, CALLS };
 #define MOST_WINDOW ((size_t)4 * 1000)
 #define MOST_RESULTS (sizeof(pilgartze_row) * PILGARTZE_MOST_STEPS + 1000)
 #define MOST_DAYS ((size_t)2 * PILGARTZE_DAYS_LENGTH)
+#define MOST_TOTALS ((size_t)2 * PILGARTZE_TOTALS_LENGTH(1))
 
 typedef struct job {
     pilgartze_site site;
@@ -29,6 +30,7 @@ typedef struct job {
     size_t lengths[LISTS];
     size_t results[CALLS]; /* the lengths of the results lists */
     size_t days;           /* the length of the run's table of days */
+    size_t totals;         /* and of its totals */
 } job;
 
 size_t most_of(enum list list);
@@ -41,6 +43,8 @@ job bare_job(void);
 size_t step_count(const pilgartze_run_times *run);
 double step_time(const pilgartze_run_times *run, size_t step);
 size_t series_index(const pilgartze_site *site, double time);
+/* How many days a month has, which is counted from 0. */
+size_t month_length(uint64_t leap_year, size_t month);
 pilgartze_reading reading_at(const job *of, size_t index);
 
 /* A job with all in range and, for the most part, accepted; now and then of a whole year where those are wanted. Every

@@ -83,6 +83,7 @@ static size_t stack_of(soak *in, enum call call, uint64_t jobs, job *made)
         lay_out(&in->first, made, (unsigned)random_word(&from), 0, 1);
         lay_results(&in->first, made->results[call == CALLS ? FACTOR : call], 1, 0);
         lay_former_days(in, &in->first, made->days, 0);
+        lay_former_totals(in, &in->first, made->totals, 0);
         watched_call(name);
         on_stack(&given, stack);
     }

@@ -62,13 +62,16 @@ static void one_turn(soak *in, job *made)
         try_step_of_run(in, &from, made);
     }
     if (one_in(&from, 4)) {
-        try_short_days(in, &from, made);
+        try_short_tables(in, &from, made);
     }
     if (one_in(&from, 16)) {
         try_threads(in, &from, made);
     }
     if (one_in(&from, 16)) {
         try_one_series(in, &from, made);
+    }
+    if (one_in(&from, 8)) {
+        try_other_objects(in, &from, made);
     }
     try_walk(in, &from);
 }
@@ -132,6 +135,19 @@ static void tell_days(const soak *in)
            (unsigned long long)in->short_days, (unsigned long long)in->short_no_steps);
 }
 
+static void tell_totals(const soak *in)
+{
+    printf("totals: too short in %llu runs, %llu of them with no steps; %llu runs on 29 February, %llu on 1 March of a "
+           "common year, %llu steps that end on another day, %llu sums of months that are not those of their days, "
+           "%llu days whose largest total is below 0; %llu pairs of runs with other objects, %llu of them with another "
+           "sum\n",
+           (unsigned long long)in->short_totals, (unsigned long long)in->totals_no_steps,
+           (unsigned long long)in->leap_days, (unsigned long long)in->first_of_march,
+           (unsigned long long)in->steps_overnight, (unsigned long long)in->sums_apart,
+           (unsigned long long)in->largest_below_0, (unsigned long long)in->pairs,
+           (unsigned long long)in->pairs_apart);
+}
+
 static void tell_sums(const soak *in)
 {
     printf("sums above 0: %llu by steps of an hour, %llu by several steps that are no power of two nor the series', "
@@ -161,6 +177,17 @@ static int too_few_days(const soak *in)
     return 0;
 }
 
+/* What a wrong day or month, a sum from other sums or a largest total from 0 would not show in. */
+static int too_few_totals(const soak *in)
+{
+    if (in->short_totals == 0 || in->totals_no_steps == 0 || in->leap_days == 0 || in->first_of_march == 0 ||
+        in->steps_overnight == 0 || in->sums_apart == 0 || in->largest_below_0 == 0 || in->pairs_apart == 0) {
+        printf("soak: a kind of totals was never seen\n");
+        return 1;
+    }
+    return 0;
+}
+
 /* A third of the sound jobs must have been aimed well, and the sun overhead must have been shaded and refused. */
 static int too_seldom_aimed(const soak *in)
 {
@@ -182,6 +209,7 @@ static int told(const soak *in, const options *by)
            (unsigned long long)in->threads);
     tell_aimed(in);
     tell_days(in);
+    tell_totals(in);
     tell_sums(in);
     if (by->jobs == 1) {
         return 0;
@@ -190,7 +218,7 @@ static int told(const soak *in, const options *by)
         printf("soak: something was never seen, numbers and walks: %d\n", unseen);
         return 1;
     }
-    return too_seldom_aimed(in) + too_few_days(in) + too_few_sums(in) > 0;
+    return too_seldom_aimed(in) + too_few_days(in) + too_few_totals(in) + too_few_sums(in) > 0;
 }
 
 int main(int count, char **words)

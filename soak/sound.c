@@ -76,6 +76,12 @@ size_t series_index(const pilgartze_site *site, double time)
     return place < 0.0 ? 0 : (size_t)place;
 }
 
+size_t month_length(uint64_t leap_year, size_t month)
+{
+    static const size_t lengths[PILGARTZE_MONTHS] = {31, 28, 31, 30, 31, 30, 31, 31, 30, 31, 30, 31};
+    return lengths[month] + (month == 1 && leap_year != 0 ? 1 : 0);
+}
+
 static double value_at(const uint8_t *series, size_t index)
 {
     double value;
@@ -114,13 +120,25 @@ static void sound_site(source *from, pilgartze_site *site)
     site->series_step = some_step(from);
 }
 
+/* One of the last days of some month, as often of February as of all others. */
+static size_t end_of_month(source *from, uint64_t leap_year)
+{
+    const size_t month = one_in(from, 2) ? 1 : random_below(from, PILGARTZE_MONTHS - 1);
+    size_t day = 0;
+    size_t i;
+    for (i = 0; i <= month; i++) {
+        day += month_length(leap_year, i);
+    }
+    return day - 1 - random_below(from, 2);
+}
+
 /* Some hours from about the morning of a day on, which is also when the series begin, or a whole year. In a quarter of
- * them the last step passes the end. */
+ * them the last step passes the end; an eighth begins where a month ends. */
 static void sound_run(source *from, job *made, int years)
 {
     const double hours = made->site.leap_year == 1 ? 8784.0 : 8760.0;
     const size_t count = one_in(from, 8) ? random_below(from, 3) : random_below(from, 40);
-    const size_t day = random_below(from, 324);
+    const size_t day = one_in(from, 8) ? end_of_month(from, made->site.leap_year) : random_below(from, 324);
     pilgartze_run_times *run = &made->run;
     run->step = some_step(from);
     if (years && one_in(from, 500)) {
@@ -264,6 +282,7 @@ void sound_job(source *from, job *made, int years)
     made->results[IRRADIANCE] = sizeof(pilgartze_breakdown) + (one_in(from, 2) ? random_below(from, 100) : 0);
     made->results[FACTOR] = 0;
     made->days = PILGARTZE_DAYS_LENGTH + (one_in(from, 2) ? random_below(from, 100) : 0);
+    made->totals = PILGARTZE_TOTALS_LENGTH(made->site.leap_year) + (one_in(from, 2) ? random_below(from, 100) : 0);
     if (one_in(from, 2)) {
         aim(from, made);
     }

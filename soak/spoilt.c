@@ -135,6 +135,11 @@ static void spoil_days(source *from, job *made)
     made->days = odd_length(from, made->days, MOST_DAYS);
 }
 
+static void spoil_totals(source *from, job *made)
+{
+    made->totals = odd_length(from, made->totals, MOST_TOTALS);
+}
+
 /* Bytes of a list, in one place. */
 static void spoil_bytes(source *from, job *made)
 {
@@ -197,8 +202,9 @@ static void reveal_put_in(source *from, job *made)
 void spoil(source *from, job *made)
 {
     static void (*const ways[])(source *, job *) = {
-        spoil_double, spoil_double,  spoil_double, spoil_double, spoil_whole_number, spoil_times, aim,
-        spoil_length, spoil_results, spoil_days,   spoil_bytes,  spoil_word,         spoil_bound, reveal_put_in,
+        spoil_double, spoil_double, spoil_double, spoil_double,  spoil_whole_number,
+        spoil_times,  aim,          spoil_length, spoil_results, spoil_days,
+        spoil_totals, spoil_bytes,  spoil_word,   spoil_bound,   reveal_put_in,
     };
     ways[random_below(from, COUNT(ways))](from, made);
 }
@@ -224,6 +230,7 @@ static void scramble_lists(source *from, job *made)
         made->results[list] = random_below(from, 1000);
     }
     made->days = random_below(from, MOST_DAYS);
+    made->totals = random_below(from, MOST_TOTALS);
 }
 
 void scramble(source *from, job *made, size_t part)
@@ -277,8 +284,8 @@ void tell_job(const job *of)
     for (i = 0; i < sizeof words / 8; i++) {
         printf(" %016llX", (unsigned long long)words[i]);
     }
-    printf("\n  results, bytes: run %zu, step %zu, irradiance %zu; days: %zu\n", of->results[RUN], of->results[STEP],
-           of->results[IRRADIANCE], of->days);
+    printf("\n  results, bytes: run %zu, step %zu, irradiance %zu; days: %zu; totals: %zu\n", of->results[RUN],
+           of->results[STEP], of->results[IRRADIANCE], of->days, of->totals);
     for (i = 0; i < LISTS; i++) {
         tell_list(names[i], of->lists[i], of->lengths[i]);
     }

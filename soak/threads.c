@@ -1,4 +1,4 @@
-/* Two threads that call at once: the same lists, results and a table of days of their own. */
+/* Two threads that call at once: the same lists, results, a table of days and totals of their own. */
 #define _POSIX_C_SOURCE 200809L
 #include "checks.h"
 
@@ -29,7 +29,8 @@ static int as_known(const worker *me, const known *which, const pilgartze_answer
     const size_t stored = stored_by(me->call, &which->answer);
     return same_answer(answer, &which->answer) && memcmp(me->on->at.results, which->left->at.results, stored) == 0 &&
            results_kept(me->on, stored, which->of.results[me->call]) &&
-           (me->call != RUN || wrong_days(me->in, me->on, &which->of, answer) == NULL);
+           (me->call != RUN || (wrong_days(me->in, me->on, &which->of, answer) == NULL &&
+                                wrong_totals(me->on, &which->of, answer) == NULL));
 }
 
 static void *work(void *given)
@@ -45,6 +46,7 @@ static void *work(void *given)
         lay_results(me->on, which->of.results[me->call], me->first == 0, fill);
         if (me->call == RUN) {
             lay_former_days(me->in, me->on, which->of.days, fill);
+            lay_former_totals(me->in, me->on, which->of.totals, fill);
         }
         answer = answer_to(me->call, &which->of, &me->on->at);
         me->wrong = as_known(me, which, &answer) ? 0 : 1 + (int)place;

@@ -167,6 +167,7 @@ static void one_step(source *from, job *made)
     made->results[STEP] = sizeof(pilgartze_row);
     made->results[IRRADIANCE] = sizeof(pilgartze_breakdown);
     made->days = PILGARTZE_DAYS_LENGTH;
+    made->totals = PILGARTZE_TOTALS_LENGTH(0);
 }
 
 void sun_of_step(soak *in, job *of)

@@ -13,12 +13,14 @@ static void expect(const soak *in, const job *of, const lent *at, enum call call
     }
 }
 
-/* Series, table of days and results may be as long as they like; sectors and window objects are too many then. */
+/* Series, table of days, totals and results may be as long as they like; sectors and window objects are too many then.
+ */
 void try_wide_lists(soak *in)
 {
     const pages zeros = wide_pages(WIDE, 1);
     const pages room = wide_pages(WIDE, 0);
-    const pages table = wide_pages(WIDE, 0);
+    const pages days = wide_pages(WIDE, 0);
+    const pages totals = wide_pages(WIDE, 0);
     job of = bare_job();
     lent at;
     int list;
@@ -27,8 +29,10 @@ void try_wide_lists(soak *in)
         of.lists[list] = zeros.readable;
         of.lengths[list] = list <= REFLECTIVITY ? WIDE - 216 + (size_t)list : 0;
     }
-    at.days = table.writable;
+    at.days = days.writable;
     of.days = WIDE - 216;
+    at.totals = totals.writable;
+    of.totals = WIDE - 216;
     at.results = room.writable;
     for (list = 0; list < FACTOR; list++) {
         of.results[list] = WIDE - 216;

@@ -1,7 +1,8 @@
 /* Engines that are wrong in one way each, which the soak has to find: the sound library under other names, and around
- * it what the flaw does that the environment variable SOAK_FLAW names. soak/flaws says by what each must be found. */
+ * it what the flaw does that the environment variable SOAK_FLAW names. soak/flaws says by what each must be found. What
+ * flaws do to the totals of days and months stands in soak/wrong_totals.c. */
 #define _POSIX_C_SOURCE 200809L
-#include "pilgartze.h"
+#include "wrong.h"
 
 #include <fenv.h>
 #include <math.h>
@@ -23,11 +24,13 @@
 #define OBJECTS sectors, sectors_length, window, window_length
 #define DAYS_LIST uint8_t *days, size_t days_length
 #define DAYS days, days_length
+#define TOTALS_LIST uint8_t *totals, size_t totals_length
+#define TOTALS totals, totals_length
 #define RESULTS_LIST uint8_t *results, size_t results_length
 #define RESULTS results, results_length
 #define RUN_ARGUMENTS SITE_NUMBERS, double start, double end, double step, SURFACE_NUMBERS, SERIES_LISTS, OBJECT_LISTS
 
-pilgartze_answer sound_run(RUN_ARGUMENTS, DAYS_LIST, RESULTS_LIST);
+pilgartze_answer sound_run(RUN_ARGUMENTS, DAYS_LIST, TOTALS_LIST, RESULTS_LIST);
 uint64_t sound_step(SITE_NUMBERS, double time, SURFACE_NUMBERS, READINGS, OBJECT_LISTS, RESULTS_LIST);
 uint64_t sound_irradiance(SITE_NUMBERS, double time, SURFACE_NUMBERS, READINGS, RESULTS_LIST);
 pilgartze_factor_answer sound_factor(double altitude, double azimuth, SURFACE_NUMBERS, OBJECT_LISTS);
@@ -35,8 +38,7 @@ pilgartze_factor_answer sound_factor(double altitude, double azimuth, SURFACE_NU
 #define ROW sizeof(pilgartze_row)
 #define DAY sizeof(pilgartze_day_values)
 
-/* Whether that is the flaw of this run. */
-static int flaw(const char *name)
+int flaw(const char *name)
 {
     static const char *chosen = NULL;
     if (chosen == NULL) {
@@ -54,12 +56,13 @@ static void change(const uint8_t *list, size_t length)
     }
 }
 
-static uint8_t read_at(const uint8_t *place)
+uint8_t read_at(const uint8_t *place)
 {
     return *(const volatile uint8_t *)place;
 }
 
-static void go_deep(void)
+/* Its stack is taken only where it is called. */
+__attribute__((noinline)) static void go_deep(void)
 {
     volatile uint8_t deep[2 * PILGARTZE_STACK_BYTES];
     size_t i;
@@ -79,8 +82,9 @@ static void wait_a_little(void)
 static void fill_days(uint8_t *days)
 {
     uint8_t none = 0;
+    pilgartze_year_totals own;
     sound_run(0.0, 0.0, 0, 0, 1.0, 0, 0, 1.0, 1.0, 1.0, 90.0, 0.0, 0.0, 1.0, 1.0, &none, 0, &none, 0, &none, 0, &none,
-              0, &none, 0, days, PILGARTZE_DAYS_LENGTH, &none, 0);
+              0, &none, 0, days, PILGARTZE_DAYS_LENGTH, (uint8_t *)&own, sizeof own, &none, 0);
 }
 
 static void before_days(DAYS_LIST)
@@ -201,11 +205,6 @@ static void wrong_rows(uint8_t *results, size_t rows)
         memcpy(results + ROW * i, &row, sizeof row);
     }
 }
-
-/* What of a run's times its sum may go by. */
-typedef struct run_hours {
-    double series_step, start, end, step;
-} run_hours;
 
 /* Those of the last step up to the end of the run; all, where it ends before that. */
 static double hours_to_the_end(const run_hours *of, size_t rows)
@@ -336,11 +335,14 @@ static void wrong_table(const pilgartze_day_table *former, const pilgartze_answe
     }
 }
 
-/* The bits by which what was in the results or in the table before changes the first row. */
-static uint8_t bits_from_before(uint8_t old, const pilgartze_day_table *former)
+/* The bits by which what was in the results, in the table or in the totals before changes the first row. */
+static uint8_t bits_from_before(uint8_t old, const pilgartze_day_table *days, const pilgartze_year_totals *totals)
 {
     if (flaw("reads_the_former_days")) {
-        return *(const uint8_t *)former;
+        return *(const uint8_t *)days;
+    }
+    if (flaw("reads_the_former_totals")) {
+        return *(const uint8_t *)totals;
     }
     return flaw("reads_the_results") ? old % 2 : 0;
 }
@@ -358,6 +360,19 @@ static size_t left_out(int first, size_t length)
 static size_t walked(int first, int last, size_t length)
 {
     return last && length == SECTOR * PILGARTZE_MOST_SECTORS ? length - SECTOR : length - left_out(first, length);
+}
+
+/* How much of the window's list the factor goes by. */
+static size_t looked_at(size_t length)
+{
+    const size_t objects = length / sizeof(pilgartze_window_object);
+    if (objects > PILGARTZE_MOST_WINDOW_OBJECTS) {
+        return flaw("hundreds_of_objects_accepted") && objects < 1000 ? 0 : length;
+    }
+    if (flaw("later_objects_forgotten") && objects > 1) {
+        return sizeof(pilgartze_window_object);
+    }
+    return flaw("three_objects_forgotten") && objects >= 3 ? 0 : length;
 }
 
 /* What the sound library has for one step, without shade. */
@@ -398,22 +413,25 @@ static void store_nan_irradiance(uint8_t *results)
 #define SHORT(length) (flaw("lengths_of_32_bits") ? (uint32_t)(length) : (length))
 
 /* The sound run, with the sectors and the lengths that a flaw makes of them. */
-static pilgartze_answer run_with_wrong_lists(RUN_ARGUMENTS, DAYS_LIST, RESULTS_LIST)
+static pilgartze_answer run_with_wrong_lists(RUN_ARGUMENTS, DAYS_LIST, TOTALS_LIST, RESULTS_LIST)
 {
     const int first = flaw("first_sector_not_walked");
     const int last = flaw("last_sector_not_walked");
     return sound_run(SITE, start, end, step, SURFACE, diffuse, SHORT(diffuse_length), direct, SHORT(direct_length),
                      reflectivity, SHORT(reflectivity_length), sectors + left_out(first, sectors_length),
-                     walked(first, last, sectors_length), window, window_length, days, wrong_days_length(days_length),
-                     results, SHORT(results_length));
+                     walked(first, last, sectors_length), window, looked_at(window_length), days,
+                     wrong_days_length(days_length), totals, wrong_totals_length(leap_year, totals_length), results,
+                     SHORT(results_length));
 }
 
 /* The same by way of buffers that all threads share. */
-static pilgartze_answer run_with_buffers(RUN_ARGUMENTS, DAYS_LIST, RESULTS_LIST)
+static pilgartze_answer run_with_buffers(RUN_ARGUMENTS, DAYS_LIST, TOTALS_LIST, RESULTS_LIST)
 {
     static uint8_t rows[ROW * PILGARTZE_MOST_STEPS + 2000];
     static uint8_t table[3 * PILGARTZE_DAYS_LENGTH];
+    static uint8_t sums[3 * PILGARTZE_TOTALS_LENGTH(1)];
     uint8_t *const lent_days = days;
+    uint8_t *const lent_totals = totals;
     uint8_t *const lent_results = results;
     pilgartze_answer answer;
     if (flaw("one_buffer_for_all_threads") && results_length <= sizeof rows) {
@@ -422,43 +440,55 @@ static pilgartze_answer run_with_buffers(RUN_ARGUMENTS, DAYS_LIST, RESULTS_LIST)
     if (flaw("one_table_for_all_threads") && days_length <= sizeof table) {
         days = memcpy(table, days, days_length);
     }
-    answer = run_with_wrong_lists(SITE, start, end, step, SURFACE, SERIES, OBJECTS, DAYS, RESULTS);
-    if (results != lent_results || days != lent_days) {
+    if (flaw("one_list_of_totals_for_all_threads") && totals_length <= sizeof sums) {
+        totals = memcpy(sums, totals, totals_length);
+    }
+    answer = run_with_wrong_lists(SITE, start, end, step, SURFACE, SERIES, OBJECTS, DAYS, TOTALS, RESULTS);
+    if (results != lent_results || days != lent_days || totals != lent_totals) {
         wait_a_little();
         memmove(lent_results, results, results_length);
         memmove(lent_days, days, days_length);
+        memmove(lent_totals, totals, totals_length);
     }
     return answer;
 }
 
-/* With a table of its own where a flaw takes one that is too short. */
-static pilgartze_answer run_with_wrong_days(RUN_ARGUMENTS, DAYS_LIST, RESULTS_LIST)
+/* With a table or totals of its own where a flaw takes some that are too short. */
+static pilgartze_answer run_with_own_tables(RUN_ARGUMENTS, DAYS_LIST, TOTALS_LIST, RESULTS_LIST)
 {
-    pilgartze_day_table own;
+    static pilgartze_day_table own;
+    static pilgartze_year_totals own_totals;
     const int taken = flaw("short_days_accepted") || (flaw("short_days_accepted_for_no_steps") && start == end);
     if (taken && days_length < sizeof own) {
         days = (uint8_t *)&own;
         days_length = sizeof own;
     }
-    return run_with_buffers(SITE, start, end, step, SURFACE, SERIES, OBJECTS, DAYS, RESULTS);
+    if (short_totals_taken(leap_year, totals_length, start == end)) {
+        totals = (uint8_t *)&own_totals;
+        totals_length = sizeof own_totals;
+    }
+    return run_with_buffers(SITE, start, end, step, SURFACE, SERIES, OBJECTS, DAYS, TOTALS, RESULTS);
 }
 
-pilgartze_answer pilgartze_run(RUN_ARGUMENTS, DAYS_LIST, RESULTS_LIST)
+pilgartze_answer pilgartze_run(RUN_ARGUMENTS, DAYS_LIST, TOTALS_LIST, RESULTS_LIST)
 {
     const run_hours hours = {series_step, start, end, step};
     const uint8_t old = results_length > 0 ? results[0] : 0;
     const size_t room = days_length < PILGARTZE_DAYS_LENGTH ? days_length : PILGARTZE_DAYS_LENGTH;
     pilgartze_day_table former = {{{0.0, 0.0, 0.0}}};
-    pilgartze_answer answer;
+    pilgartze_year_totals former_totals;
+    pilgartze_answer answer, sound;
     memcpy(&former, days, room);
     before_run(direct, direct_length, reflectivity, reflectivity_length, OBJECTS);
     before_days(DAYS);
-    answer = run_with_wrong_days(SITE, start, end, step, SURFACE, SERIES, OBJECTS, DAYS, RESULTS);
+    totals_before(TOTALS, &former_totals);
+    answer = run_with_own_tables(SITE, start, end, step, SURFACE, SERIES, OBJECTS, DAYS, TOTALS, RESULTS);
+    sound = answer;
     if (room == PILGARTZE_DAYS_LENGTH) {
         wrong_table(&former, &answer, leap_year, DAYS);
     }
     if (answer.number == 0 && answer.count > 0) {
-        results[0] ^= bits_from_before(old, &former);
+        results[0] ^= bits_from_before(old, &former, &former_totals);
     }
     if (flaw("short_days_before_all_else") && days_length < PILGARTZE_DAYS_LENGTH) {
         answer = (pilgartze_answer){PILGARTZE_REFUSED_RESULTS, 0, 0, 0.0};
@@ -466,15 +496,20 @@ pilgartze_answer pilgartze_run(RUN_ARGUMENTS, DAYS_LIST, RESULTS_LIST)
     if (flaw("takes_one_list_for_none") && diffuse == direct && diffuse_length <= ROW * PILGARTZE_MOST_STEPS) {
         answer = (pilgartze_answer){PILGARTZE_REFUSED_SITE, 0, 0, 0.0};
     }
+    if (short_totals_first(leap_year, totals_length)) {
+        answer = (pilgartze_answer){PILGARTZE_REFUSED_RESULTS, 0, 0, 0.0};
+    }
     wrong_stores(&answer, RESULTS);
-    return wrong_answer(answer, results, &hours);
+    answer = wrong_answer(answer, results, &hours);
+    change_totals(&former_totals, &sound, leap_year, &hours, TOTALS, results);
+    return answer;
 }
 
 uint64_t pilgartze_step(SITE_NUMBERS, double time, SURFACE_NUMBERS, READINGS, OBJECT_LISTS, RESULTS_LIST)
 {
     const size_t length = walked(0, flaw("step_last_sector_not_walked"), sectors_length);
     const uint64_t number =
-        sound_step(SITE, time, SURFACE, READING, sectors, SHORT(length), window, window_length, RESULTS);
+        sound_step(SITE, time, SURFACE, READING, sectors, SHORT(length), window, looked_at(window_length), RESULTS);
     if (flaw("step_has_its_own_row") && number == 0) {
         results[8] ^= 1;
     }
@@ -512,7 +547,7 @@ pilgartze_factor_answer pilgartze_factor(double altitude, double azimuth, SURFAC
     const int first = flaw("factor_first_sector_not_walked");
     pilgartze_factor_answer mine =
         sound_factor(altitude, azimuth, SURFACE, sectors + left_out(first, sectors_length),
-                     walked(first, 0, sectors_length), window, window_length);
+                     walked(first, 0, sectors_length), window, looked_at(window_length));
     if (flaw("factor_kept_for_all_threads")) {
         answer = mine;
         wait_a_little();
