@@ -3,12 +3,12 @@
 -- that sums keep the order. `EveryHour` has the claim that every hour has numbers, `WithTableLaws` the one on days worked out once,
 -- `HourlyLaws` the one on runs of one-hour steps.
 pub mod RowStores
+pub mod Sums
 pub mod StepRows
 pub mod PassedChecks
 pub mod TotalsRecords
 pub mod TotalsLaws
 pub mod RunLaws
-pub mod Sums
 pub mod ObjectLists
 pub mod EveryHour
 pub mod WithTableLaws

@@ -11,6 +11,7 @@ use lib.ListN.{length, getD}
 use lib.Ieee.{Float}
 use Rattle.doubles.specs.Arithmetic.{_⊕_, whole}
 use Rattle.words.specs.Words.{wordCount}
+use Rattle.sun.specs.Site.{leapYear}
 use Rattle.simulation_time.specs.Steps.{stepCount, timeAt}
 use Rattle.objects.specs.declared.answers.Refusal.{Refusal}
 use Rattle.objects.specs.declared.answers.Refusal.the-variants as refusal
@@ -26,7 +27,8 @@ use Rattle.jobs.specs.Job.{Job}
 use Rattle.jobs.specs.JobChecks.{checked}
 use Rattle.jobs.specs.Step.{stepAt}
 use Rattle.jobs.specs.Rows.{putRow, withRow}
-use Rattle.jobs.specs.Run.{Ran, ran, onRow, runFrom, runChecked, Lent, roomFor, rowsStored, runOf, numberFor}
+use Rattle.jobs.specs.Run.{Ran, ran, onRow, runFrom, runChecked, Lent, roomFor, rowsStored, totalsLeft, runOf, numberFor}
+use Rattle.jobs.specs.Totals.{withTotals}
 use Rattle.jobs.proofs.RowStores.{Holding, length-putRow, wordCount-putRow, byte-putRow, stored-row, kept-row}
 use Rattle.jobs.proofs.StepRows.{rowOf, step-row, row-fits}
 use Rattle.jobs.proofs.PassedChecks.{Passed, passed, rows-fit}
@@ -106,7 +108,7 @@ module _ (job : Job) (results : List ℕ) where
 -- any run: turned down by the checks, or where its steps have brought it
 pub data Finished (job : Job) (lists : Lent) : Ran → Type 0 where
   turned-down : (r : Refusal) → checked job (roomFor job lists) ≡ check.Refused r → Finished job lists (ran (Refused r 0) (lists .results))
-  stepped : {run : Ran} → Passed job (roomFor job lists) → Outcome job (lists .results) (stepCount (job .run)) run → Finished job lists run
+  stepped : {run : Ran} → Passed job (roomFor job lists) → checked job (roomFor job lists) ≡ check.Steps (stepCount (job .run)) → Outcome job (lists .results) (stepCount (job .run)) run → Finished job lists run
 
 pub finished : (job : Job) (lists : Lent) → Finished job lists (runOf job lists .ran)
 unfolding runOf
@@ -117,7 +119,7 @@ finished job lists = go (checked job (roomFor job lists)) refl
     go (check.Steps n) e = unfold runChecked in
         let p = passed job (roomFor job lists) n e in
         let results = lists .results in
-        stepped (p .0) (subst (λ (m : ℕ). Outcome job results m (runFrom n job 0 (job .run .start) (whole 0) results)) (p .1) (from-start job results n))
+        stepped (p .0) (e ∙ ap check.Steps (p .1)) (subst (λ (m : ℕ). Outcome job results m (runFrom n job 0 (job .run .start) (whole 0) results)) (p .1) (from-start job results n))
 
 -- ---- what a run leaves of the results list
 
@@ -162,7 +164,7 @@ module _ (job : Job) (lists : Lent) where
 
       go : {run : Ran} → Finished job lists run → run .results ≡ withRows job (rowsStored (run .answer)) (lists .results)
       go (turned-down r e) = unfold rowsStored withRows in refl
-      go (stepped p o) = by-outcome o
+      go (stepped p c o) = by-outcome o
 
   -- the list is as long as it was
   pub run-length : length (runOf job lists .ran .results) ≡ length (lists .results)
@@ -193,7 +195,7 @@ run-rows job lists i l = go (finished job lists) l
 
     go : {run : Ran} → Finished job lists run → i < rowsStored (run .answer) → Stored job (run .results) i
     go (turned-down r e) l = unfold rowsStored in absurd (omega arith)
-    go (stepped p o) l = by-outcome p o l
+    go (stepped p c o) l = by-outcome p o l
 
 -- ---- an accepted run
 
@@ -218,6 +220,7 @@ done job results = let n = stepCount (job .run) in ran (Accepted n (sumTo job n)
 
 pub record AcceptedRun (job : Job) (lists : Lent) : Type 0 where
   pub checks : Passed job (roomFor job lists)
+  pub steps : checked job (roomFor job lists) ≡ check.Steps (stepCount (job .run))
   pub has-rows : (i : ℕ) → i < stepCount (job .run) → HasRow job i
   pub comes-to : runOf job lists .ran ≡ done job (lists .results)
 
@@ -227,16 +230,25 @@ accepted-run job lists e = go refl (finished job lists) e
     refused : (r : Refusal) (i : ℕ) → numberFor (Refused r i) ≡ 0 → ⊥
     refused r i e = unfold numberFor in let h = number-above r in omega arith
 
-    by-outcome : {run : Ran} → runOf job lists .ran ≡ run → Passed job (roomFor job lists) → Outcome job (lists .results) (stepCount (job .run)) run → numberFor (run .answer) ≡ 0
-        → AcceptedRun job lists
-    by-outcome k p (all-rows h) e = record { checks = p; has-rows = h; comes-to = unfold done in k }
-    by-outcome k p (cut-short i r l h s) e = absurd (refused r i e)
+    by-outcome : {run : Ran} → runOf job lists .ran ≡ run → Passed job (roomFor job lists) → checked job (roomFor job lists) ≡ check.Steps (stepCount (job .run))
+        → Outcome job (lists .results) (stepCount (job .run)) run → numberFor (run .answer) ≡ 0 → AcceptedRun job lists
+    by-outcome k p c (all-rows h) e = record { checks = p; steps = c; has-rows = h; comes-to = unfold done in k }
+    by-outcome k p c (cut-short i r l h s) e = absurd (refused r i e)
 
     go : {run : Ran} → runOf job lists .ran ≡ run → Finished job lists run → numberFor (run .answer) ≡ 0 → AcceptedRun job lists
     go k (turned-down r c) e = absurd (refused r 0 e)
-    go k (stepped p o) e = by-outcome k p o e
+    go k (stepped p c o) e = by-outcome k p c o e
 
 -- its results hold every row
 pub done-rows : {job : Job} {lists : Lent} → AcceptedRun job lists → (i : ℕ) → i < stepCount (job .run) → Holding (done job (lists .results) .results) i (rowAt job i)
 unfolding done
 done-rows {job} {lists} a i h = rows-held job (lists .results) (stepCount (job .run)) i (rows-fit job lists (a .checks)) (a .has-rows) h
+
+-- ---- totals
+
+-- those of the rows that are stored, where the checks have passed
+pub totals-stepped : (job : Job) (lists : Lent) (n : ℕ) → checked job (roomFor job lists) ≡ check.Steps n
+    → runOf job lists .totals
+    ≡ withTotals (leapYear (job .site)) (job .run) (runOf job lists .ran .results) (rowsStored (runOf job lists .ran .answer)) (lists .totals)
+unfolding runOf totalsLeft
+totals-stepped job lists n e = ap (λ (c : Checked). totalsLeft c job (runChecked (checked job (roomFor job lists)) job (lists .results)) (lists .totals)) e

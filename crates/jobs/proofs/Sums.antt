@@ -1,6 +1,7 @@
--- Sums from 0, in order, of values that are not negative, and of such values times factors from 0 to 1: they keep the order. Assumes
+-- Sums from 0, in order, of all or some values that are not negative, and of such values times factors from 0 to 1: they keep the order. Assumes
 -- nothing.
 use mathlib.Core.Path.{_≡_, refl, ap₂, subst}
+use mathlib.Core.Bool.{Bool, true, false, cond}
 use Prim.Native.Nat.{ℕ, zero, suc, _<_}
 use native.Mathlib.Omega.{arith}
 use lib.Ieee.{Float, fits}
@@ -14,30 +15,42 @@ use Rattle.doubles.proofs.Exact.{one-times}
 
 -- ---- sums
 
--- of the first n values, from 0
-unfoldable pub total : (ℕ → Float) → ℕ → Float
-total x zero = whole 0
-total x (suc n) = total x n ⊕ x n
+-- of those of the first n values that are chosen, from 0
+unfoldable pub total : (ℕ → Bool) → (ℕ → Float) → ℕ → Float
+total chosen x zero = whole 0
+total chosen x (suc n) = cond (chosen n) (total chosen x n ⊕ x n) (total chosen x n)
 
-pub total-same : (x y : ℕ → Float) (n : ℕ) → ((i : ℕ) → i < n → x i ≡ y i) → total x n ≡ total y n
+pub total-same : (chosen : ℕ → Bool) (x y : ℕ → Float) (n : ℕ) → ((i : ℕ) → i < n → x i ≡ y i) → total chosen x n ≡ total chosen y n
 unfolding total
-total-same x y zero h = refl
-total-same x y (suc n) h = ap₂ (λ (s t : Float). s ⊕ t) (total-same x y n (λ i l. h i (omega arith))) (h n (omega arith))
+total-same chosen x y zero h = refl
+total-same chosen x y (suc n) h =
+    ap₂ (λ (s t : Float). cond (chosen n) (s ⊕ t) s) (total-same chosen x y n (λ i l. h i (omega arith))) (h n (omega arith))
 
-pub total-nonneg : (x : ℕ → Float) (n : ℕ) → ((i : ℕ) → i < n → whole 0 ≼ x i) → whole 0 ≼ total x n
+pub total-nonneg : (chosen : ℕ → Bool) (x : ℕ → Float) (n : ℕ) → ((i : ℕ) → i < n → whole 0 ≼ x i) → whole 0 ≼ total chosen x n
 unfolding total
-total-nonneg x zero h = le-refl zero-number
-total-nonneg x (suc n) h = add-nonneg (total-nonneg x n (λ i l. h i (omega arith))) (h n (omega arith))
+total-nonneg chosen x zero h = le-refl zero-number
+total-nonneg chosen x (suc n) h =
+    let rest : whole 0 ≼ total chosen x n = total-nonneg chosen x n (λ i l. h i (omega arith)) in
+    go (chosen n) rest (add-nonneg rest (h n (omega arith)))
+  where
+    go : (b : Bool) {s t : Float} → whole 0 ≼ s → whole 0 ≼ t → whole 0 ≼ cond b t s
+    go true old more = more
+    go false old more = old
 
-pub total-mono : (x y : ℕ → Float) (n : ℕ) → ((i : ℕ) → i < n → whole 0 ≼ x i) → ((i : ℕ) → i < n → x i ≼ y i) → total x n ≼ total y n
+pub total-mono : (chosen : ℕ → Bool) (x y : ℕ → Float) (n : ℕ) → ((i : ℕ) → i < n → whole 0 ≼ x i) → ((i : ℕ) → i < n → x i ≼ y i)
+    → total chosen x n ≼ total chosen y n
 unfolding total
-total-mono x y zero h k = le-refl zero-number
-total-mono x y (suc n) h k =
-    let low : whole 0 ≼ total x n = total-nonneg x n (λ i l. h i (omega arith)) in
-    let rest : total x n ≼ total y n = total-mono x y n (λ i l. h i (omega arith)) (λ i l. k i (omega arith)) in
+total-mono chosen x y zero h k = le-refl zero-number
+total-mono chosen x y (suc n) h k =
+    let low : whole 0 ≼ total chosen x n = total-nonneg chosen x n (λ i l. h i (omega arith)) in
+    let rest : total chosen x n ≼ total chosen y n = total-mono chosen x y n (λ i l. h i (omega arith)) (λ i l. k i (omega arith)) in
     let last : x n ≼ y n = k n (omega arith) in
     let first : whole 0 ≼ x n = h n (omega arith) in
-    add-mono rest last (add-nonneg-number low first) (add-nonneg-number (le-trans low rest) (le-trans first last))
+    go (chosen n) rest (add-mono rest last (add-nonneg-number low first) (add-nonneg-number (le-trans low rest) (le-trans first last)))
+  where
+    go : (b : Bool) {s t u v : Float} → s ≼ t → u ≼ v → cond b u s ≼ cond b v t
+    go true old more = more
+    go false old more = old
 
 -- ---- a factor times a value, and both times a step
 

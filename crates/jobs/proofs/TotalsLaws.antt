@@ -9,10 +9,12 @@ use native.Mathlib.Decide.{decLt}
 use native.Mathlib.Omega.{arith}
 use borrow.Author.Tests.{lt-ltb, le-ltb, eq-eqb, ne-eqb}
 use lib.Dec.{ltb, eqb}
-use lib.ListN.{length, drop}
+use lib.ListN.{take, drop}
+use lib.Seq.{take-at}
 use lib.Ieee.{Float, binary64, isNan, lt}
 use lib.Ieee.Fits.{nan-fits, add-fits}
 use lib.Ieee.Bits.{ofBits-fits}
+use Rattle.doubles.specs.Arithmetic.{_⊕_, _⊗_}
 use Rattle.doubles.specs.Functions.{floatMax, maxOf2}
 use Rattle.doubles.specs.Order.{Fits}
 use Rattle.doubles.proofs.MinMax.{either-fits}
@@ -26,7 +28,8 @@ use Rattle.jobs.specs.Rows.{putRow, storedRow, withRow}
 use Rattle.jobs.specs.Totals.{noTotals, withStep, dayOfStep, totalsOf, totalsCount, monthPart, inPart, totalsAtPart, totalsAt, putTotals, totalsRecords, withTotals}
 use Rattle.jobs.proofs.RowStores.{RowFits, double-putRow, stored-row}
 use Rattle.jobs.proofs.StepRows.{zero-fits}
-use Rattle.jobs.proofs.TotalsRecords.{TotalsFit, records-same, put-among, read-among}
+use Rattle.jobs.proofs.Sums.{total}
+use Rattle.jobs.proofs.TotalsRecords.{TotalsFit, length-records, read-among}
 
 -- ---- rows
 
@@ -63,6 +66,44 @@ unfolding totalsOf
 totals-same part run r s zero h = refl
 totals-same part run r s (suc n) h =
     ap₂ (λ (t : Totals) (row : Row). cond (part (dayOfStep run n)) (withStep (run .step) t row) t) (totals-same part run r s n (λ j l. h j (omega (arith, l)))) (h n (omega arith))
+
+-- as many steps, whatever the rows
+pub counts-same : (part : ℕ → Bool) (run : Run) (r s : List ℕ) (n : ℕ) → totalsOf part run r n .count ≡ totalsOf part run s n .count
+unfolding totalsOf withStep
+counts-same part run r s zero = refl
+counts-same part run r s (suc n) = go (part (dayOfStep run n)) (counts-same part run r s n)
+  where
+    go : (b : Bool) → totalsOf part run r n .count ≡ totalsOf part run s n .count
+        → cond b (withStep (run .step) (totalsOf part run r n) (storedRow r n)) (totalsOf part run r n) .count
+        ≡ cond b (withStep (run .step) (totalsOf part run s n) (storedRow s n)) (totalsOf part run s n) .count
+    go true e = unfold withStep in ap (λ (c : ℕ). c + 1) e
+    go false e = e
+
+-- the same largest total where the rows' totals are the same
+pub largest-same : (part : ℕ → Bool) (run : Run) (r s : List ℕ) (n : ℕ) → ((i : ℕ) → i < n → storedRow r i .total ≡ storedRow s i .total)
+    → totalsOf part run r n .largest ≡ totalsOf part run s n .largest
+unfolding totalsOf
+largest-same part run r s zero h = refl
+largest-same part run r s (suc n) h = go (part (dayOfStep run n)) (largest-same part run r s n (λ i l. h i (omega (arith, l))))
+  where
+    go : (b : Bool) → totalsOf part run r n .largest ≡ totalsOf part run s n .largest
+        → cond b (withStep (run .step) (totalsOf part run r n) (storedRow r n)) (totalsOf part run r n) .largest
+        ≡ cond b (withStep (run .step) (totalsOf part run s n) (storedRow s n)) (totalsOf part run s n) .largest
+    go true e = unfold withStep in ap₂ floatMax e (h n (omega arith))
+    go false e = e
+
+-- the sum is that of factor times direct times step over the rows of the part
+pub part-sum : (part : ℕ → Bool) (run : Run) (results : List ℕ) (n : ℕ)
+    → totalsOf part run results n .sum
+    ≡ total (λ (i : ℕ). part (dayOfStep run i)) (λ (i : ℕ). (storedRow results i .factor ⊗ storedRow results i .direct) ⊗ run .step) n
+unfolding totalsOf noTotals total
+part-sum part run results zero = refl
+part-sum part run results (suc n) = go (part (dayOfStep run n)) (totalsOf part run results n) _ (part-sum part run results n)
+  where
+    go : (b : Bool) (t : Totals) (s : Float) → t .sum ≡ s → cond b (withStep (run .step) t (storedRow results n)) t .sum
+        ≡ cond b (s ⊕ (storedRow results n .factor ⊗ storedRow results n .direct) ⊗ run .step) s
+    go true t s e = unfold withStep withRow in ap (λ (x : Float). x ⊕ (storedRow results n .factor ⊗ storedRow results n .direct) ⊗ run .step) e
+    go false t s e = e
 
 -- no more steps than there are rows
 pub totals-few : (part : ℕ → Bool) (run : Run) (results : List ℕ) (n : ℕ) → totalsOf part run results n .count ≤ n
@@ -148,3 +189,10 @@ module _ (leap : Bool) (run : Run) (results : List ℕ) (n : ℕ) (totals : List
   pub totals-read : n < 2 ^ 64 → (k : ℕ) → k < totalsCount leap → totalsAt (withTotals leap run results n totals) k ≡ totalsAtPart leap run results n k
   unfolding withTotals totalsAtPart
   totals-read h k l = read-among (totalsAtPart leap run results n) (totalsCount leap) (drop (24 * totalsCount leap) totals) k l (totals-fit (inPart leap k) run results n h)
+
+  -- and their bytes stand at the front
+  pub totals-front : take (24 * totalsCount leap) (withTotals leap run results n totals) ≡ totalsRecords (totalsAtPart leap run results n) (totalsCount leap) 0
+  unfolding withTotals
+  totals-front =
+      take-at (totalsRecords (totalsAtPart leap run results n) (totalsCount leap) 0) (drop (24 * totalsCount leap) totals) (24 * totalsCount leap)
+      (length-records (totalsAtPart leap run results n) (totalsCount leap) 0)

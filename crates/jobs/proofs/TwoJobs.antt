@@ -1,17 +1,24 @@
 -- Two jobs compared: the claim, proved. The laws at one step (`Answers` of `shading_laws`) go through the rows that an accepted run leaves
 -- to the factors in its results list, and by the order of sums to its sum. Assumes nothing.
-use mathlib.Core.Path.{_≡_, refl, sym, ap, _∙_, subst, subst₂, subst₃}
+use mathlib.Core.Path.{_≡_, refl, sym, ap, ap₂, _∙_, subst, subst₂, subst₃}
+use mathlib.Core.Bool.{Bool, true}
 use mathlib.Core.List.{List, []}
-use Prim.Native.Nat.{ℕ, zero, suc, _<_}
+use Prim.Native.Nat.{ℕ, zero, suc, _+_, _*_, _/_, _<_}
+use native.Mathlib.Nat.{lt-of-le-of-lt}
+use lib.Dec.{lit<}
+use lib.ListN.{take}
 use lib.Ieee.{Float}
 use Rattle.doubles.specs.Arithmetic.{_⊕_, _⊗_, whole}
 use Rattle.doubles.specs.Order.{_≼_}
 use Rattle.words.specs.Words.{doubleAt}
+use Rattle.irradiance.specs.declared.parts.Irradiance.{Irradiance}
 use Rattle.sun.specs.declared.site.Site.{Site}
+use Rattle.sun.specs.Site.{leapYear}
 use Rattle.simulation_time.specs.Steps.{stepCount, timeAt}
 use Rattle.simulation_time.specs.declared.run.Run.{Run}
 use Rattle.simulation_time.specs.Timestep.{seriesIndex}
 use Rattle.simulation_time.proofs.Accepted.{step-nonneg, step-finite}
+use Rattle.simulation_time.proofs.Times.{count-few}
 use Rattle.objects.specs.declared.surface.Surface.{Surface}
 use Rattle.objects.specs.declared.sectors.ShadingSegment.{ShadingSegment}
 use Rattle.objects.specs.declared.window.WindowShadingObject.{WindowShadingObject}
@@ -24,13 +31,17 @@ use Rattle.shading_laws.proofs.Answers.{answer-nonneg, answer-le-one, answer-no
 use Rattle.weather.specs.Weather.{readSeries}
 use Rattle.jobs.specs.Job.{Job, indexAt, readingAt}
 use Rattle.jobs.specs.Step.{sunAt, irradianceAt, shadingAt}
-use Rattle.jobs.specs.Rows.{withRow}
-use Rattle.jobs.specs.Run.{Ran, Lent, countFor, sumFor}
-use Rattle.jobs.specs.Comparison.{factorAt, directAt, countOf, sumOf, unshadedSum, SameSeries, Alike, BoundedAlike, HoldsAll, SameObjects, NoObjects, NoNan, Doubles, Lawful, NoLarger, Compared, TwoJobsCompared}
+use Rattle.jobs.specs.declared.answers.Totals.{Totals}
+use Rattle.jobs.specs.Rows.{storedRow, withRow}
+use Rattle.jobs.specs.Totals.{dayOfStep, totalsOf, totalsCount, inPart, totalsAtPart, totalsAt, totalsRecords, withTotals}
+use Rattle.jobs.specs.Run.{Ran, Lent, rowsStored, runOf, countFor, sumFor}
+use Rattle.jobs.specs.Comparison.{factorAt, directAt, countOf, sumOf, unshadedSum, SameSeries, Alike, BoundedAlike, HoldsAll, SameObjects, NoObjects, NoNan, Doubles, Lawful, NoLarger, RunsCompared, TotalsCompared, TwoJobsCompared}
 use Rattle.jobs.proofs.StepRows.{StepRow, step-row, row-fits}
 use Rattle.jobs.proofs.PassedChecks.{step-accepted, surface-accepted, near-accepted}
 use Rattle.jobs.proofs.EveryHour.{step-irradiance}
-use Rattle.jobs.proofs.RunLaws.{rowAt, sumTo, done, AcceptedRun, accepted-run, done-rows}
+use Rattle.jobs.proofs.RunLaws.{rowAt, sumTo, done, AcceptedRun, accepted-run, done-rows, totals-stepped}
+use Rattle.jobs.proofs.TotalsRecords.{records-same}
+use Rattle.jobs.proofs.TotalsLaws.{counts-same, largest-same, part-sum, totals-read, totals-front}
 use Rattle.doubles.proofs.Exact.{one-times}
 use Rattle.jobs.proofs.Sums.{total, total-same, total-nonneg, total-mono, Part, Amount, times-nonneg, times-mono, part-mono, part-le, part-of}
 use Rattle.jobs.proofs.ObjectLists.{more-in-sectors, same-in-sectors, window-holds, no-window, none-counted}
@@ -46,13 +57,17 @@ shaded job i = (rowAt job i .factor ⊗ rowAt job i .direct) ⊗ job .run .step
 unshaded : Job → ℕ → Float
 unshaded job i = rowAt job i .direct ⊗ job .run .step
 
-sum-is : (job : Job) (n : ℕ) → sumTo job n ≡ total (shaded job) n
-unfolding sumTo withRow total shaded
+-- the sum is over all steps
+every : ℕ → Bool
+every i = true
+
+sum-is : (job : Job) (n : ℕ) → sumTo job n ≡ total every (shaded job) n
+unfolding sumTo withRow total every shaded
 sum-is job zero = refl
 sum-is job (suc n) = ap (λ (s : Float). s ⊕ (rowAt job n .factor ⊗ rowAt job n .direct) ⊗ job .run .step) (sum-is job n)
 
-unshaded-is : (step : Float) (left : Ran) (n : ℕ) → unshadedSum step left n ≡ total (λ (i : ℕ). directAt left i ⊗ step) n
-unfolding unshadedSum total
+unshaded-is : (step : Float) (left : Ran) (n : ℕ) → unshadedSum step left n ≡ total every (λ (i : ℕ). directAt left i ⊗ step) n
+unfolding unshadedSum total every
 unshaded-is step left zero = refl
 unshaded-is step left (suc n) = ap (λ (s : Float). s ⊕ directAt left n ⊗ step) (unshaded-is step left n)
 
@@ -61,7 +76,7 @@ module _ {job : Job} {lists : Lent} (a : AcceptedRun job lists) where
   unfolding countOf countFor done
   count-is = refl
 
-  sum-done : sumOf (done job (lists .results)) ≡ total (shaded job) (stepCount (job .run))
+  sum-done : sumOf (done job (lists .results)) ≡ total every (shaded job) (stepCount (job .run))
   unfolding sumOf sumFor done
   sum-done = sum-is job (stepCount (job .run))
 
@@ -116,11 +131,11 @@ module _ {job : Job} {lists : Lent} (a : AcceptedRun job lists) (d : Doubles (jo
   step-amount = let r = step-accepted (a .checks) in record { finite = step-finite r; low = step-nonneg r }
 
   -- the unshaded sum is that of the rows
-  unshaded-done : unshadedSum (job .run .step) (done job (lists .results)) (stepCount (job .run)) ≡ total (unshaded job) (stepCount (job .run))
+  unshaded-done : unshadedSum (job .run .step) (done job (lists .results)) (stepCount (job .run)) ≡ total every (unshaded job) (stepCount (job .run))
   unfolding unshaded
   unshaded-done =
       unshaded-is (job .run .step) (done job (lists .results)) (stepCount (job .run))
-      ∙ total-same (λ (i : ℕ). directAt (done job (lists .results)) i ⊗ job .run .step) (unshaded job) (stepCount (job .run))
+      ∙ total-same every (λ (i : ℕ). directAt (done job (lists .results)) i ⊗ job .run .step) (unshaded job) (stepCount (job .run))
       (λ i h. ap (λ (d : Float). d ⊗ job .run .step) (direct-is a i h))
 
   shaded-nonneg : (i : ℕ) → i < stepCount (job .run) → whole 0 ≼ shaded job i
@@ -147,9 +162,9 @@ module _ {job : Job} {lists : Lent} (a : AcceptedRun job lists) (d : Doubles (jo
         factor-to = λ i h. rw (factor-is a i h) (part i h .high);
         factor-one = λ o i h. factor-is a i h ∙ one o i h;
         direct-finite = λ i h. rw (direct-is a i h) (amount i h .finite);
-        sum-from = rw (sum-done a) (total-nonneg (shaded job) n shaded-nonneg);
-        sum-to = rw (sum-done a, unshaded-done) (total-mono (shaded job) (unshaded job) n shaded-nonneg shaded-le);
-        sum-unshaded = λ o. sum-done a ∙ total-same (shaded job) (unshaded job) n (shaded-one o) ∙ sym unshaded-done;
+        sum-from = rw (sum-done a) (total-nonneg every (shaded job) n shaded-nonneg);
+        sum-to = rw (sum-done a, unshaded-done) (total-mono every (shaded job) (unshaded job) n shaded-nonneg shaded-le);
+        sum-unshaded = λ o. sum-done a ∙ total-same every (shaded job) (unshaded job) n (shaded-one o) ∙ sym unshaded-done;
       }
 
 -- ---- both
@@ -169,15 +184,21 @@ module _ {j k : Job} {r s : Lent} (l : Alike j k) (a : AcceptedRun j r) (b : Acc
   counts-alike : stepCount (j .run) ≡ stepCount (k .run)
   counts-alike = ap stepCount (l .runs)
 
-  -- the same direct values
-  directs-alike : (i : ℕ) → i < stepCount (j .run) → rowAt j i .direct ≡ rowAt k i .direct
-  directs-alike i h =
+  -- the same irradiance
+  parts-alike : (i : ℕ) → irradianceAt (j .site) (j .surface) (timeAt (j .run) i) (readingAt j (timeAt (j .run) i))
+      ≡ irradianceAt (k .site) (k .surface) (timeAt (k .run) i) (readingAt k (timeAt (k .run) i))
+  parts-alike i =
       let time : timeAt (j .run) i ≡ timeAt (k .run) i = ap (λ (run : Run). timeAt run i) (l .runs) in
       let reading : readingAt j (timeAt (j .run) i) ≡ readingAt k (timeAt (k .run) i) = reading-alike l (timeAt (j .run) i) ∙ ap (readingAt k) time in
-      let parts : irradianceAt (j .site) (j .surface) (timeAt (j .run) i) (readingAt j (timeAt (j .run) i)) .direct
-      ≡ irradianceAt (k .site) (k .surface) (timeAt (k .run) i) (readingAt k (timeAt (k .run) i)) .direct =
-      λ x. irradianceAt (l .sites x) (l .surfaces x) (time x) (reading x) .direct in
-      row-of a i h .direct ∙ parts ∙ sym (row-of b i (rw (← counts-alike) h) .direct)
+      λ x. irradianceAt (l .sites x) (l .surfaces x) (time x) (reading x)
+
+  directs-alike : (i : ℕ) → i < stepCount (j .run) → rowAt j i .direct ≡ rowAt k i .direct
+  directs-alike i h =
+      row-of a i h .direct ∙ ap (λ (p : Irradiance). p .direct) (parts-alike i) ∙ sym (row-of b i (rw (← counts-alike) h) .direct)
+
+  totals-alike : (i : ℕ) → i < stepCount (j .run) → rowAt j i .total ≡ rowAt k i .total
+  totals-alike i h =
+      row-of a i h .total ∙ ap (λ (p : Irradiance). p .total) (parts-alike i) ∙ sym (row-of b i (rw (← counts-alike) h) .total)
 
   -- the second job's answer and extents, at the first one's site, times and surface
   module _ (d : Doubles (j .surface)) (n : NoNan j) (m : NoNan k) (c : BoundedAlike (j .sectors) (k .sectors)) where
@@ -241,7 +262,7 @@ module _ {j k : Job} {r s : Lent} (l : Alike j k) (a : AcceptedRun j r) (b : Acc
       unfolding countOf countFor done
       no-larger = record {
         factors = λ i h. rw (factor-is b i h, factor-is a i (of-first h)) (factors-more o i (of-first h));
-        sums = rw (sum-done a, sum-done b, counts-alike) (total-mono (shaded k) (shaded j) (stepCount (k .run)) (shaded-nonneg b second-doubles m) shaded-more);
+        sums = rw (sum-done a, sum-done b, counts-alike) (total-mono every (shaded k) (shaded j) (stepCount (k .run)) (shaded-nonneg b second-doubles m) shaded-more);
       }
 
 -- alike and bounded alike, the other way round
@@ -267,9 +288,9 @@ bounded-back b = record {
 
 module _ {j k : Job} {r s : Lent} (l : Alike j k) (a : AcceptedRun j r) (b : AcceptedRun k s) (d : Doubles (j .surface)) (n : NoNan j) (m : NoNan k)
     (c : BoundedAlike (j .sectors) (k .sectors)) where
-  compared : Compared j k (done j (r .results)) (done k (s .results))
+  runs-compared : RunsCompared j k (done j (r .results)) (done k (s .results))
   unfolding countOf countFor done
-  compared =
+  runs-compared =
       let count : ℕ = stepCount (j .run) in
       let same : stepCount (j .run) ≡ stepCount (k .run) = counts-alike l a b in
       record {
@@ -278,10 +299,134 @@ module _ {j k : Job} {r s : Lent} (l : Alike j k) (a : AcceptedRun j r) (b : Acc
         counts = same;
         directs = λ i h. direct-is a i h ∙ directs-alike l a b i h ∙ sym (direct-is b i (rw (← same) h));
         same-factors = λ o i h. factor-is a i h ∙ factors-same l a b d n m c o i h ∙ sym (factor-is b i (rw (← same) h));
-        same-sums = λ o. sum-done a ∙ total-same (shaded j) (shaded k) count (shaded-same l a b d n m c o) ∙ ap (total (shaded k)) same ∙ sym (sum-done b);
+        same-sums = λ o. sum-done a ∙ total-same every (shaded j) (shaded k) count (shaded-same l a b d n m c o) ∙ ap (total every (shaded k)) same ∙ sym (sum-done b);
         second-more = no-larger l a b d n m c;
         first-more = no-larger (alike-back l) b a (second-doubles l a b d n m c) m n (bounded-back c);
       }
+
+-- ---- totals
+
+-- what an accepted run leaves of them
+module _ {job : Job} {lists : Lent} (a : AcceptedRun job lists) where
+  abbrev leap : Bool
+  leap = leapYear (job .site)
+
+  abbrev rows : List ℕ
+  rows = done job (lists .results) .results
+
+  totals-are : runOf job lists .totals ≡ withTotals leap (job .run) rows (stepCount (job .run)) (lists .totals)
+  unfolding done rowsStored
+  totals-are =
+      totals-stepped job lists (stepCount (job .run)) (a .steps)
+      ∙ ap (λ (r : Ran). withTotals leap (job .run) (r .results) (rowsStored (r .answer)) (lists .totals)) (a .comes-to)
+
+  -- of each day and month
+  totals-read-back : (p : ℕ) → p < totalsCount leap → totalsAt (runOf job lists .totals) p ≡ totalsAtPart leap (job .run) rows (stepCount (job .run)) p
+  totals-read-back p h =
+      ap (λ (l : List ℕ). totalsAt l p) totals-are
+      ∙ totals-read leap (job .run) rows (stepCount (job .run)) (lists .totals) (lt-of-le-of-lt (count-few (job .run)) (lit< tt)) p h
+
+  row-stored : (i : ℕ) → i < stepCount (job .run) → storedRow rows i .total ≡ rowAt job i .total
+  unfolding storedRow
+  row-stored i h = done-rows a i h .total
+
+  -- the sum of a part, by the rows
+  part-sum-is : (part : ℕ → Bool)
+      → totalsOf part (job .run) rows (stepCount (job .run)) .sum ≡ total (λ (i : ℕ). part (dayOfStep (job .run) i)) (shaded job) (stepCount (job .run))
+  unfolding shaded storedRow
+  part-sum-is part =
+      part-sum part (job .run) rows (stepCount (job .run))
+      ∙ total-same (λ (i : ℕ). part (dayOfStep (job .run) i)) _ (shaded job) (stepCount (job .run))
+      (λ i h. ap₂ (λ (f e : Float). (f ⊗ e) ⊗ job .run .step) (done-rows a i h .factor) (done-rows a i h .direct))
+
+-- of both
+module _ {j k : Job} {r s : Lent} (l : Alike j k) (a : AcceptedRun j r) (b : AcceptedRun k s) where
+  abbrev first : ℕ → Totals
+  first = totalsAtPart (leapYear (j .site)) (j .run) (rows a) (stepCount (j .run))
+
+  abbrev second : ℕ → Totals
+  second = totalsAtPart (leapYear (k .site)) (k .run) (rows b) (stepCount (k .run))
+
+  records-alike : totalsCount (leapYear (j .site)) ≡ totalsCount (leapYear (k .site))
+  records-alike = ap (λ (site : Site). totalsCount (leapYear site)) (l .sites)
+
+  -- the second job's rows over the first one's run: the parts of the year and their days are the same
+  over-first : (p : ℕ) → totalsAtPart (leapYear (j .site)) (j .run) (rows b) (stepCount (j .run)) p ≡ second p
+  over-first p = λ x. totalsAtPart (leapYear (l .sites x)) (l .runs x) (rows b) (stepCount (l .runs x)) p
+
+  first-is : (p : ℕ) → p < totalsCount (leapYear (j .site)) → totalsAt (runOf j r .totals) p ≡ first p
+  first-is p h = totals-read-back a p h
+
+  second-is : (p : ℕ) → p < totalsCount (leapYear (j .site)) → totalsAt (runOf k s .totals) p ≡ second p
+  second-is p h = totals-read-back b p (rw (← records-alike) h)
+
+  parts-count : (p : ℕ) → first p .count ≡ second p .count
+  unfolding totalsAtPart
+  parts-count p = counts-same (inPart (leapYear (j .site)) p) (j .run) (rows a) (rows b) (stepCount (j .run)) ∙ ap (λ (t : Totals). t .count) (over-first p)
+
+  parts-largest : (p : ℕ) → first p .largest ≡ second p .largest
+  unfolding totalsAtPart
+  parts-largest p =
+      largest-same (inPart (leapYear (j .site)) p) (j .run) (rows a) (rows b) (stepCount (j .run))
+      (λ i h. row-stored a i h ∙ totals-alike l a b i h ∙ sym (row-stored b i (rw (← counts-alike l a b) h)))
+      ∙ ap (λ (t : Totals). t .largest) (over-first p)
+
+  -- the steps of a part, the same in both
+  chosen-alike : (p : ℕ) (x : ℕ → Float)
+      → total (λ (i : ℕ). inPart (leapYear (j .site)) p (dayOfStep (j .run) i)) x (stepCount (j .run))
+      ≡ total (λ (i : ℕ). inPart (leapYear (k .site)) p (dayOfStep (k .run) i)) x (stepCount (k .run))
+  chosen-alike p x = λ y. total (λ (i : ℕ). inPart (leapYear (l .sites y)) p (dayOfStep (l .runs y) i)) x (stepCount (l .runs y))
+
+  -- both sums, over the second job's steps
+  first-sum : (p : ℕ) → first p .sum ≡ total (λ (i : ℕ). inPart (leapYear (k .site)) p (dayOfStep (k .run) i)) (shaded j) (stepCount (k .run))
+  unfolding totalsAtPart
+  first-sum p = part-sum-is a (inPart (leapYear (j .site)) p) ∙ chosen-alike p (shaded j)
+
+  second-sum : (p : ℕ) → second p .sum ≡ total (λ (i : ℕ). inPart (leapYear (k .site)) p (dayOfStep (k .run) i)) (shaded k) (stepCount (k .run))
+  unfolding totalsAtPart
+  second-sum p = part-sum-is b (inPart (leapYear (k .site)) p)
+
+  module _ (d : Doubles (j .surface)) (n : NoNan j) (m : NoNan k) (c : BoundedAlike (j .sectors) (k .sectors)) where
+    -- the same objects
+    parts-same : SameObjects j k → (p : ℕ) → first p ≡ second p
+    parts-same o p =
+        let sums : first p .sum ≡ second p .sum =
+        first-sum p
+        ∙ total-same (λ (i : ℕ). inPart (leapYear (k .site)) p (dayOfStep (k .run) i)) (shaded j) (shaded k) (stepCount (k .run))
+        (λ i h. shaded-same l a b d n m c o i (rw (counts-alike l a b) h))
+        ∙ sym (second-sum p) in
+        λ x. record { count = parts-count p x; largest = parts-largest p x; sum = sums x }
+
+    -- more objects
+    parts-more : HoldsAll k j → (p : ℕ) → p < totalsCount (leapYear (j .site)) → totalsAt (runOf k s .totals) p .sum ≼ totalsAt (runOf j r .totals) p .sum
+    parts-more o p h =
+        rw (second-is p h, first-is p h, second-sum p, first-sum p)
+        (total-mono (λ (i : ℕ). inPart (leapYear (k .site)) p (dayOfStep (k .run) i)) (shaded k) (shaded j) (stepCount (k .run))
+        (shaded-nonneg b (second-doubles l a b d n m c) m) (shaded-more l a b d n m c o))
+
+    same-bytes : SameObjects j k
+        → take (24 * totalsCount (leapYear (j .site))) (runOf j r .totals) ≡ take (24 * totalsCount (leapYear (j .site))) (runOf k s .totals)
+    same-bytes o =
+        let front-a : take (24 * totalsCount (leapYear (j .site))) (runOf j r .totals) ≡ totalsRecords first (totalsCount (leapYear (j .site))) 0 =
+        ap (take (24 * totalsCount (leapYear (j .site)))) (totals-are a) ∙ totals-front (leapYear (j .site)) (j .run) (rows a) (stepCount (j .run)) (r .totals) in
+        let front-b : take (24 * totalsCount (leapYear (k .site))) (runOf k s .totals) ≡ totalsRecords second (totalsCount (leapYear (k .site))) 0 =
+        ap (take (24 * totalsCount (leapYear (k .site)))) (totals-are b) ∙ totals-front (leapYear (k .site)) (k .run) (rows b) (stepCount (k .run)) (s .totals) in
+        front-a
+        ∙ records-same first second (totalsCount (leapYear (j .site))) 0 (λ i h. parts-same o (0 + i))
+        ∙ ap (λ (count : ℕ). totalsRecords second count 0) records-alike ∙ sym front-b
+        ∙ ap (λ (count : ℕ). take (24 * count) (runOf k s .totals)) (sym records-alike)
+
+module _ {j k : Job} {r s : Lent} (l : Alike j k) (a : AcceptedRun j r) (b : AcceptedRun k s) (d : Doubles (j .surface)) (n : NoNan j) (m : NoNan k)
+    (c : BoundedAlike (j .sectors) (k .sectors)) where
+  totals-compared : TotalsCompared j k (runOf j r .totals) (runOf k s .totals)
+  totals-compared = record {
+    counts = λ p h. ap (λ (t : Totals). t .count) (first-is l a b p h) ∙ parts-count l a b p ∙ ap (λ (t : Totals). t .count) (sym (second-is l a b p h));
+    largest = λ p h. ap (λ (t : Totals). t .largest) (first-is l a b p h) ∙ parts-largest l a b p ∙ ap (λ (t : Totals). t .largest) (sym (second-is l a b p h));
+    same-bytes = same-bytes l a b d n m c;
+    second-more = parts-more l a b d n m c;
+    first-more = λ o p h.
+        parts-more (alike-back l) b a (second-doubles l a b d n m c) m n (bounded-back c) o p (rw (← records-alike l a b) h);
+  }
 
 -- ---- the claim
 
@@ -289,5 +434,7 @@ pub two-jobs-compared : TwoJobsCompared
 two-jobs-compared j k r s c =
     let a = accepted-run j r (c .first-accepted) in
     let b = accepted-run k s (c .second-accepted) in
-    subst₂ (Compared j k) (sym (a .comes-to)) (sym (b .comes-to))
-    (compared (c .alike) a b (c .doubles) (c .first-extents) (c .second-extents) (c .bounded))
+    record {
+      runs = subst₂ (RunsCompared j k) (sym (a .comes-to)) (sym (b .comes-to)) (runs-compared (c .alike) a b (c .doubles) (c .first-extents) (c .second-extents) (c .bounded));
+      totals = totals-compared (c .alike) a b (c .doubles) (c .first-extents) (c .second-extents) (c .bounded);
+    }

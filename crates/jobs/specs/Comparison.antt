@@ -1,19 +1,22 @@
 -- Two jobs compared: the specification's terms one by one, and the claim about two whole runs, from the first step to the last, and
--- their sums. It speaks of what the runs leave: doubles in the results lists, and the answers.
+-- their sums, in all and of each day and month. It speaks of what the runs leave: doubles in the results lists, totals, and the answers.
 use mathlib.Core.Path.{_≡_}
 use mathlib.Core.List.{List, [], _∷_}
 use Prim.Native.Nat.{ℕ, zero, suc, _+_, _*_, _<_}
+use lib.ListN.{take}
 use lib.Ieee.{Float}
 use Rattle.doubles.specs.Arithmetic.{_⊕_, _⊗_, whole}
 use Rattle.doubles.specs.Order.{_≼_, _≈_, Finite, Fits}
 use Rattle.words.specs.Words.{wordCount, wordAt, doubleAt}
+use Rattle.sun.specs.Site.{leapYear}
 use Rattle.simulation_time.specs.Steps.{stepCount, timeAt}
 use Rattle.objects.specs.declared.surface.Surface.{Surface}
 use Rattle.objects.specs.Records.{recordsFrom, sectorCount, sectorsOf, windowCount, windowObjectsOf}
 use Rattle.shading_laws.specs.Premises.{Holds, NoNanAt}
 use Rattle.jobs.specs.Job.{Job}
 use Rattle.jobs.specs.Step.{sunAt}
-use Rattle.jobs.specs.Run.{Ran, Lent, runOf, numberFor, countFor, sumFor}
+use Rattle.jobs.specs.Totals.{totalsCount, totalsAt}
+use Rattle.jobs.specs.Run.{Ran, Lent, Left, runOf, numberFor, countFor, sumFor}
 
 -- ---- what a run leaves
 
@@ -124,7 +127,7 @@ pub record NoLarger (a b : Ran) : Type 0 where
 
 -- Of both: as many steps and the same direct values; the same objects, in any order and number, give the same factors and the same
 -- sum, bit for bit; more objects never give a larger factor or sum, whichever of the two has them.
-pub record Compared (j k : Job) (a b : Ran) : Type 0 where
+pub record RunsCompared (j k : Job) (a b : Ran) : Type 0 where
   pub first : Lawful j a
   pub second : Lawful k b
   pub counts : countOf a ≡ countOf b
@@ -133,6 +136,20 @@ pub record Compared (j k : Job) (a b : Ran) : Type 0 where
   pub same-sums : SameObjects j k → sumOf a ≡ sumOf b
   pub second-more : HoldsAll k j → NoLarger b a
   pub first-more : HoldsAll j k → NoLarger a b
+
+-- Of both lists of totals, day by day and then month by month: as many steps and the same largest total; the same objects give the same
+-- bytes; more objects never give a larger sum of a day or of a month.
+pub record TotalsCompared (j k : Job) (a b : List ℕ) : Type 0 where
+  pub counts : (p : ℕ) → p < totalsCount (leapYear (j .site)) → totalsAt a p .count ≡ totalsAt b p .count
+  pub largest : (p : ℕ) → p < totalsCount (leapYear (j .site)) → totalsAt a p .largest ≡ totalsAt b p .largest
+  pub same-bytes : SameObjects j k → take (24 * totalsCount (leapYear (j .site))) a ≡ take (24 * totalsCount (leapYear (j .site))) b
+  pub second-more : HoldsAll k j → (p : ℕ) → p < totalsCount (leapYear (j .site)) → totalsAt b p .sum ≼ totalsAt a p .sum
+  pub first-more : HoldsAll j k → (p : ℕ) → p < totalsCount (leapYear (j .site)) → totalsAt a p .sum ≼ totalsAt b p .sum
+
+-- of two calls: what their runs come to, and the totals that they leave
+pub record Compared (j k : Job) (a b : Left) : Type 0 where
+  pub runs : RunsCompared j k (a .ran) (b .ran)
+  pub totals : TotalsCompared j k (a .totals) (b .totals)
 
 -- two jobs that may be compared, whatever lists were lent
 pub record Comparable (j k : Job) (r s : Lent) : Type 0 where
@@ -146,4 +163,4 @@ pub record Comparable (j k : Job) (r s : Lent) : Type 0 where
   pub doubles : Doubles (j .surface)
 
 abbrev pub TwoJobsCompared : Type 0
-TwoJobsCompared = (j k : Job) (r s : Lent) → Comparable j k r s → Compared j k (runOf j r .ran) (runOf k s .ran)
+TwoJobsCompared = (j k : Job) (r s : Lent) → Comparable j k r s → Compared j k (runOf j r) (runOf k s)

@@ -22,7 +22,8 @@ use Rattle.jobs.specs.Totals.{noTotals, withStep, dayOfStep, totalsOf, totalsCo
 use Rattle.jobs.proofs.RowStores.{RowFits}
 use Rattle.jobs.proofs.TotalsRecords.{length-records, length-putTotals, put-among}
 use Rattle.jobs.proofs.TotalsLaws.{totals-few, part-next, month-from, month-to, day-to, day-in, month-in, no-other, totals-read}
-use Rattle.totals.specs.Kept.{emptied, withRowAdded}
+use Rattle.totals.specs.declared.Parts.{Parts}
+use Rattle.totals.specs.Kept.{emptied, partsOf, withRowAdded}
 
 -- 64 bits hold the number of any step
 pub small : (i : ℕ) → i < 35137 → i < 2 ^ 64
@@ -51,9 +52,9 @@ over-emptied leap run results n totals =
     ap (λ (rest : List ℕ). totalsRecords (totalsAtPart leap run results n) (totalsCount leap) 0 ++ rest) (behind-emptied leap totals)
 
 -- so long are they as before
-pub length-added : (leap : Bool) (day : ℕ) (step : Float) (row : Row) (totals : List ℕ) → length (withRowAdded leap day step row totals) ≡ length totals
+pub length-added : (parts : Parts) (step : Float) (row : Row) (totals : List ℕ) → length (withRowAdded parts step row totals) ≡ length totals
 unfolding withRowAdded
-length-added leap day step row totals = length-putTotals _ _ _ ∙ length-putTotals totals day _
+length-added parts step row totals = length-putTotals _ _ _ ∙ length-putTotals totals (parts .day) _
 
 -- no record counts more steps than there are rows
 pub few-added : (leap : Bool) (run : Run) (results totals : List ℕ) (i k : ℕ) → i < 35137 → k < totalsCount leap
@@ -108,8 +109,8 @@ module _ (leap : Bool) (run : Run) (results totals : List ℕ) (i : ℕ) (row : 
     | no n ↦ of-others k n ∙ sym (none-more k (no-other leap day h k n o))
   ]
 
-  pub row-added : withRowAdded leap day (run .step) row (withTotals leap run results i totals) ≡ withTotals leap run (putRow results i row) (suc i) totals
-  unfolding withRowAdded withTotals
+  pub row-added : withRowAdded (partsOf leap day) (run .step) row (withTotals leap run results i totals) ≡ withTotals leap run (putRow results i row) (suc i) totals
+  unfolding withRowAdded partsOf withTotals
   row-added =
       let count : ℕ = totalsCount leap in
       let before : List ℕ = totalsRecords old count 0 ++ rest in

@@ -6,16 +6,20 @@ use Prim.Native.Nat.{ℕ, _*_}
 use lib.ListN.{drop}
 use lib.Ieee.{Float}
 use Rattle.jobs.specs.declared.answers.Row.{Row}
+use Rattle.totals.specs.declared.Parts.{Parts}
 use Rattle.jobs.specs.Totals.{noTotals, withStep, totalsCount, monthPart, totalsAt, putTotals, totalsRecords}
 
 -- every record of the year without a step; the bytes behind stay as they were
 unfoldable pub emptied : Bool → List ℕ → List ℕ
 emptied leap totals = totalsRecords (λ (k : ℕ). noTotals) (totalsCount leap) 0 ++ drop (24 * totalsCount leap) totals
 
--- one step more in the record of its day and in that of its month
-unfoldable pub withRowAdded : Bool → ℕ → Float → Row → List ℕ → List ℕ
-withRowAdded leap day step row totals =
-    let month = monthPart leap day in
-    let ofDay = withStep step (totalsAt totals day) row in
-    let ofMonth = withStep step (totalsAt totals month) row in
-    putTotals (putTotals totals day ofDay) month ofMonth
+-- the records in which the steps of a day count
+unfoldable pub partsOf : Bool → ℕ → Parts
+partsOf leap day = record { day = day; month = monthPart leap day }
+
+-- one step more in both
+unfoldable pub withRowAdded : Parts → Float → Row → List ℕ → List ℕ
+withRowAdded parts step row totals =
+    let ofDay = withStep step (totalsAt totals (parts .day)) row in
+    let ofMonth = withStep step (totalsAt totals (parts .month)) row in
+    putTotals (putTotals totals (parts .day) ofDay) (parts .month) ofMonth

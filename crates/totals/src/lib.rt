@@ -3,8 +3,8 @@ ghost use mathlib.Core.Path.{_≡_};
 ghost use Prim.Native.Nat.{_*_, _≤_, _<_};
 ghost use lib.ListN.{length};
 ghost use Rattle.calendar.specs.Calendar.{daysInYear};
-ghost use Rattle.jobs.specs.Totals.{withStep, totalsCount, monthPart, totalsAt, putTotals};
-ghost use Rattle.totals.specs.Kept.{emptied, withRowAdded};
+ghost use Rattle.jobs.specs.Totals.{withStep, totalsCount, totalsAt, putTotals};
+ghost use Rattle.totals.specs.Kept.{emptied, partsOf, withRowAdded};
 use calendar::date_of;
 use calendar::days_in_year;
 use doubles::float_max;
@@ -70,24 +70,43 @@ pub fn empty_totals(totals: &mut [u8], leap: bool)
     }
 }
 
-// Where the month of a day has its record: right behind the days'.
-fn month_part(leap: bool, day: u32) -> usize
+// The two records in which the steps of a day count.
+pub struct Parts {
+    pub day: u32,
+    pub month: u32,
+}
+
+pub fn parts_of(leap: bool, day: u32) -> Parts
     requires { ⌜ day < daysInYear leap ⌝ }
-    ensures { λ r. ⌜ r ≡ monthPart leap day ⌝ }
+    ensures { λ r. ⌜ r ≡ partsOf leap day ⌝ }
 {
-    (days_in_year(leap) + date_of(leap, day).month - 1) as usize
+    Parts {
+        day: day,
+        month: days_in_year(leap) + date_of(leap, day).month - 1,
+    }
+}
+
+// The same, where those of some day are kept: the calendar is looked at once a day.
+pub fn parts_for(leap: bool, day: u32, kept: Parts) -> Parts
+    requires { ⌜ day < daysInYear leap ⌝ }
+    requires { ⌜ kept ≡ partsOf leap (kept .day) ⌝ }
+    ensures { λ r. ⌜ r ≡ partsOf leap day ⌝ }
+{
+    if day == kept.day {
+        return kept;
+    }
+    parts_of(leap, day)
 }
 
 // A step's row, added to the totals of its day and to those of its month.
-pub fn add_row(totals: &mut [u8], leap: bool, day: u32, step: f64, row: Row)
-    requires { ⌜ day < daysInYear leap ⌝ }
-    requires { ⌜ totalsAt (now totals) day .count < 35137 ⌝ }
-    requires { ⌜ totalsAt (now totals) (monthPart leap day) .count < 35137 ⌝ }
-    ensures { λ _. ⌜ now (totals .exit) ≡ withRowAdded leap day step row (now (totals .entry)) ⌝ }
+pub fn add_row(totals: &mut [u8], parts: Parts, step: f64, row: Row)
+    requires { ⌜ (parts .day < 378) × (parts .month < 378) ⌝ }
+    requires { ⌜ totalsAt (now totals) (parts .day) .count < 35137 ⌝ }
+    requires { ⌜ totalsAt (now totals) (parts .month) .count < 35137 ⌝ }
+    ensures { λ _. ⌜ now (totals .exit) ≡ withRowAdded parts step row (now (totals .entry)) ⌝ }
 {
-    let month = month_part(leap, day);
-    let of_day = with_step(step, totals_at(totals, day as usize), row);
-    let of_month = with_step(step, totals_at(totals, month), row);
-    store_totals(totals, day as usize, of_day);
-    store_totals(totals, month, of_month);
+    let of_day = with_step(step, totals_at(totals, parts.day as usize), row);
+    let of_month = with_step(step, totals_at(totals, parts.month as usize), row);
+    store_totals(totals, parts.day as usize, of_day);
+    store_totals(totals, parts.month as usize, of_month);
 }
