@@ -1,7 +1,7 @@
 //! Two jobs compared: the factor's laws over whole runs, from the first step to the last, and over
 //! their sums.
 
-use super::lent::{Left, Lent};
+use super::lent::Lent;
 use crate::comparison::{same, shown, Outcome, Settings};
 use crate::published::jobs::*;
 use crate::published::shading::{outside_beam, Numbers};
