@@ -4,7 +4,7 @@
 //! is asked for; a step's row is the judge's own. `wrong_totals.rs` has what it does about the totals.
 
 use super::lent::Library;
-use crate::pilgartze::{totals_length, DAY, DAYS};
+use crate::pilgartze::{days_in_year, totals_length, totals_of, DAY, DAYS};
 use crate::published::days::{day_in, day_table, DayValues};
 use crate::published::jobs::*;
 use crate::published::shading::{MOST_SECTORS, MOST_WINDOW_OBJECTS, SECTOR_WORDS, WINDOW_WORDS};
@@ -1255,6 +1255,14 @@ enum Lawless {
     SumByTheFirstObject,
     SumWithoutTheStep,
     HoursAnUlpLonger,
+    CountsByTheObjects,
+    LargestByTheObjects,
+    DaySumsByTheObjects,
+    MonthSumsByTheObjects,
+    DaySumsByTheFirstObject,
+    DaySumsBelowZero,
+    MonthSumsDoubled,
+    ByteBehindByTheObjects,
 }
 
 impl Lawless {
@@ -1309,6 +1317,34 @@ fn lawless_hours(way: u8, step: f64) -> f64 {
     }
 }
 
+/// What becomes of a year's totals.
+fn lawless_totals(way: u8, job: &Job, objects: usize, totals: &mut [u8]) {
+    let days = days_in_year(job.site.leap_year);
+    let first_kind = job.window.first().map_or(0.0, |&kind| kind as f64);
+    let records = totals_of(&totals[..totals_length(job.site.leap_year)]);
+    for (place, mut kept) in records.into_iter().enumerate() {
+        let (some, of_a_day) = (kept.count > 0, place < days);
+        match () {
+            _ if !some => {}
+            _ if Lawless::CountsByTheObjects.is(way) => kept.count += objects as u64,
+            _ if Lawless::LargestByTheObjects.is(way) => kept.largest += objects as f64,
+            _ if Lawless::DaySumsByTheObjects.is(way) && of_a_day => kept.sum += objects as f64,
+            _ if Lawless::MonthSumsByTheObjects.is(way) && !of_a_day => kept.sum += objects as f64,
+            _ if Lawless::DaySumsByTheFirstObject.is(way) && of_a_day => kept.sum += first_kind,
+            _ if Lawless::DaySumsBelowZero.is(way) && of_a_day => kept.sum = -1.0 - kept.sum,
+            _ if Lawless::MonthSumsDoubled.is(way) && !of_a_day => kept.sum *= 2.0,
+            _ => {}
+        }
+        let words = [kept.count, kept.largest.to_bits(), kept.sum.to_bits()];
+        let bytes = words.map(u64::to_le_bytes).concat();
+        totals[bytes.len() * place..][..bytes.len()].copy_from_slice(&bytes);
+    }
+    let byte = totals.get_mut(totals_length(job.site.leap_year));
+    if let (Some(byte), true) = (byte, Lawless::ByteBehindByTheObjects.is(way)) {
+        *byte ^= objects as u8;
+    }
+}
+
 fn lawless_run<const WAY: u8>(
     judge: &mut Judge,
     job: &Job,
@@ -1319,6 +1355,7 @@ fn lawless_run<const WAY: u8>(
     if answer.number != 0 {
         return answer;
     }
+    lawless_totals(WAY, &job, objects, totals);
     let hours = lawless_hours(WAY, job.times[2]);
     let mut sum = 0.0;
     for row in results
@@ -1366,13 +1403,20 @@ macro_rules! ways {
 pub fn lawless_engines(law: Law) -> Vec<Wrong> {
     let told = || format!("run breaks the law of the {}:", law.name());
     match law {
-        Law::Range => ways!(told(); AboveTheWhole, SumWithoutTheStep),
-        Law::Reordered => {
-            ways!(told(); FirstObjectLeftOut, LastObjectAlone, SumByTheFirstObject)
+        Law::Range => {
+            ways!(told(); AboveTheWhole, SumWithoutTheStep, DaySumsBelowZero, MonthSumsDoubled)
         }
-        Law::Repeated => ways!(told(); ObjectsCounted, SumByTheObjects),
-        Law::Enlarged => ways!(told(); LastObjectAlone, SumByTheObjects),
-        Law::Emptied => ways!(told(); NeverWhole, SumWithoutTheStep),
+        Law::Reordered => ways!(told();
+            FirstObjectLeftOut, LastObjectAlone, SumByTheFirstObject, DaySumsByTheFirstObject),
+        Law::Repeated => ways!(told();
+            ObjectsCounted, SumByTheObjects, CountsByTheObjects, LargestByTheObjects,
+            DaySumsByTheObjects, MonthSumsByTheObjects, ByteBehindByTheObjects),
+        Law::Enlarged => ways!(told();
+            LastObjectAlone, SumByTheObjects, CountsByTheObjects, LargestByTheObjects,
+            DaySumsByTheObjects, MonthSumsByTheObjects),
+        Law::Emptied => ways!(told();
+            NeverWhole, SumWithoutTheStep, CountsByTheObjects, LargestByTheObjects,
+            MonthSumsDoubled),
     }
 }
 

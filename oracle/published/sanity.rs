@@ -61,6 +61,7 @@ pub fn section(settings: &Settings) -> Outcome {
     factor(checks)?;
     sectors(checks)?;
     times(checks)?;
+    months(checks)?;
     whole_years(checks)
 }
 
