@@ -125,7 +125,7 @@ fn sets_of_faults(jobs: &mut Vec<Job>) {
 
 /// A job over these times at a window to the south, in the shade of an overhang, of an obstacle that
 /// light gets through and of one in the distance.
-fn job_over(maker: &mut Maker, plain: &Job, leap_year: u64, times: Times) -> Job {
+pub fn job_over(maker: &mut Maker, plain: &Job, leap_year: u64, times: Times) -> Job {
     let mut job = plain.clone();
     job.site.leap_year = leap_year;
     (job.site.latitude, job.site.longitude) = (45.0, 0.0);
@@ -203,7 +203,7 @@ fn ends_of(leap_year: u64) -> Vec<Times> {
 /// Runs from an afternoon into the next morning, which is refused: the sun is in a sector, then outside
 /// the beam, and then a gap or a turned sector comes before it, or it is in none. With a reveal the run
 /// begins in the evening.
-fn refused_later(maker: &mut Maker, plain: &Job, leap_year: u64, midnight: f64) -> Vec<Job> {
+pub fn refused_later(maker: &mut Maker, plain: &Job, leap_year: u64, midnight: f64) -> Vec<Job> {
     let mut jobs = vec![];
     for step in [1.0, 0.3] {
         for (number, from) in [(8, 11.0), (9, 11.0), (10, 11.0), (11, 5.0)] {
