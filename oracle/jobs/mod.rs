@@ -659,11 +659,10 @@ impl Comparison<'_> {
             self.job_and_singles(maker, job, true)?;
         }
         self.at_both_ends(&fixed.tables, DAYS_LIST)?;
-        self.at_both_ends(&fixed.totals, TOTALS_LIST)?;
         for job in &fixed.calendar {
             self.job(job, None, false)?;
         }
-        Ok(())
+        self.at_both_ends(&fixed.totals, TOTALS_LIST)
     }
 
     /// Jobs of which that list is lent at the back and at the front of its pages.

@@ -40,16 +40,20 @@ pub fn any_former(random: &mut Random, len: usize) -> Vec<u8> {
     former_totals(random, former, len)
 }
 
+/// A record without a step.
+fn empty_record() -> [u8; 8 * TOTALS] {
+    let mut record = [0; 8 * TOTALS];
+    record[8..16].copy_from_slice(&NAN.to_le_bytes());
+    record
+}
+
 fn former_totals(random: &mut Random, what: Former, len: usize) -> Vec<u8> {
     let mut former = random.bytes(len);
     for record in former.chunks_exact_mut(8 * TOTALS) {
         match what {
             Former::Noise => {}
             Former::Zeros => record.fill(0),
-            Former::Empty => {
-                record.fill(0);
-                record[8..16].copy_from_slice(&NAN.to_le_bytes());
-            }
+            Former::Empty => record.copy_from_slice(&empty_record()),
             Former::CountsOfZero => record[..8].fill(0),
         }
     }
@@ -155,12 +159,13 @@ fn midnights(leap_year: u64) -> Vec<f64> {
     all.iter().map(|&day| (24 * day) as f64).collect()
 }
 
-/// Runs across a midnight: steps of an hour and of a part of one, some of which pass it; of 24 hours, from
-/// midnight and from noon; from just before it; and a start above the end.
+/// Runs across a midnight: steps of an hour and of a part of one, some of which pass it and some of
+/// which, added up, come to just before it; of 24 hours, from midnight and from noon; from just before
+/// it; and a start above the end.
 fn across(midnight: f64) -> [Times; 7] {
     [
         [midnight - 12.0, midnight + 14.0, 1.0],
-        [midnight - 13.1, midnight + 13.0, 0.3],
+        [midnight - 12.0, midnight + 13.0, 0.3],
         [midnight - 0.25, midnight + 1.0, 0.5],
         [ulps_from(midnight, -1), midnight + 1.0, 0.25],
         [midnight - 12.0, (midnight + 30.0).min(8760.0), 24.0],
@@ -262,7 +267,8 @@ pub struct TotalsMet {
 }
 
 /// What else is counted.
-const COUNTED: [&str; 16] = [
+const COUNTED: [&str; 18] = [
+    "totals kept, refused, a sum above 0",
     "totals kept, no steps",
     "totals kept, bytes past them left",
     "totals kept, common year, a leap year's room",
@@ -275,6 +281,7 @@ const COUNTED: [&str; 16] = [
     "rows of 29 February",
     "rows of 1 March of a common year",
     "rows of steps that pass midnight",
+    "rows of steps from just before midnight",
     "rows of 24 hours not from midnight",
     "days' largest totals that are not the first",
     "days' largest totals that are not the last",
@@ -293,7 +300,8 @@ impl TotalsMet {
             return self.note_short(judge, job);
         }
         if (1..=7).contains(&number) {
-            self.left[number] += 1;
+            // empty ones would look the same emptied and left alone
+            self.left[number] += !job.totals.starts_with(&empty_record()) as u64;
             return;
         }
         if job.totals == right.totals {
@@ -371,6 +379,9 @@ impl TotalsMet {
             if !what.is_empty() {
                 self.count(what, 1);
             }
+            if into_the_day > 23.999 {
+                self.count("rows of steps from just before midnight", 1);
+            }
             if into_the_day + hours > 24.0 {
                 self.count("rows of steps that pass midnight", 1);
             }
@@ -384,6 +395,8 @@ impl TotalsMet {
         let leap_year = job.site.leap_year;
         let totals = totals_of(&right.totals);
         let (days, months) = totals.split_at(days_of(leap_year));
+        let some = right.answer.number != 0 && days.iter().any(|day| day.sum > 0.0);
+        self.count("totals kept, refused, a sum above 0", some as usize);
         let rows = doubles_of(&right.results);
         let mut before = 0;
         for of_day in steps.chunk_by(|a, b| a.day == b.day) {

@@ -217,6 +217,9 @@ flaws! {
         TotalsLeftWithNoSteps,
         LastRowBeforeARefusalNotKept,
         RefusedStepKept,
+        LastDayNotStored,
+        LastDayOfARefusedRunNotStored,
+        LastMonthNotStored,
         EmptyLargestZero,
         EmptyLargestNegativeNan,
         EmptyLargestSignallingNan,
@@ -251,6 +254,8 @@ flaws! {
         // which of two equal totals is taken, and what is made of NaN, shows in the proofs alone: no
         // run is known to have a total of −0.0 or NaN
         HoursCounted,
+        MonthsCountTheirDays,
+        LargestOfAllSoFar,
         LargestIsTheFirst,
         LargestIsTheLast,
         LargestIsTheLeast,
@@ -260,6 +265,7 @@ flaws! {
         LargestTimesStep,
         // the sums
         MonthSumsOfDaySums,
+        SumOfAllSoFar,
         TotalsBackwards,
         TotalsBegunWithFirstProduct,
         TotalsSubnormalsDropped,
@@ -273,6 +279,9 @@ flaws! {
         TotalsBySeriesStep,
         TotalsLastStepCutAtTheEnd,
         TotalsStepCutAtMidnight;
+    Totals "run's totals":
+        TotalsTimeByProduct,
+        CountOfOneByte;
     All "step":
         StepStoresOnRefusal,
         StepAtTheYearsEnd,

@@ -167,42 +167,89 @@ impl Plain {
         }
     }
 
-    /// The records of these rows, from the former bytes where they are not emptied.
-    fn records(&self, job: &Job, steps: &Checked, rows: &[[f64; ROW]]) -> Vec<Totals> {
-        let leap_year = job.site.leap_year;
-        let [.., step_hours] = job.times;
-        let most = 366 + MONTHS;
-        let mut records = vec![self.empty(); most];
-        if self.is(TotalsNotEmptied) {
-            records = totals_of(&job.totals);
-            records.resize(most, self.empty());
-        }
-        let mut each: Vec<_> = steps.iter().zip(rows).collect();
-        if self.is(TotalsBackwards) {
-            each.reverse();
-        }
-        for ((step, _), row) in each {
-            let day = self.total_day(job, step.time);
-            let hours = self.total_hours(job, step.time, day);
-            for place in self.places(leap_year, day) {
-                self.add(&mut records[place], row, hours);
-            }
-        }
-        if self.is(TotalsTimesStepAtTheEnd) {
-            records.iter_mut().for_each(|kept| kept.sum *= step_hours);
-        }
-        if self.is(MonthSumsOfDaySums) {
-            self.add_days_up(leap_year, &mut records);
-        }
+    /// The records before the first step.
+    fn first_records(&self, job: &Job) -> Vec<Totals> {
+        let mut records = match self.is(TotalsNotEmptied) {
+            true => totals_of(&job.totals),
+            false => vec![],
+        };
+        records.resize(366 + MONTHS, self.empty());
         records
     }
 
-    fn add_days_up(&self, leap_year: u64, records: &mut [Totals]) {
+    /// The records of these rows.
+    fn records(&self, job: &Job, steps: &Checked, rows: &[[f64; ROW]]) -> Vec<Totals> {
+        let [start, _, step_hours] = job.times;
+        let mut records = self.first_records(job);
+        let mut each: Vec<_> = steps.iter().zip(rows).enumerate().collect();
+        if self.is(TotalsBackwards) {
+            each.reverse();
+        }
+        let mut of_all = self.empty();
+        for (k, ((step, _), row)) in each {
+            let time = match self.is(TotalsTimeByProduct) {
+                true => start + step_hours * k as f64,
+                false => step.time,
+            };
+            let day = self.total_day(job, time);
+            let hours = self.total_hours(job, time, day);
+            self.add(&mut of_all, row, hours);
+            for place in self.places(job.site.leap_year, day) {
+                self.add(&mut records[place], row, hours);
+                if self.is(LargestOfAllSoFar) {
+                    records[place].largest = of_all.largest;
+                }
+                if self.is(SumOfAllSoFar) {
+                    records[place].sum = of_all.sum;
+                }
+            }
+        }
+        self.after_the_steps(job, &mut records);
+        self.last_ones_lost(job, steps, rows, &mut records);
+        records
+    }
+
+    /// What becomes of the last row's day and month.
+    fn last_ones_lost(
+        &self,
+        job: &Job,
+        steps: &Checked,
+        rows: &[[f64; ROW]],
+        records: &mut [Totals],
+    ) {
+        let last = steps[..rows.len().min(steps.len())].last();
+        let Some((step, _)) = last else {
+            return;
+        };
+        let refused = rows.len() < steps.len();
+        let [day, month] = self.places(job.site.leap_year, self.total_day(job, step.time));
+        if self.is(LastDayNotStored) || self.is(LastDayOfARefusedRunNotStored) && refused {
+            records[day] = self.empty();
+        }
+        if self.is(LastMonthNotStored) {
+            records[month] = self.empty();
+        }
+    }
+
+    /// What is done with the records once all steps are in them.
+    fn after_the_steps(&self, job: &Job, records: &mut [Totals]) {
+        let leap_year = job.site.leap_year;
+        let [.., step_hours] = job.times;
         let days = days_in_year(leap_year);
+        if self.is(TotalsTimesStepAtTheEnd) {
+            records.iter_mut().for_each(|kept| kept.sum *= step_hours);
+        }
         for month in 0..MONTHS {
             let of_month = |&day: &usize| self.total_month(leap_year, day) == month;
-            let sums = (0..days).filter(of_month).map(|day| records[day].sum);
-            records[days + month].sum = sums.fold(0.0, |sum, more| sum + more);
+            let of_month = (0..days).filter(of_month).map(|day| records[day]);
+            let sum = of_month.clone().fold(0.0, |sum, day| sum + day.sum);
+            let count = of_month.filter(|day| day.count > 0).count();
+            if self.is(MonthSumsOfDaySums) {
+                records[days + month].sum = sum;
+            }
+            if self.is(MonthsCountTheirDays) {
+                records[days + month].count = count as u64;
+            }
         }
     }
 
@@ -215,9 +262,10 @@ impl Plain {
             false => days_in_year(leap_year) + MONTHS,
         };
         for (place, kept) in records[..count].iter().enumerate() {
-            let count = match self.is(CountAsADouble) {
-                true => (kept.count as f64).to_bits(),
-                false => kept.count,
+            let count = match kept.count {
+                count if self.is(CountAsADouble) => (count as f64).to_bits(),
+                count if self.is(CountOfOneByte) => count & 0xFF,
+                count => count,
             };
             let mut words = [count, kept.largest.to_bits(), kept.sum.to_bits()];
             if self.is(LargestAndSumSwapped) {
