@@ -62,12 +62,13 @@ fn former_totals(random: &mut Random, what: Former, len: usize) -> Vec<u8> {
 
 // --- Jobs ---
 
-/// Lengths that are far too short, among them one word and one record.
-const SHORT: [usize; 8] = [0, 1, 7, 8, 23, 24, 25, 9000];
+/// Lengths that are too short, among them those of one word, of one record, of the months, of a
+/// common year's days and of a leap year's, as many as the table of days has.
+const SHORT: [usize; 9] = [0, 1, 7, 8, 23, 24, 288, 8760, DAYS_LENGTH];
 
 /// A job that is accepted, one with no steps, and one for each refusal, in a common year and in a leap
-/// year, each with totals of every length about those of both years, far too short ones and one that
-/// is much too long, all with noise in them.
+/// year, each with totals of every length about those of both years, others that are too short and one
+/// that is much too long, all with noise in them.
 pub fn lengths() -> Vec<Job> {
     let mut maker = Maker::new(Random::new(1, "totals"));
     let mut jobs = vec![];
@@ -271,9 +272,9 @@ const COUNTED: [&str; 18] = [
     "totals kept, refused, a sum above 0",
     "totals kept, no steps",
     "totals kept, bytes past them left",
-    "totals kept, common year, a leap year's room",
+    "totals kept, common year, 366 days' room",
     "totals right before",
-    "totals short, leap year, a common year's room",
+    "totals short, leap year, 365 days' room",
     "rows of 1 January",
     "rows of 31 December of a common year",
     "rows of 31 December of a leap year",
@@ -283,8 +284,8 @@ const COUNTED: [&str; 18] = [
     "rows of steps that pass midnight",
     "rows of steps from just before midnight",
     "rows of 24 hours not from midnight",
-    "days' largest totals that are not the first",
-    "days' largest totals that are not the last",
+    "days' largest total that is not the first",
+    "days' largest total that is not the last",
     "months' sums that are not their days'",
 ];
 
@@ -317,7 +318,7 @@ impl TotalsMet {
         let without = judge.run(job, &mut days, &mut totals, &mut results);
         self.short[without.number as usize] += 1;
         if without.number == 0 && job.totals.len() >= totals_needed(0) {
-            self.count("totals short, leap year, a common year's room", 1);
+            self.count("totals short, leap year, 365 days' room", 1);
         }
     }
 
@@ -339,7 +340,7 @@ impl TotalsMet {
             (len > totals_needed(leap_year)) as usize,
         );
         self.count(
-            "totals kept, common year, a leap year's room",
+            "totals kept, common year, 366 days' room",
             (leap_year == 0 && len >= totals_needed(1)) as usize,
         );
         let steps = steps_of(&job.site, &job.times);
@@ -404,9 +405,9 @@ impl TotalsMet {
             let (first, last) = (total(0), total(of_day.len() - 1));
             let largest = days[of_day[0].day as usize].largest;
             let not_first = (largest != first) as usize;
-            self.count("days' largest totals that are not the first", not_first);
+            self.count("days' largest total that is not the first", not_first);
             let not_last = (largest != last) as usize;
-            self.count("days' largest totals that are not the last", not_last);
+            self.count("days' largest total that is not the last", not_last);
             before += of_day.len();
         }
         for (month, totals) in months.iter().take(MONTHS).enumerate() {

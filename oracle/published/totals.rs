@@ -25,7 +25,7 @@ pub fn month_of(leap_year: u64, day: usize) -> usize {
     month.expect("a day of the year")
 }
 
-/// "For each day of the year and right behind them each of the 12 months a record of three words."
+/// "For each day of the year and then each month three words."
 pub fn totals_needed(leap_year: u64) -> usize {
     8 * TOTALS * (days_of(leap_year) + MONTHS)
 }
@@ -33,13 +33,14 @@ pub fn totals_needed(leap_year: u64) -> usize {
 /// There is one NaN, and this is how it is written.
 pub const NAN: u64 = 0x7FF8_0000_0000_0000;
 
-/// What is kept of some rows, in step order: how many they are, the largest total and the sum.
+/// What is kept of some rows: "the count of steps, the largest total (NaN skipped, of equals the latest;
+/// NaN while there is none) and the sum of factor times direct" times step, "in step order".
 fn record(rows: &[[f64; ROW]], step_hours: f64) -> [u64; TOTALS] {
     let totals = rows
         .iter()
         .map(|row| row[4])
         .filter(|total| !total.is_nan());
-    // "the new one is taken where there is none yet or where the largest is not above it"
+    // of equals the latest, −0.0 after 0.0 too
     let largest = totals.reduce(|largest, total| match largest > total {
         true => largest,
         false => total,
@@ -54,8 +55,8 @@ fn record(rows: &[[f64; ROW]], step_hours: f64) -> [u64; TOTALS] {
     ]
 }
 
-/// Stores the totals of a run that passed the checks and has these rows. "A step belongs to the day of
-/// its start." Bytes behind the year's records are untouched.
+/// Stores the totals of a run that passed the checks and has these rows. A step belongs whole to the
+/// day in which it starts. Bytes behind the year's records are untouched.
 pub fn keep_totals(
     site: &JobSite,
     step_hours: f64,
