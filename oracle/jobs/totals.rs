@@ -175,8 +175,7 @@ fn across(midnight: f64) -> [Times; 7] {
     ]
 }
 
-/// The year's first and last steps, runs of no steps, some of which are past the year or end there, and
-/// whole years.
+/// The year's first and last steps, runs of no steps, runs past a common year, and whole years.
 fn ends_of(leap_year: u64) -> Vec<Times> {
     let hours = 24.0 * days_of(leap_year) as f64;
     vec![
