@@ -3,7 +3,7 @@
 use crate::pilgartze::{self, *};
 use crate::{Job, Row, Series};
 
-/// A job as the library takes it: lists of bytes, and room for the days and the results.
+/// A job as the library takes it: lists of bytes, and room for the days, the totals and the results.
 pub struct Lent<'a> {
     job: &'a Job,
     diffuse: Vec<u8>,
@@ -12,6 +12,7 @@ pub struct Lent<'a> {
     sectors: Vec<u8>,
     window: Vec<u8>,
     days: Vec<u8>,
+    totals: Vec<u8>,
     results: Vec<u8>,
 }
 
@@ -56,6 +57,7 @@ impl<'a> Lent<'a> {
                 })
                 .collect(),
             days: vec![0; DAYS_LENGTH],
+            totals: vec![0; totals_length(SITE.leap_year)],
             results: vec![0; steps * size_of::<Row>()],
         }
     }
@@ -76,8 +78,10 @@ impl<'a> Lent<'a> {
             sectors: &self.sectors,
             window: &self.window,
         };
-        let (days, results) = (&mut self.days, &mut self.results);
-        match pilgartze::run(&SITE, &times, &SURFACE, weather, shading, days, results) {
+        let (days, totals, results) = (&mut self.days, &mut self.totals, &mut self.results);
+        match pilgartze::run(
+            &SITE, &times, &SURFACE, weather, shading, days, totals, results,
+        ) {
             Ok(Accepted { count, sum }) => Ok((count, sum)),
             Err(Refused { refusal, step }) => Err(format!("{refusal} at step {step}")),
         }

@@ -42,6 +42,7 @@ fn main() {
         window: &window_object(1, 0.5, 0.1, 0.0),
     };
     let mut days = vec![0; DAYS_LENGTH];
+    let mut totals = vec![0; totals_length(SITE.leap_year)];
     let mut results = vec![0; 8 * ROW * HOURS];
     match run(
         &SITE,
@@ -50,6 +51,7 @@ fn main() {
         weather,
         shading,
         &mut days,
+        &mut totals,
         &mut results,
     ) {
         Ok(Accepted { count, sum }) => println!("{count} steps, {sum:.1} Wh/m2 of direct sun"),

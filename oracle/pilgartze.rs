@@ -6,7 +6,7 @@
 //!
 //! `examples/from_rust.rs` is such a program. `include/pilgartze.h` says what each field is and what
 //! range it has, `docs/FORMATS.md` draws the lists. Nothing has to be checked before a call: what is
-//! out of range is refused, and only the results and a run's table of days are written to.
+//! out of range is refused, and only the results and a run's table of days and totals are written to.
 
 use std::fmt;
 
@@ -119,6 +119,46 @@ pub const DAYS: usize = 366;
 /// The table's bytes.
 pub const DAYS_LENGTH: usize = 8 * DAY * DAYS;
 
+/// The words of one day's or one month's totals: the count of its steps, the largest total, the sum.
+pub const TOTALS: usize = 3;
+pub const MONTHS: usize = 12;
+
+/// How many days a year has; leap year is 0 or 1, as in the site.
+pub const fn days_in_year(leap_year: u64) -> usize {
+    match leap_year {
+        0 => 365,
+        _ => 366,
+    }
+}
+
+/// The bytes of a year's totals: those of its days, 1 January first, and right behind them those of
+/// its months.
+pub const fn totals_length(leap_year: u64) -> usize {
+    8 * TOTALS * (days_in_year(leap_year) + MONTHS)
+}
+
+/// What a run keeps of the steps that start in one day or in one month.
+#[derive(Clone, Copy, Debug, PartialEq)]
+pub struct Totals {
+    pub count: u64,
+    /// Of the rows' totals; NaN where there is no step.
+    pub largest: f64,
+    /// Of factor times direct times the run's step in hours: Wh/m².
+    pub sum: f64,
+}
+
+/// The totals in such a list, one behind the other; a part of one at the end counts for nothing.
+pub fn totals_of(bytes: &[u8]) -> Vec<Totals> {
+    let word = |bytes: &[u8]| u64::from_le_bytes(bytes.try_into().expect("eight bytes"));
+    let each = bytes.chunks_exact(8 * TOTALS);
+    each.map(|record| Totals {
+        count: word(&record[..8]),
+        largest: f64::from_bits(word(&record[8..16])),
+        sum: f64::from_bits(word(&record[16..])),
+    })
+    .collect()
+}
+
 /// Why a call is turned down, by the specification's numbers.
 #[derive(Clone, Copy, Debug, PartialEq, Eq)]
 #[repr(u64)]
@@ -174,7 +214,8 @@ pub struct Accepted {
     pub sum: f64,
 }
 
-/// A run that is refused at a step, from 0; the rows of the steps before it are in the results.
+/// A run that is refused at a step, from 0; the rows of the steps before it are in the results, and
+/// the totals are theirs.
 #[derive(Clone, Copy, Debug, PartialEq, Eq)]
 pub struct Refused {
     pub refusal: Refusal,
@@ -221,7 +262,8 @@ impl FactorAnswer {
 // --- The calls ---
 
 /// All steps of a run, a row for each in the results. Days is room for the table of days, of
-/// `DAYS_LENGTH` bytes or more; what was in it does not matter.
+/// `DAYS_LENGTH` bytes or more, and totals for those of the year's days and months, of
+/// `totals_length` or more; what was in them does not matter.
 pub fn run(
     site: &Site,
     times: &RunTimes,
@@ -229,6 +271,7 @@ pub fn run(
     weather: Weather,
     shading: Shading,
     days: &mut [u8],
+    totals: &mut [u8],
     results: &mut [u8],
 ) -> Result<Accepted, Refused> {
     unsafe {
@@ -240,6 +283,7 @@ pub fn run(
             weather,
             shading,
             days,
+            totals,
             results,
         )
     }
@@ -317,8 +361,8 @@ functions! {
         orientation: f64, base_height: f64, height: f64, width: f64, diffuse: *const u8,
         diffuse_length: usize, direct: *const u8, direct_length: usize, reflectivity: *const u8,
         reflectivity_length: usize, sectors: *const u8, sectors_length: usize, window: *const u8,
-        window_length: usize, days: *mut u8, days_length: usize, results: *mut u8,
-        results_length: usize,
+        window_length: usize, days: *mut u8, days_length: usize, totals: *mut u8,
+        totals_length: usize, results: *mut u8, results_length: usize,
     ) -> Answer as RunCall;
     fn pilgartze_step(
         latitude: f64, longitude: f64, timezone: i64, start_day: u64, series_step: f64,
@@ -347,8 +391,8 @@ pub const IRRADIANCE: IrradianceCall = pilgartze_irradiance;
 pub const FACTOR: FactorCall = pilgartze_factor;
 
 // The same calls by a function in the place of the archive's own; the comparison has such functions.
-// Each must read and write nothing but the lists that it is lent, and write to the table of days and
-// the results alone.
+// Each must read and write nothing but the lists that it is lent, and write to the table of days, the
+// totals and the results alone.
 
 pub unsafe fn run_by(
     call: RunCall,
@@ -358,6 +402,7 @@ pub unsafe fn run_by(
     weather: Weather,
     shading: Shading,
     days: &mut [u8],
+    totals: &mut [u8],
     results: &mut [u8],
 ) -> Answer {
     #[rustfmt::skip] // a line for each struct or list
@@ -372,6 +417,7 @@ pub unsafe fn run_by(
         shading.sectors.as_ptr(), shading.sectors.len(),
         shading.window.as_ptr(), shading.window.len(),
         days.as_mut_ptr(), days.len(),
+        totals.as_mut_ptr(), totals.len(),
         results.as_mut_ptr(), results.len(),
     );
     answer

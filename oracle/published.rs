@@ -29,6 +29,8 @@ pub mod sanity;
 pub mod shading;
 #[path = "published/sun.rs"]
 pub mod sun;
+#[path = "published/totals.rs"]
+pub mod totals;
 #[path = "published/walk.rs"]
 pub mod walk;
 #[path = "published/wrong.rs"]

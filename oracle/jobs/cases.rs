@@ -1,8 +1,9 @@
 //! Random jobs: most of them accepted, with the sun on the surface and partly in the shade.
 
-use super::tables::any_former;
+use super::{tables, totals};
 use crate::published::jobs::*;
 use crate::published::shading::{Numbers, ALTITUDE, AZIMUTH, ORIENTATION, TILT};
+use crate::published::totals::totals_needed;
 use crate::random::{ulps_from, Random, NAN_PATTERNS};
 use crate::shading::call::{sector, Call, Scene, Sector, END, START};
 use crate::shading::scenes::{self, edges_of_range, Aim};
@@ -46,8 +47,9 @@ impl Target {
 
 pub struct Maker {
     pub random: Random,
-    /// For tables of days, so that all else is as it would be without them.
+    /// For tables of days and for totals, so that all else is as it would be without them.
     table_random: Random,
+    totals_random: Random,
     pub aims: Aims,
     target: Option<Target>,
     judge: Judge,
@@ -93,6 +95,7 @@ impl Maker {
         let judge = Judge::new();
         Maker {
             table_random: random.beside("tables of days"),
+            totals_random: random.beside("totals"),
             random,
             aims: Aims::Seldom,
             target: None,
@@ -299,6 +302,7 @@ impl Maker {
         };
         job.results = self.bytes(8 * ROW * steps.len() + more);
         job.days = self.any_table();
+        job.totals = self.any_totals(job.site.leap_year);
     }
 
     /// Random bytes, which a call is to leave where it stores nothing.
@@ -313,7 +317,21 @@ impl Maker {
             1 => self.table_random.below(400),
             _ => 0,
         };
-        any_former(&mut self.table_random, DAYS_LENGTH + more)
+        tables::any_former(&mut self.table_random, DAYS_LENGTH + more)
+    }
+
+    /// Room for the totals of the year, now and then with some bytes more; of a common year one time in
+    /// four as many as a leap year needs.
+    fn any_totals(&mut self, leap_year: u64) -> Vec<u8> {
+        let random = &mut self.totals_random;
+        let needed = totals_needed(leap_year);
+        let len = match random.below(8) {
+            0 => needed + random.below(9),
+            1 => needed + random.below(400),
+            2 | 3 => totals_needed(1),
+            _ => needed,
+        };
+        totals::any_former(random, len)
     }
 
     // --- Jobs ---
@@ -341,6 +359,7 @@ impl Maker {
             sectors,
             window,
             days: vec![],
+            totals: vec![],
             results: vec![],
         };
         self.fit(&mut job);
@@ -472,7 +491,8 @@ impl Maker {
     }
 
     /// Six in ten are sound; the others are damaged in one place, or in two or three. One in forty
-    /// has a table of days that is too short.
+    /// has a table of days that is too short, and one in forty totals, half of these by less than a
+    /// record.
     pub fn any_job(&mut self) -> Job {
         let mut job = self.sound_job();
         let damages = match self.random.below(20) {
@@ -488,6 +508,12 @@ impl Maker {
         if self.table_random.below(40) == 0 {
             let len = self.table_random.below(DAYS_LENGTH);
             job.days.truncate(len);
+        }
+        if self.totals_random.below(40) == 0 {
+            let needed = totals_needed(job.site.leap_year);
+            let by = [needed, 24][self.totals_random.below(2)];
+            let len = needed - 1 - self.totals_random.below(by);
+            job.totals.truncate(len);
         }
         job
     }

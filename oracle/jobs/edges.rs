@@ -16,8 +16,9 @@ pub fn plain_jobs(maker: &mut Maker) -> Vec<Job> {
     let mut jobs = vec![];
     while jobs.len() < 2 {
         let job = maker.sound_job();
-        let (mut days, mut results) = (job.days.clone(), job.results.clone());
-        let answer = judge.run(&job, &mut days, &mut results);
+        let Left {
+            answer, results, ..
+        } = judge.run_on_copies(&job);
         let rows = doubles_of(&results);
         let shaded = rows.chunks_exact(ROW).take(answer.count as usize);
         let shaded = shaded.filter(|row| 0.0 < row[5] && row[5] < 1.0 && row[2] > 1.0);
@@ -454,8 +455,9 @@ const SUMMED: [(Times, f64); 16] = [
 fn shaded_throughout(maker: &mut Maker, judge: &mut Judge, times: Times, series_step: f64) -> Job {
     loop {
         let job = maker.job_over(series_step, times);
-        let (mut days, mut results) = (job.days.clone(), job.results.clone());
-        let answer = judge.run(&job, &mut days, &mut results);
+        let Left {
+            answer, results, ..
+        } = judge.run_on_copies(&job);
         let rows = doubles_of(&results);
         let mut rows = rows.chunks_exact(ROW).take(answer.count as usize);
         let shaded = rows.all(|row| row[2] > 1.0 && 0.0 < row[5] && row[5] < 1.0);

@@ -1,10 +1,12 @@
-//! Two jobs compared: the factor's laws over whole runs, from the first step to the last, and over
-//! their sums.
+//! Two jobs compared: the factor's laws over whole runs, from the first step to the last, over their
+//! sums and over their totals of days and months.
 
-use super::lent::{Left, Lent};
+use super::lent::Lent;
 use crate::comparison::{same, shown, Outcome, Settings};
+use crate::pilgartze::{totals_of, Totals, MONTHS};
 use crate::published::jobs::*;
 use crate::published::shading::{outside_beam, Numbers};
+use crate::published::totals::{days_of, month_of};
 use crate::random::Random;
 use crate::shading::call::{Call, Scene};
 use crate::shading::laws::{extents_are_numbers, Law, LAWS};
@@ -15,6 +17,9 @@ use crate::shading::laws::{extents_are_numbers, Law, LAWS};
 pub struct Pairs {
     tried: [u64; LAWS.len()],
     steps: u64,
+    /// Days and months that have a step, and those of them whose sum was smaller with further objects.
+    records: u64,
+    smaller: u64,
     skipped: u64,
 }
 
@@ -28,8 +33,32 @@ impl Pairs {
             settings.detail(&format!("jobs, {}", law.words()), count);
         }
         settings.detail("steps of these pairs", self.steps);
+        settings.detail("days and months of these pairs", self.records);
+        if laws.contains(&Law::Enlarged) {
+            if self.smaller == 0 {
+                return Err(String::from(
+                    "run: no smaller sum of a day with more objects",
+                ));
+            }
+            settings.detail("smaller with more objects", self.smaller);
+        }
         settings.detail("laws not tried: an extent might be NaN", self.skipped);
         Ok(())
+    }
+
+    fn note_totals(
+        &mut self,
+        law: Law,
+        job: &Job,
+        left: &Left<RunAnswer>,
+        other: &Left<RunAnswer>,
+    ) {
+        let (kept, other) = (totals_of(&left.totals), totals_of(&other.totals));
+        let records = days_of(job.site.leap_year) + MONTHS;
+        for (kept, other) in kept.iter().zip(&other).take(records) {
+            self.records += (kept.count > 0) as u64;
+            self.smaller += (law == Law::Enlarged && other.sum < kept.sum) as u64;
+        }
     }
 }
 
@@ -81,6 +110,52 @@ fn sums_hold(law: Law, sum: f64, other: f64, unshaded: f64) -> bool {
     }
 }
 
+/// The sums from 0 of the unshaded direct values, each times the step, of each day and month.
+fn unshaded_totals(job: &Job, rows: &Rows) -> Vec<f64> {
+    let leap_year = job.site.leap_year;
+    let days = days_of(leap_year);
+    let mut sums = vec![0.0; days + MONTHS];
+    let steps = steps_of(&job.site, &job.times);
+    for (step, row) in steps.iter().zip(&rows.0) {
+        let day = step.day as usize;
+        for place in [day, days + month_of(leap_year, day)] {
+            sums[place] += row[2] * job.times[2];
+        }
+    }
+    sums
+}
+
+/// Whether the law holds of two jobs' totals of one day or month.
+fn totals_hold(law: Law, kept: &Totals, other: &Totals, unshaded: f64) -> bool {
+    let same_steps = kept.count == other.count && same(kept.largest, other.largest);
+    let (sum, other) = (kept.sum, other.sum);
+    same_steps
+        && match law {
+            Law::Emptied => sum <= other && same(other, unshaded),
+            _ => sums_hold(law, sum, other, unshaded),
+        }
+}
+
+/// What breaks the law in the totals of two runs, in words.
+fn totals_broken(
+    law: Law,
+    job: &Job,
+    left: &Left<RunAnswer>,
+    other: &Left<RunAnswer>,
+) -> Option<String> {
+    let unshaded = unshaded_totals(job, &Rows::of(left));
+    let (kept, other_kept) = (totals_of(&left.totals), totals_of(&other.totals));
+    for (place, &unshaded) in unshaded.iter().enumerate() {
+        let (kept, other) = (&kept[place], &other_kept[place]);
+        if !totals_hold(law, kept, other, unshaded) {
+            return Some(format!("totals {place}, {kept:?} and {other:?}"));
+        }
+    }
+    let same_objects = !matches!(law, Law::Enlarged | Law::Emptied);
+    let other_bytes = same_objects && left.totals != other.totals;
+    other_bytes.then(|| String::from("bytes of the totals"))
+}
+
 /// Sun and surface in a row.
 fn numbers(job: &Job, row: &[f64; ROW]) -> Numbers {
     let mut numbers = [0.0; 7];
@@ -111,13 +186,9 @@ fn changed(law: Law, random: &mut Random, job: &Job, rows: &Rows) -> Job {
     }
 }
 
-/// What breaks the law in two runs of such steps, in words.
-fn broken(
-    law: Law,
-    step_hours: f64,
-    left: &Left<RunAnswer>,
-    other: &Left<RunAnswer>,
-) -> Option<String> {
+/// What breaks the law in this job and one with other objects, by what they left, in words.
+fn broken(law: Law, job: &Job, left: &Left<RunAnswer>, other: &Left<RunAnswer>) -> Option<String> {
+    let [.., step_hours] = job.times;
     let (rows, other_rows) = (Rows::of(left), Rows::of(other));
     let (sum, other_sum) = (left.answer.sum, other.answer.sum);
     if other.answer.number != 0 || other_rows.0.len() != rows.0.len() {
@@ -129,8 +200,10 @@ fn broken(
             return Some(format!("step {step}, factors {factor} and {other}"));
         }
     }
-    let holds = sums_hold(law, sum, other_sum, rows.unshaded(step_hours));
-    (!holds).then(|| format!("sums {} and {}", shown(sum), shown(other_sum)))
+    if !sums_hold(law, sum, other_sum, rows.unshaded(step_hours)) {
+        return Some(format!("sums {} and {}", shown(sum), shown(other_sum)));
+    }
+    totals_broken(law, job, left, other)
 }
 
 /// Tries the laws on a job that was accepted and left this.
@@ -154,7 +227,7 @@ pub fn try_laws(
             continue;
         }
         let got = lent.run(&other)?;
-        if let Some(words) = broken(law, job.times[2], left, &got) {
+        if let Some(words) = broken(law, job, left, &got) {
             return Err(format!(
                 "run breaks the law of the {}: {words}\n{}\nand\n{}",
                 law.name(),
@@ -164,6 +237,7 @@ pub fn try_laws(
         }
         pairs.tried[law as usize] += 1;
         pairs.steps += rows.0.len() as u64;
+        pairs.note_totals(law, job, left, &got);
     }
     Ok(())
 }

@@ -2,7 +2,7 @@
 
 use crate::guarded::{Guarded, Side};
 use crate::pilgartze::*;
-use crate::published::jobs::{Job, Readings, RunAnswer, Single};
+use crate::published::jobs::{Job, Left, Readings, RunAnswer, Single};
 
 /// One side of the comparison.
 #[derive(Clone, Copy)]
@@ -72,26 +72,22 @@ impl Pages {
     }
 }
 
-/// What a call gives and what it leaves in the table of days, of a run, and in the results.
-pub struct Left<T> {
-    pub answer: T,
-    pub days: Vec<u8>,
-    pub results: Vec<u8>,
-}
-
 /// A side of the comparison, with pages for the lists.
 pub struct Lent {
     library: Library,
-    /// Diffuse, direct, reflectivity, sectors, window, days, results.
-    pages: [Pages; 7],
+    /// Diffuse, direct, reflectivity, sectors, window, days, totals, results.
+    pages: [Pages; LISTS],
     turn: usize,
-    /// The end of its pages at which the table of days stands, where that is not by turns.
-    pub days_side: Option<Side>,
+    /// A list, and the end of its pages at which it stands, where that is not by turns.
+    pub list_side: Option<(usize, Side)>,
 }
 
+const LISTS: usize = 8;
 const ONLY_READ: usize = 5;
-const DAYS_LIST: usize = 5;
-const RESULTS: usize = 6;
+pub const DAYS_LIST: usize = 5;
+pub const TOTALS_LIST: usize = 6;
+const RESULTS: usize = 7;
+const WRITTEN: [usize; 3] = [DAYS_LIST, TOTALS_LIST, RESULTS];
 
 impl Lent {
     /// For lists of at most that many bytes.
@@ -100,15 +96,15 @@ impl Lent {
             library,
             pages: std::array::from_fn(|_| Pages::holding(most)),
             turn: 0,
-            days_side: None,
+            list_side: None,
         }
     }
 
-    /// Whether a list stands at the back of its pages; all 128 patterns come in 128 turns, as 41 is
+    /// Whether a list stands at the back of its pages; all 256 patterns come in 256 turns, as 41 is
     /// odd.
     fn at_back(&self, list: usize) -> bool {
-        match self.days_side {
-            Some(side) if list == DAYS_LIST => side == Side::Back,
+        match self.list_side {
+            Some((other, side)) if list == other => side == Side::Back,
             _ => self.turn * 41 >> list & 1 == 1,
         }
     }
@@ -118,17 +114,17 @@ impl Lent {
     fn with<T>(
         &mut self,
         call: &'static str,
-        lists: [&[u8]; 7],
-        function: impl FnOnce(&Library, [&[u8]; ONLY_READ], [&mut [u8]; 2]) -> T,
+        lists: [&[u8]; LISTS],
+        function: impl FnOnce(&Library, [&[u8]; ONLY_READ], [&mut [u8]; 3]) -> T,
     ) -> Result<Left<T>, String> {
         self.turn += 1;
-        let starts: [*mut u8; 7] = std::array::from_fn(|k| {
+        let starts: [*mut u8; LISTS] = std::array::from_fn(|k| {
             let back = self.at_back(k);
             self.pages[k].put(call, back, lists[k], lists[DAYS_LIST].len())
         });
         let read = |k: usize| unsafe { std::slice::from_raw_parts(starts[k], lists[k].len()) };
-        let written = [DAYS_LIST, RESULTS]
-            .map(|k| unsafe { std::slice::from_raw_parts_mut(starts[k], lists[k].len()) });
+        let written =
+            WRITTEN.map(|k| unsafe { std::slice::from_raw_parts_mut(starts[k], lists[k].len()) });
         let answer = function(&self.library, std::array::from_fn(read), written);
         // whatever the call was promised not to do, its pages are read anew
         let pages = std::hint::black_box(&mut self.pages);
@@ -142,10 +138,11 @@ impl Lent {
         if !pages.iter_mut().all(Pages::beside_is_left) {
             return Err(format!("{call} writes beside a list"));
         }
-        let [days, results] = [DAYS_LIST, RESULTS].map(|k| pages[k].list().to_vec());
+        let [days, totals, results] = WRITTEN.map(|k| pages[k].list().to_vec());
         Ok(Left {
             answer,
             days,
+            totals,
             results,
         })
     }
@@ -155,16 +152,17 @@ impl Lent {
         let times = RunTimes { start, end, step };
         let surface = surface_of(job.surface);
         let [diffuse, direct, reflectivity] = &job.series;
-        let lists: [&[u8]; 7] = [
+        let lists: [&[u8]; LISTS] = [
             diffuse,
             direct,
             reflectivity,
             &job.sectors,
             &job.window,
             &job.days,
+            &job.totals,
             &job.results,
         ];
-        self.with("run", lists, |library, lent, [days, results]| {
+        self.with("run", lists, |library, lent, [days, totals, results]| {
             let [diffuse, direct, reflectivity, sectors, window] = lent;
             let weather = Weather {
                 diffuse,
@@ -175,7 +173,7 @@ impl Lent {
             let (call, site) = (library.run, &job.site);
             unsafe {
                 run_by(
-                    call, site, &times, &surface, weather, shading, days, results,
+                    call, site, &times, &surface, weather, shading, days, totals, results,
                 )
             }
         })
@@ -186,8 +184,8 @@ impl Lent {
         let surface = surface_of(single.surface);
         let reading = reading_of(single.readings);
         let (sectors, window, results) = (&single.sectors, &single.window, &single.results);
-        let lists: [&[u8]; 7] = [&[], &[], &[], sectors, window, &[], results];
-        self.with("step", lists, |library, lent, [_, results]| {
+        let lists: [&[u8]; LISTS] = [&[], &[], &[], sectors, window, &[], &[], results];
+        self.with("step", lists, |library, lent, [.., results]| {
             let [.., sectors, window] = lent;
             let shading = Shading { sectors, window };
             let call = library.step;
@@ -199,8 +197,9 @@ impl Lent {
         let Single { site, time, .. } = single;
         let surface = surface_of(single.surface);
         let reading = reading_of(single.readings);
-        let lists: [&[u8]; 7] = [&[], &[], &[], &[], &[], &[], &single.results];
-        self.with("irradiance", lists, |library, _, [_, results]| {
+        let mut lists: [&[u8]; LISTS] = [&[]; LISTS];
+        lists[RESULTS] = &single.results;
+        self.with("irradiance", lists, |library, _, [.., results]| {
             let call = library.irradiance;
             unsafe { irradiance_by(call, site, *time, &surface, &reading, results) }
         })

@@ -1,6 +1,6 @@
 //! Whole jobs and single steps through the library: the specification's checks and the published
-//! Rust against Rattle, every number, step, count, sum and byte of the results and of the table of
-//! days.
+//! Rust against Rattle, every number, step, count, sum and byte of the results, of the table of days
+//! and of the totals.
 
 pub mod cases;
 pub mod edges;
@@ -8,11 +8,13 @@ pub mod laws;
 pub mod lent;
 pub mod self_test;
 pub mod tables;
+pub mod totals;
 pub mod wrong;
+mod wrong_totals;
 
 use crate::comparison::{same, shown, Outcome, Settings, Tally, With};
 use crate::guarded::Side;
-use crate::pilgartze::DAY;
+use crate::pilgartze::{DAY, TOTALS};
 use crate::published::beyond::{Aimed, Sums};
 use crate::published::jobs::*;
 use crate::published::walk::End;
@@ -23,8 +25,9 @@ use crate::shading::walks::Walks;
 use crate::stand_ins::Beyond;
 use cases::{Aims, Maker, MOST_BYTES};
 use laws::{keeps_its_figure, try_laws, Pairs};
-use lent::{Left, Lent, Library};
+use lent::{Lent, Library, DAYS_LIST, TOTALS_LIST};
 use tables::Tables;
+use totals::TotalsMet;
 
 /// Jobs that are the same whatever the seed.
 #[derive(Default)]
@@ -36,6 +39,10 @@ pub struct Fixed {
     pub tables: Vec<Job>,
     /// Jobs about the first and the last days of the year.
     pub turns: Vec<Job>,
+    /// Jobs with totals of every length and contents, lent at either end of their pages.
+    pub totals: Vec<Job>,
+    /// Jobs about the days and months of the totals.
+    pub calendar: Vec<Job>,
 }
 
 impl Fixed {
@@ -43,7 +50,17 @@ impl Fixed {
         Fixed {
             edges: edges::all(),
             walks: edges::walks(),
-            ..Fixed::days()
+            ..Fixed::lists()
+        }
+    }
+
+    /// Those about the lists that a run fills besides the results.
+    fn lists() -> Self {
+        let Fixed { tables, turns, .. } = Fixed::days();
+        Fixed {
+            tables,
+            turns,
+            ..Fixed::totals()
         }
     }
 
@@ -66,8 +83,22 @@ impl Fixed {
         }
     }
 
+    /// Those about the totals.
+    pub fn totals() -> Self {
+        let mut totals = totals::lengths();
+        totals.extend(totals::formers());
+        Fixed {
+            totals,
+            calendar: totals::calendar(),
+            ..Fixed::default()
+        }
+    }
+
     fn runs(&self) -> usize {
-        self.edges.len() + self.walks.len() + 2 * self.tables.len() + self.turns.len()
+        let once = [&self.edges, &self.walks, &self.turns, &self.calendar];
+        let twice = [&self.tables, &self.totals];
+        let runs = |jobs: &[&Vec<Job>]| jobs.iter().map(|jobs| jobs.len()).sum::<usize>();
+        runs(&once) + 2 * runs(&twice)
     }
 }
 
@@ -128,8 +159,9 @@ pub fn shown_job(job: &Job) -> String {
     let names = ["diffuse", "direct", "reflectivity"];
     let series = names.iter().zip(&job.series);
     lines.extend(series.map(|(name, series)| shown_series(name, series, job)));
-    let (days, results) = (job.days.len(), job.results.len());
+    let (days, totals, results) = (job.days.len(), job.totals.len(), job.results.len());
     lines.push(format!("  table of days, {days} bytes"));
+    lines.push(format!("  totals, {totals} bytes"));
     lines.push(format!("  results, {results} bytes"));
     lines.push(shown_objects(&job.surface, &job.sectors, &job.window));
     lines.join("\n")
@@ -171,6 +203,7 @@ fn shown_single(single: &Single) -> String {
         sectors: single.sectors.clone(),
         window: single.window.clone(),
         days: vec![],
+        totals: vec![],
         results: single.results.clone(),
     };
     let [d, b, r] = single.readings.map(shown);
@@ -216,24 +249,14 @@ fn numbers_same(a: &RunAnswer, b: &RunAnswer) -> bool {
     (a.number, a.step, a.count) == (b.number, b.step, b.count)
 }
 
-/// What the judge says of a job, and what it leaves in the table of days and in the results.
-fn judged(judge: &mut Judge, job: &Job) -> Left<RunAnswer> {
-    let (mut days, mut results) = (job.days.clone(), job.results.clone());
-    let answer = judge.run(job, &mut days, &mut results);
-    Left {
-        answer,
-        days,
-        results,
-    }
-}
-
-/// What differs, if anything: the run, or else its sum or its table of days alone.
+/// What differs, if anything: the run, or else its sum, its table of days or its totals alone.
 fn other_part(right: &Left<RunAnswer>, got: &Left<RunAnswer>) -> Option<&'static str> {
     match () {
         _ if !numbers_same(&right.answer, &got.answer) => Some("run"),
         _ if right.results != got.results => Some("run"),
         _ if !same(right.answer.sum, got.answer.sum) => Some("run's sum"),
         _ if right.days != got.days => Some("run's table of days"),
+        _ if right.totals != got.totals => Some("run's totals"),
         _ => None,
     }
 }
@@ -241,7 +264,7 @@ fn other_part(right: &Left<RunAnswer>, got: &Left<RunAnswer>) -> Option<&'static
 /// A difference, with the smallest job by which it was found.
 fn difference(job: &Job, judge: &mut Judge, lent: &mut Lent) -> String {
     let mut differ = |job: &Job| {
-        let right = judged(judge, job);
+        let right = judge.run_on_copies(job);
         let got = lent.run(job).ok()?;
         other_part(&right, &got).map(|_| (right, got))
     };
@@ -254,12 +277,13 @@ fn difference(job: &Job, judge: &mut Judge, lent: &mut Lent) -> String {
     }
     match differ(&smallest) {
         Some((right, got)) => format!(
-            "{}\n  Rust   {}\n  Rattle {}\n  {}\n  {}",
+            "{}\n  Rust   {}\n  Rattle {}\n  {}\n  {}\n  {}",
             shown_job(&smallest),
             shown_answer(&right.answer),
             shown_answer(&got.answer),
             first_other_byte("results", ROW, &right.results, &got.results),
             first_other_byte("table of days", DAY, &right.days, &got.days),
+            first_other_byte("totals", TOTALS, &right.totals, &got.totals),
         ),
         None => format!("{}\n  differs once and not again", shown_job(job)),
     }
@@ -473,6 +497,7 @@ struct Met {
     run_walks: Walks,
     step_walks: Walks,
     tables: Tables,
+    totals: TotalsMet,
 }
 
 impl Met {
@@ -548,6 +573,7 @@ impl Met {
         }
         self.sums.report(settings)?;
         self.tables.report(settings)?;
+        self.totals.report(settings)?;
         self.runs.report(settings, "run")?;
         self.runs.report_walks(settings, "run")?;
         self.steps.report(settings, "step")?;
@@ -578,7 +604,7 @@ impl Comparison<'_> {
     fn job(&mut self, job: &Job, aimed: Option<u32>, also_by_new: bool) -> Outcome {
         let got = self.lent.run(job)?;
         if self.plan.compared {
-            let right = judged(&mut self.judge, job);
+            let right = self.judge.run_on_copies(job);
             if let Some(part) = other_part(&right, &got) {
                 let words = difference(job, &mut self.judge, &mut self.lent);
                 let cases = self.tally.compared;
@@ -594,6 +620,7 @@ impl Comparison<'_> {
                 self.by_new += 1;
             }
             self.met.tables.note(&mut self.judge, job, &right);
+            self.met.totals.note(&mut self.judge, job, &right);
             self.tally.both_nan += right.answer.sum.is_nan() as u64;
         }
         self.tally.compared += 1;
@@ -631,14 +658,22 @@ impl Comparison<'_> {
         for job in &fixed.turns {
             self.job_and_singles(maker, job, true)?;
         }
-        for (job, side) in fixed.tables.iter().flat_map(|job| {
-            let sides = [Side::Back, Side::Front];
-            sides.map(|side| (job, side))
-        }) {
-            self.lent.days_side = Some(side);
+        self.at_both_ends(&fixed.tables, DAYS_LIST)?;
+        for job in &fixed.calendar {
             self.job(job, None, false)?;
         }
-        self.lent.days_side = None;
+        self.at_both_ends(&fixed.totals, TOTALS_LIST)
+    }
+
+    /// Jobs of which that list is lent at the back and at the front of its pages.
+    fn at_both_ends(&mut self, jobs: &[Job], list: usize) -> Outcome {
+        for job in jobs {
+            for side in [Side::Back, Side::Front] {
+                self.lent.list_side = Some((list, side));
+                self.job(job, None, false)?;
+            }
+        }
+        self.lent.list_side = None;
         Ok(())
     }
 

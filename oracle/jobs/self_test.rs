@@ -5,6 +5,7 @@ use super::wrong::{By, Wrong};
 use super::{must_be_numbers, section, wrong, Fixed, Plan};
 use crate::comparison::{Outcome, Settings};
 use crate::published::jobs::{steps_of, JobSite};
+use crate::published::totals::{keep_totals, totals_needed, NAN};
 use crate::shading::laws::LAWS;
 
 /// Random jobs for each engine.
@@ -21,17 +22,18 @@ fn found(settings: &Settings, plan: Plan, wrong: &Wrong) -> Result<(), String> {
     }
 }
 
+const SITE: JobSite = JobSite {
+    latitude: 0.0,
+    longitude: 0.0,
+    timezone: 0,
+    start_day: 0,
+    series_step: 1.0,
+    leap_year: 0,
+    direct_beam_conversion: 0,
+};
+
 /// The specification's counts of steps.
 fn step_counts() -> Outcome {
-    let site = JobSite {
-        latitude: 0.0,
-        longitude: 0.0,
-        timezone: 0,
-        start_day: 0,
-        series_step: 1.0,
-        leap_year: 0,
-        direct_beam_conversion: 0,
-    };
     let counts = [
         ([0.0, 3.0, 1.0], 3),
         ([0.0, 3.0, 0.3], 11),
@@ -39,8 +41,47 @@ fn step_counts() -> Outcome {
         ([5.0, 3.0, 1.0], 1),
     ];
     for (times, count) in counts {
-        if steps_of(&site, &times).len() != count {
+        if steps_of(&SITE, &times).len() != count {
             return Err(format!("self-test: {times:?} must have {count} steps"));
+        }
+    }
+    Ok(())
+}
+
+/// The judge's totals of three rows, from the last hour of 28 February on: by the text a NaN is skipped
+/// and of equals the latest is the largest, so −0.0 after 0.0, which no run is known to have.
+fn known_totals() -> Outcome {
+    let times = [1415.0, 1418.0, 1.0];
+    let rows = [
+        [0.0, 0.0, 4.0, 0.0, 0.0, 0.5],
+        [0.0, 0.0, 8.0, 0.0, -0.0, 1.0],
+        [0.0, 0.0, 6.0, 0.0, f64::NAN, 0.25],
+    ];
+    let (zero, minus_zero) = (0.0f64.to_bits(), (-0.0f64).to_bits());
+    let of = |count: u64, largest: u64, sum: f64| [count, largest, sum.to_bits()];
+    let (first, others) = (of(1, zero, 1.0), of(2, minus_zero, 4.75));
+    let (none, february) = (of(0, NAN, 0.0), of(3, minus_zero, 5.75));
+    let years = [
+        (0, [(58, first), (59, others), (366, first), (367, others)]),
+        (1, [(58, first), (59, others), (367, february), (368, none)]),
+    ];
+    for (leap_year, known) in years {
+        let site = JobSite { leap_year, ..SITE };
+        let rows: Vec<_> = steps_of(&site, &times).into_iter().zip(rows).collect();
+        let mut totals = vec![0xA5; totals_needed(leap_year) + 1];
+        keep_totals(&site, 0.5, &rows, &mut totals);
+        let mut right = vec![none; totals_needed(leap_year) / 24];
+        for (place, record) in known {
+            right[place] = record;
+        }
+        let mut right: Vec<u8> = right
+            .concat()
+            .iter()
+            .flat_map(|w| w.to_le_bytes())
+            .collect();
+        right.push(0xA5);
+        if totals != right {
+            return Err(format!("self-test: other totals, leap year {leap_year}"));
         }
     }
     Ok(())
@@ -98,13 +139,16 @@ fn random_alone<'a>(plan: Plan<'a>, nothing: &'a Fixed) -> Plan<'a> {
 
 /// How many wrong engines there are, all of which are found.
 fn engines_found(settings: &Settings, plan: Plan) -> Result<usize, String> {
-    let (days, sums, nothing) = (Fixed::days(), Fixed::sums(), Fixed::default());
+    let (days, sums, totals) = (Fixed::days(), Fixed::sums(), Fixed::totals());
+    let nothing = Fixed::default();
     let mut count = 0;
     for engine in &wrong::engines() {
         let plans = match engine.by {
             By::All => vec![plan],
             By::Days => vec![alone(plan, &days)],
             By::Sums => vec![alone(plan, &sums), random_alone(plan, &nothing)],
+            By::Totals => vec![alone(plan, &totals)],
+            By::TotalsAndRandom => vec![alone(plan, &totals), random_alone(plan, &nothing)],
         };
         for plan in plans {
             found(settings, plan, engine)?;
@@ -157,6 +201,7 @@ pub fn run(seed: u64) -> Outcome {
         by_the_hour: false,
     };
     step_counts()?;
+    known_totals()?;
     nan_is_told()?;
     plain_engine(&settings, plan)?;
     let count = engines_found(&settings, plan)? + lawless_found(&settings, plan)?;

@@ -3,7 +3,6 @@
 
 use super::cases::Maker;
 use super::edges::{fault, one_step, plain_jobs, sectors_of};
-use super::lent::Left;
 use super::WORDS;
 use crate::comparison::{Outcome, Settings};
 use crate::pilgartze::DAY;
@@ -75,7 +74,7 @@ const SHORT: [usize; 7] = [0, 1, 7, 8, 23, 24, DAYS_LENGTH - 8 * DAY];
 
 /// A job that is accepted, one with no steps, and one for each refusal; those of 8 to 11 also at the
 /// first step.
-fn each_number(maker: &mut Maker, plain: &Job, variant: usize) -> Vec<Job> {
+pub fn each_number(maker: &mut Maker, plain: &Job, variant: usize) -> Vec<Job> {
     let mut no_steps = plain.clone();
     no_steps.times = [5.0, 5.0, 1.0];
     maker.fit(&mut no_steps);
@@ -188,8 +187,8 @@ impl Tables {
             ..
         } = right.answer;
         if job.days.len() < DAYS_LENGTH {
-            let (mut days, mut results) = ([0; DAYS_LENGTH], job.results.clone());
-            let without = judge.run(job, &mut days, &mut results);
+            let (mut totals, mut results) = (job.totals.clone(), job.results.clone());
+            let without = judge.run(job, &mut [0; DAYS_LENGTH], &mut totals, &mut results);
             self.short[without.number as usize] += 1;
             return;
         }

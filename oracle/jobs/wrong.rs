@@ -1,10 +1,10 @@
 //! Engines that are wrong in one small way each. The self-test has to find them all.
 //!
 //! They are one plain form of the run and of the single steps, by which a flaw is built in where it
-//! is asked for; a step's row is the judge's own.
+//! is asked for; a step's row is the judge's own. `wrong_totals.rs` has what it does about the totals.
 
 use super::lent::Library;
-use crate::pilgartze::{DAY, DAYS};
+use crate::pilgartze::{days_in_year, totals_length, totals_of, DAY, DAYS};
 use crate::published::days::{day_in, day_table, DayValues};
 use crate::published::jobs::*;
 use crate::published::shading::{MOST_SECTORS, MOST_WINDOW_OBJECTS, SECTOR_WORDS, WINDOW_WORDS};
@@ -23,6 +23,10 @@ pub enum By {
     Days,
     /// Those about the sum alone, and the random ones alone too.
     Sums,
+    /// Those about the totals alone.
+    Totals,
+    /// The same, and the random ones alone too.
+    TotalsAndRandom,
 }
 
 pub struct Wrong {
@@ -145,6 +149,8 @@ flaws! {
         SumLastStepCutAtTheEnd,
         SumStartAboveEndNothing,
         SumStepAnHourAtMost;
+    TotalsAndRandom "run's sum":
+        SumOfTheMonthsSums;
     Days "run":
         // a table that is too short
         ShortTableTaken,
@@ -184,6 +190,98 @@ flaws! {
         TableColumnsSwapped,
         LastRecordAnUlpOff,
         BytePastTheTableTouched;
+    TotalsAndRandom "run":
+        // totals that are too short
+        ShortTotalsTaken,
+        ShortTotalsFirst,
+        ShortTotalsAfterTheSteps,
+        PartRecordInTotals,
+        LeapYearInACommonYearsTotals,
+        CommonYearNeedsALeapYearsTotals,
+        ExactTotalsRefused,
+        WritesBesideTheTotals;
+    Totals "run":
+        ShortTotalsTakenWithNoSteps,
+        ShortTotalsBeforeReading,
+        PartWordInTotals;
+    TotalsAndRandom "run's totals":
+        // when they are emptied, and of what they are
+        TotalsNotEmptied,
+        TotalsEmptiedWhereThereAreSteps,
+        TotalsEmptiedBeforeTheChecks,
+        TotalsEmptiedBeforeTheResultsCheck,
+        ShortTotalsEmptiedInPart,
+        TotalsEmptiedOnRefusalAtAStep,
+        TotalsLeftOnRefusalAtAStep,
+        TotalsLeftOnRefusalAtStep0,
+        TotalsLeftWithNoSteps,
+        LastRowBeforeARefusalNotKept,
+        RefusedStepKept,
+        LastDayNotStored,
+        LastDayOfARefusedRunNotStored,
+        LastMonthNotStored,
+        EmptyLargestZero,
+        EmptyLargestNegativeNan,
+        EmptyLargestSignallingNan,
+        EmptyLargestNanWithPayload,
+        EmptySumNan,
+        EmptySumMinusZero,
+        // days and months
+        DayOfTheStepsEnd,
+        DayOfTheStepsMiddle,
+        DayOfTheRoundedTime,
+        DaysFromTheSecondOn,
+        DaysFromTheStartDay,
+        LeapDecember31InTheDayBefore,
+        LeapDayNotPassedOver,
+        LeapDayPassedOverADayEarly,
+        LeapDayPassedOverADayLate,
+        LeapDayPassedOverInALeapYear,
+        JanuaryOf30Days,
+        AprilOf31Days,
+        JulyOf30Days,
+        AugustOf30Days,
+        SeptemberOf31Days,
+        NovemberOf31Days,
+        // where they stand
+        MonthsBeforeDays,
+        MonthsAtALeapYearsPlace,
+        LeapYearsRecordsAlways,
+        MonthsNotStored,
+        BytePastTheTotalsTouched,
+        LargestAndSumSwapped,
+        CountAsADouble,
+        // which of two equal totals is taken, and what is made of NaN, shows in the proofs alone: no
+        // run is known to have a total of −0.0 or NaN
+        HoursCounted,
+        MonthsCountTheirDays,
+        LargestOfAllSoFar,
+        LargestIsTheFirst,
+        LargestIsTheLast,
+        LargestIsTheLeast,
+        LargestOfDirect,
+        LargestOfDiffuse,
+        LargestOfTheShaded,
+        LargestTimesStep,
+        // the sums
+        MonthSumsOfDaySums,
+        SumOfAllSoFar,
+        TotalsBackwards,
+        TotalsBegunWithFirstProduct,
+        TotalsSubnormalsDropped,
+        TotalsOfDirect,
+        TotalsOfTotal,
+        TotalsWithoutStep,
+        TotalsTimesStepAtTheEnd,
+        TotalsStepTimesDirectFirst,
+        TotalsStepTimesFactorFirst,
+        TotalsFused,
+        TotalsBySeriesStep,
+        TotalsLastStepCutAtTheEnd,
+        TotalsStepCutAtMidnight;
+    Totals "run's totals":
+        TotalsTimeByProduct,
+        CountOfOneByte;
     All "step":
         StepStoresOnRefusal,
         StepAtTheYearsEnd,
@@ -211,15 +309,15 @@ flaws! {
         IrradianceSquareFromBehindNan;
 }
 
-struct Plain {
+pub struct Plain {
     flaw: u8,
 }
 
 /// What a run is after its checks: its steps, and the readings of each.
-type Checked = Vec<(Step, Readings)>;
+pub type Checked = Vec<(Step, Readings)>;
 
 impl Plain {
-    fn is(&self, flaw: Flaw) -> bool {
+    pub fn is(&self, flaw: Flaw) -> bool {
         flaw as u8 == self.flaw
     }
 
@@ -273,6 +371,7 @@ impl Plain {
                 true => time.round() as u32,
                 false => time.floor() as u32,
             },
+            day: (time / 24.0) as u32,
             index: self.index(&job.site, k, time),
         });
         each.collect()
@@ -434,17 +533,23 @@ impl Plain {
         words < ROW * rows && !self.is(ResultsNeverTooShort)
     }
 
-    fn checked(&self, job: &Job, days: usize, results: usize) -> Result<Checked, u64> {
+    fn checked(&self, job: &Job, [days, totals, results]: [usize; 3]) -> Result<Checked, u64> {
         if self.is(ShortTableFirst) && days < DAYS_LENGTH {
+            return Err(7);
+        }
+        if self.is(ShortTotalsFirst) && self.totals_too_short(&job.site, totals, 0) {
             return Err(7);
         }
         let steps = self.fields_checked(job)?;
         let series = [0, 1, 2].map(|list: usize| self.series(&job.series[list]));
         let table_short = self.table_too_short(&job.site, days, steps.len());
-        let too_short = self.results_too_short(results, steps.len()) || table_short;
+        let totals_short = self.totals_too_short(&job.site, totals, steps.len());
+        let results_short = self.results_too_short(results, steps.len());
+        let too_short = results_short || table_short || totals_short;
         match self.series_checked(&series, &steps) {
             Some(6) if self.is(ResultsBeforeReading) && too_short => return Err(7),
             Some(6) if self.is(ShortTableBeforeReading) && table_short => return Err(7),
+            Some(6) if self.is(ShortTotalsBeforeReading) && totals_short => return Err(7),
             Some(number) => return Err(number),
             None if too_short => return Err(7),
             None => {}
@@ -744,8 +849,14 @@ impl Plain {
         }
     }
 
-    /// Stores the rows up to the first that is refused.
-    fn rows(&self, judge: &mut Judge, job: &Job, steps: &Checked, results: &mut [u8]) -> RunAnswer {
+    /// Stores the rows up to the first that is refused, and gives them back.
+    fn rows(
+        &self,
+        judge: &mut Judge,
+        job: &Job,
+        steps: &Checked,
+        results: &mut [u8],
+    ) -> (RunAnswer, Vec<[f64; ROW]>) {
         let mut rows = vec![];
         for (k, &(step, readings)) in steps.iter().enumerate() {
             match self.row(judge, job, step, readings) {
@@ -756,32 +867,43 @@ impl Plain {
                         let row = judge.hour(&job.site, &job.surface, step.hour, readings);
                         self.store(results, ROW * k, &row[..5]);
                     }
-                    return self.refused(number, k, self.sum(job, steps, &rows));
+                    let answer = self.refused(number, k, self.sum(job, steps, &rows));
+                    return (answer, rows);
                 }
             }
             self.store(results, ROW * k, &rows[k]);
         }
-        self.accepted(job, steps, &rows)
+        (self.accepted(job, steps, &rows), rows)
     }
 
-    fn run(&self, judge: &mut Judge, job: &Job, days: &mut [u8], results: &mut [u8]) -> RunAnswer {
+    fn run(
+        &self,
+        judge: &mut Judge,
+        job: &Job,
+        [days, totals, results]: [&mut [u8]; 3],
+    ) -> RunAnswer {
         if self.is(RefusesAll) {
             return refused(1, 0);
         }
-        let steps = match self.checked(job, days.len(), results.len()) {
+        let steps = match self.checked(job, [days.len(), totals.len(), results.len()]) {
             Ok(steps) => steps,
             Err(number) => {
                 self.table_of_refused(number, job, days);
+                self.totals_of_refused(number, job, totals);
                 return self.refused(number, 0, 0.0);
             }
         };
-        let answer = self.steps_run(judge, job, &steps, results);
-        if self.is(ShortTableAfterTheSteps) && days.len() < DAYS_LENGTH {
+        let (answer, rows) = self.steps_run(judge, job, &steps, results);
+        let totals_short = totals.len() < totals_length(job.site.leap_year);
+        if self.is(ShortTableAfterTheSteps) && days.len() < DAYS_LENGTH
+            || self.is(ShortTotalsAfterTheSteps) && totals_short
+        {
             return self.refused(7, 0, 0.0);
         }
         if !self.table_left(job, &answer, &steps) {
             self.fill(job, &steps, days);
         }
+        self.keep_totals(judge, job, (&answer, &steps), &rows, totals);
         answer
     }
 
@@ -792,7 +914,7 @@ impl Plain {
         job: &Job,
         steps: &Checked,
         results: &mut [u8],
-    ) -> RunAnswer {
+    ) -> (RunAnswer, Vec<[f64; ROW]>) {
         judge.lend(self.lists(job).unwrap());
         let walked = self.walked(&job.sectors, [FirstSectorNotWalked, LastSectorNotWalked]);
         if walked.len() < job.sectors.len() {
@@ -802,15 +924,18 @@ impl Plain {
         if self.is(RowsClearedFirst) {
             results[..8 * ROW * steps.len()].fill(0);
         }
-        let answer = self.rows(judge, job, steps, results);
+        let (mut answer, rows) = self.rows(judge, job, steps, results);
         let refused = answer.number != 0;
+        if self.is(SumOfTheMonthsSums) && !refused {
+            answer.sum = self.sum_of_months(job, steps, &rows);
+        }
         if self.is(StoresNothing) || self.is(EarlierRowsTakenBack) && refused {
             results.copy_from_slice(&before);
         }
         if self.is(BytesPastTheLastTouched) && !refused {
             results[8 * ROW * steps.len()..].fill(0);
         }
-        answer
+        (answer, rows)
     }
 
     // --- Single steps ---
@@ -941,6 +1066,8 @@ macro_rules! extern_calls {
             window_len: usize,
             days: *mut u8,
             days_len: usize,
+            totals: *mut u8,
+            totals_len: usize,
             results: *mut u8,
             results_len: usize,
         ) -> RunAnswer {
@@ -964,6 +1091,7 @@ macro_rules! extern_calls {
                 sectors: list(sectors, sectors_len),
                 window: list(window, window_len),
                 days: list(days, days_len),
+                totals: list(totals, totals_len),
                 results: vec![],
             };
             if $flaw == SeriesWrittenTo as u8 && direct_len > 100 {
@@ -975,9 +1103,16 @@ macro_rules! extern_calls {
             if $flaw == WritesBesideTheTable as u8 {
                 write_beside(days, days_len);
             }
-            let days = std::slice::from_raw_parts_mut(days, days_len);
-            let results = std::slice::from_raw_parts_mut(results, results_len);
-            JUDGE.with_borrow_mut(|judge| $answers.0(judge, &job, days, results))
+            if $flaw == WritesBesideTheTotals as u8 {
+                write_beside(totals, totals_len);
+            }
+            let written = [
+                (days, days_len),
+                (totals, totals_len),
+                (results, results_len),
+            ];
+            let written = written.map(|(start, len)| std::slice::from_raw_parts_mut(start, len));
+            JUDGE.with_borrow_mut(|judge| $answers.0(judge, &job, written))
         }
 
         unsafe extern "C" fn $step<const $flaw: u8>(
@@ -1068,16 +1203,16 @@ macro_rules! extern_calls {
     };
 }
 
-/// What answers a run, a step and an irradiance.
+/// What answers a run, which is lent a table of days, totals and results, a step and an irradiance.
 struct Answers(
-    fn(&mut Judge, &Job, &mut [u8], &mut [u8]) -> RunAnswer,
+    fn(&mut Judge, &Job, [&mut [u8]; 3]) -> RunAnswer,
     fn(&mut Judge, &Single, &mut [u8]) -> u64,
     fn(&mut Judge, &Single, &mut [u8]) -> u64,
 );
 
 fn plain<const FLAW: u8>() -> Answers {
     Answers(
-        |judge, job, days, results| Plain { flaw: FLAW }.run(judge, job, days, results),
+        |judge, job, written| Plain { flaw: FLAW }.run(judge, job, written),
         |judge, single, results| Plain { flaw: FLAW }.step(judge, single, results),
         |judge, single, results| Plain { flaw: FLAW }.irradiance(judge, single, results),
     )
@@ -1129,6 +1264,14 @@ enum Lawless {
     SumByTheFirstObject,
     SumWithoutTheStep,
     HoursAnUlpLonger,
+    CountsByTheObjects,
+    LargestByTheObjects,
+    DaySumsByTheObjects,
+    MonthSumsByTheObjects,
+    DaySumsByTheFirstObject,
+    DaySumsBelowZero,
+    MonthSumsDoubled,
+    ByteBehindByTheObjects,
 }
 
 impl Lawless {
@@ -1183,17 +1326,45 @@ fn lawless_hours(way: u8, step: f64) -> f64 {
     }
 }
 
+/// What becomes of a year's totals.
+fn lawless_totals(way: u8, job: &Job, objects: usize, totals: &mut [u8]) {
+    let days = days_in_year(job.site.leap_year);
+    let first_kind = job.window.first().map_or(0.0, |&kind| kind as f64);
+    let records = totals_of(&totals[..totals_length(job.site.leap_year)]);
+    for (place, mut kept) in records.into_iter().enumerate() {
+        let (some, of_a_day) = (kept.count > 0, place < days);
+        match () {
+            _ if !some => {}
+            _ if Lawless::CountsByTheObjects.is(way) => kept.count += objects as u64,
+            _ if Lawless::LargestByTheObjects.is(way) => kept.largest += objects as f64,
+            _ if Lawless::DaySumsByTheObjects.is(way) && of_a_day => kept.sum += objects as f64,
+            _ if Lawless::MonthSumsByTheObjects.is(way) && !of_a_day => kept.sum += objects as f64,
+            _ if Lawless::DaySumsByTheFirstObject.is(way) && of_a_day => kept.sum += first_kind,
+            _ if Lawless::DaySumsBelowZero.is(way) && of_a_day => kept.sum = -1.0 - kept.sum,
+            _ if Lawless::MonthSumsDoubled.is(way) && !of_a_day => kept.sum *= 2.0,
+            _ => {}
+        }
+        let words = [kept.count, kept.largest.to_bits(), kept.sum.to_bits()];
+        let bytes = words.map(u64::to_le_bytes).concat();
+        totals[bytes.len() * place..][..bytes.len()].copy_from_slice(&bytes);
+    }
+    let byte = totals.get_mut(totals_length(job.site.leap_year));
+    if let (Some(byte), true) = (byte, Lawless::ByteBehindByTheObjects.is(way)) {
+        *byte ^= objects as u8;
+    }
+}
+
 fn lawless_run<const WAY: u8>(
     judge: &mut Judge,
     job: &Job,
-    days: &mut [u8],
-    results: &mut [u8],
+    [days, totals, results]: [&mut [u8]; 3],
 ) -> RunAnswer {
     let (job, objects) = objects_left_out(WAY, job);
-    let mut answer = judge.run(&job, days, results);
+    let mut answer = judge.run(&job, days, totals, results);
     if answer.number != 0 {
         return answer;
     }
+    lawless_totals(WAY, &job, objects, totals);
     let hours = lawless_hours(WAY, job.times[2]);
     let mut sum = 0.0;
     for row in results
@@ -1241,13 +1412,20 @@ macro_rules! ways {
 pub fn lawless_engines(law: Law) -> Vec<Wrong> {
     let told = || format!("run breaks the law of the {}:", law.name());
     match law {
-        Law::Range => ways!(told(); AboveTheWhole, SumWithoutTheStep),
-        Law::Reordered => {
-            ways!(told(); FirstObjectLeftOut, LastObjectAlone, SumByTheFirstObject)
+        Law::Range => {
+            ways!(told(); AboveTheWhole, SumWithoutTheStep, DaySumsBelowZero, MonthSumsDoubled)
         }
-        Law::Repeated => ways!(told(); ObjectsCounted, SumByTheObjects),
-        Law::Enlarged => ways!(told(); LastObjectAlone, SumByTheObjects),
-        Law::Emptied => ways!(told(); NeverWhole, SumWithoutTheStep),
+        Law::Reordered => ways!(told();
+            FirstObjectLeftOut, LastObjectAlone, SumByTheFirstObject, DaySumsByTheFirstObject),
+        Law::Repeated => ways!(told();
+            ObjectsCounted, SumByTheObjects, CountsByTheObjects, LargestByTheObjects,
+            DaySumsByTheObjects, MonthSumsByTheObjects, ByteBehindByTheObjects),
+        Law::Enlarged => ways!(told();
+            LastObjectAlone, SumByTheObjects, CountsByTheObjects, LargestByTheObjects,
+            DaySumsByTheObjects, MonthSumsByTheObjects),
+        Law::Emptied => ways!(told();
+            NeverWhole, SumWithoutTheStep, CountsByTheObjects, LargestByTheObjects,
+            MonthSumsDoubled),
     }
 }
 

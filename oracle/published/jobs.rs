@@ -7,6 +7,7 @@
 use super::conditions::{sun_at, OneHour, Site, FIRST_STEP};
 use super::days::{fill_days, DayValues};
 use super::shading::{sectors_of, window_of, within};
+use super::totals::{keep_totals, totals_needed};
 use super::walk::{walked, Walked};
 use super::wrong::Otherwise;
 use super::*;
@@ -26,7 +27,7 @@ pub type Surface = [f64; 5];
 /// Diffuse, direct, reflectivity.
 pub type Readings = [f64; 3];
 
-/// What a run is given; the table of days and the results list as they are lent.
+/// What a run is given; the table of days, the totals and the results list as they are lent.
 #[derive(Clone, PartialEq)]
 pub struct Job {
     pub site: JobSite,
@@ -36,6 +37,7 @@ pub struct Job {
     pub sectors: Vec<u8>,
     pub window: Vec<u8>,
     pub days: Vec<u8>,
+    pub totals: Vec<u8>,
     pub results: Vec<u8>,
 }
 
@@ -48,6 +50,15 @@ pub struct Single {
     pub readings: Readings,
     pub sectors: Vec<u8>,
     pub window: Vec<u8>,
+    pub results: Vec<u8>,
+}
+
+/// What a call gives and what it leaves in the table of days and in the totals, of a run, and in the
+/// results.
+pub struct Left<T> {
+    pub answer: T,
+    pub days: Vec<u8>,
+    pub totals: Vec<u8>,
     pub results: Vec<u8>,
 }
 
@@ -115,6 +126,7 @@ fn hours_of(site: &JobSite) -> u32 {
 pub struct Step {
     pub time: f64,
     pub hour: u32,
+    pub day: u32,
     /// The place in the series.
     pub index: usize,
 }
@@ -127,6 +139,7 @@ pub fn steps_of(site: &JobSite, times: &Times) -> Vec<Step> {
         .map(|step| Step {
             time: step.time,
             hour: step.current_hour(),
+            day: step.current_day(),
             index: step.time_series_idx(site.start_day as u32, site.series_step),
         })
         .collect()
@@ -167,8 +180,11 @@ pub fn lists_of(sectors: &[u8], window: &[u8]) -> Option<Lists> {
 }
 
 /// Checks 1 to 7 of a run, in number order: its steps with their readings and its lists, or the
-/// number. Days and results are the lengths that are lent.
-fn checked(job: &Job, days: usize, results: usize) -> Result<(Vec<(Step, Readings)>, Lists), u64> {
+/// number. Days, totals and results are the lengths that are lent.
+fn checked(
+    job: &Job,
+    [days, totals, results]: [usize; 3],
+) -> Result<(Vec<(Step, Readings)>, Lists), u64> {
     if !site_fine(&job.site) {
         return Err(1);
     }
@@ -195,8 +211,10 @@ fn checked(job: &Job, days: usize, results: usize) -> Result<(Vec<(Step, Reading
             return Err(6);
         }
     }
-    // "a list shorter than 8,784 bytes is refusal 7, in a run with no steps too"
-    if days < DAYS_LENGTH || results / 8 < ROW * steps.len() {
+    // "a list shorter than 8,784 bytes is refusal 7, in a run with no steps too", and so is "a totals
+    // list too short for the year"
+    let too_short = days < DAYS_LENGTH || totals < totals_needed(job.site.leap_year);
+    if too_short || results / 8 < ROW * steps.len() {
         return Err(7);
     }
     let steps = steps.into_iter().map(|step| (step, readings(&step)));
@@ -309,7 +327,7 @@ pub fn aim_squarely(
 
 /// "Factor times direct times step in hours, the product taken in that order." Every step counts with
 /// the run's whole step, also one that passes the end.
-fn watt_hours(&[_, _, direct, _, _, factor]: &[f64; ROW], step_hours: f64) -> f64 {
+pub fn watt_hours(&[_, _, direct, _, _, factor]: &[f64; ROW], step_hours: f64) -> f64 {
     (factor * direct) * step_hours
 }
 
@@ -432,31 +450,57 @@ impl Judge {
         Ok([altitude, azimuth, direct, diffuse, total, factor?])
     }
 
-    /// A run, and what it leaves in the table of days and in the results.
-    pub fn run(&mut self, job: &Job, days: &mut [u8], results: &mut [u8]) -> RunAnswer {
+    /// A run, and what it leaves in the table of days, in the totals and in the results.
+    pub fn run(
+        &mut self,
+        job: &Job,
+        days: &mut [u8],
+        totals: &mut [u8],
+        results: &mut [u8],
+    ) -> RunAnswer {
         self.forget();
-        let (steps, lists) = match checked(job, days.len(), results.len()) {
+        let lengths = [days.len(), totals.len(), results.len()];
+        let (steps, lists) = match checked(job, lengths) {
             Ok(all) => all,
             Err(number) => return refused(number, 0),
         };
         fill_days(days);
         self.lend(lists);
         let [.., step_hours] = job.times;
-        let mut sum = 0.0;
+        let mut rows = vec![];
+        let mut answer = RunAnswer {
+            number: 0,
+            step: 0,
+            count: steps.len() as u64,
+            sum: 0.0,
+        };
         for (k, &(step, readings)) in steps.iter().enumerate() {
             match self.row(&job.site, &job.surface, step.hour, readings) {
                 Ok(row) => {
                     store(results, ROW * k, &row);
-                    sum += watt_hours(&row, step_hours);
+                    answer.sum += watt_hours(&row, step_hours);
+                    rows.push((step, row));
                 }
-                Err(number) => return refused(number, k),
+                Err(number) => {
+                    answer = refused(number, k);
+                    break;
+                }
             }
         }
-        RunAnswer {
-            number: 0,
-            step: 0,
-            count: steps.len() as u64,
-            sum,
+        keep_totals(&job.site, step_hours, &rows, totals);
+        answer
+    }
+
+    /// The same, and what it leaves in copies of the job's own lists.
+    pub fn run_on_copies(&mut self, job: &Job) -> Left<RunAnswer> {
+        let (mut days, mut totals, mut results) =
+            (job.days.clone(), job.totals.clone(), job.results.clone());
+        let answer = self.run(job, &mut days, &mut totals, &mut results);
+        Left {
+            answer,
+            days,
+            totals,
+            results,
         }
     }
 

@@ -5,6 +5,7 @@ use super::conditions::{
     angle, hours_of_a_year, sector, sun_at, whole_year, OneHour, Series, Site, FIRST_STEP,
 };
 use super::days::{day_in, day_table};
+use super::totals::{days_of, month_of};
 use super::*;
 use crate::comparison::{same, shown, Outcome, Settings};
 use crate::random::{ulps_from, Random, NAN_PATTERNS};
@@ -60,6 +61,7 @@ pub fn section(settings: &Settings) -> Outcome {
     factor(checks)?;
     sectors(checks)?;
     times(checks)?;
+    months(checks)?;
     whole_years(checks)
 }
 
@@ -437,6 +439,25 @@ fn times(checks: &mut Checks) -> Outcome {
         step(25.75).time_series_idx(2, 1.0) == 0,
     )?;
     checks.done("times")
+}
+
+/// The judge's months against the published ones, which are those of a common year.
+fn months(checks: &mut Checks) -> Outcome {
+    for hour in 0..8760 {
+        let step = Timestep {
+            index: 0,
+            time: hour as f64 + 0.75,
+            step: 1.0,
+        };
+        let month = month_of(0, hour / 24) as u32;
+        checks.holds("an hour's month", step.current_month() == Some(month))?;
+    }
+    let of = |day: usize| month_of(1, day);
+    checks.holds("29 February", (of(59), of(60)) == (1, 2))?;
+    checks.holds("a leap year's last day", of(365) == 11)?;
+    let days = (days_of(0), days_of(1));
+    checks.holds("the days of both years", days == (365, 366))?;
+    checks.done("months")
 }
 
 /// The record that the published Rust makes of a whole year, against its parts and against the

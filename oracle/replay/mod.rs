@@ -6,3 +6,4 @@ pub mod file;
 pub mod leaves;
 pub mod listings;
 pub mod runs;
+pub mod totals;

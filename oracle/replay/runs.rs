@@ -1,17 +1,20 @@
 //! Short runs, accepted and with every refusal, some whose walk along 36 sectors ends at the first, a
-//! middle or the last of them, and some whose sums have something to tell of the step.
+//! middle or the last of them, some whose sums have something to tell of the step, and some about the
+//! totals.
 
 use super::file::{File, Record};
+use super::totals;
 use crate::comparison::Settings;
 use crate::jobs::cases::Maker;
 use crate::jobs::edges;
 use crate::published::jobs::*;
 use crate::published::shading::MOST_SECTORS;
+use crate::published::totals::totals_needed;
 use crate::random::Random;
 use crate::shading::walks::all_ends;
 
 const KIND: u64 = 1;
-const LONGEST: usize = 2_600;
+const LONGEST: usize = 2_616;
 const MOST_RESULTS: usize = 1_024;
 const FILL: u8 = 0xA5;
 
@@ -19,17 +22,28 @@ const FILL: u8 = 0xA5;
 const ACCEPTED: usize = 70;
 const REFUSED: usize = 12;
 
-/// The record of a job with its answer and the results that it leaves.
-fn record_of(job: &Job, answer: &RunAnswer, left: &[u8]) -> Record {
-    let site = &job.site;
+/// The job with so many bytes of results and totals, and room for its table of days.
+fn lent(job: Job, results: usize, totals: usize) -> Job {
+    Job {
+        days: vec![FILL; DAYS_LENGTH],
+        totals: vec![FILL; totals],
+        results: vec![FILL; results],
+        ..job
+    }
+}
+
+/// The record of a job with its answer, the results and, where they are kept, the totals that it leaves.
+fn record_of(job: &Job, left: &Left<RunAnswer>, keeps_totals: bool) -> Record {
+    let (site, answer) = (&job.site, &left.answer);
     let [diffuse, direct, reflectivity] = &job.series;
-    let lists: [&[u8]; 6] = [
+    let lists: [&[u8]; 7] = [
         diffuse,
         direct,
         reflectivity,
         &job.sectors,
         &job.window,
-        left,
+        &left.results,
+        if keeps_totals { &left.totals } else { &[] },
     ];
     let mut record = Record::new(KIND);
     record
@@ -48,23 +62,23 @@ fn record_of(job: &Job, answer: &RunAnswer, left: &[u8]) -> Record {
         .word(answer.step)
         .word(answer.count)
         .answer(answer.sum)
+        .word(job.totals.len() as u64)
         .list(&lists.concat());
     record
 }
 
-/// The record of a job, if it is short, with its answer. Its table of days has room.
-fn record(judge: &mut Judge, mut job: Job) -> Option<(Record, RunAnswer)> {
+/// The record of a job, if it is short, with its answer. Its table of days and its totals have room.
+fn record(judge: &mut Judge, job: Job) -> Option<(Record, RunAnswer)> {
     let results = job.results.len();
     let timezone_is_double =
         job.site.timezone as f64 as i64 == job.site.timezone && job.site.timezone < i64::MAX;
     if results > MOST_RESULTS || !timezone_is_double {
         return None;
     }
-    job.results = vec![FILL; results];
-    let mut left = job.results.clone();
-    let answer = judge.run(&job, &mut [FILL; DAYS_LENGTH], &mut left);
-    let record = record_of(&job, &answer, &left);
-    (record.len() <= LONGEST).then_some((record, answer))
+    let job = lent(job, results, totals_needed(1));
+    let left = judge.run_on_copies(&job);
+    let record = record_of(&job, &left, false);
+    (record.len() <= LONGEST).then_some((record, left.answer))
 }
 
 /// How many runs there are of each number; for those of 8 and above, also at a later step.
@@ -141,9 +155,9 @@ fn walks(file: &mut File) {
     let mut judge = Judge::new();
     for (walked, job) in all_ends().zip(edges::walks()) {
         if [0, 1, 18, MOST_SECTORS - 1].contains(&walked.place) {
-            let mut left = vec![FILL; 8 * ROW];
-            let answer = judge.run(&job, &mut [FILL; DAYS_LENGTH], &mut left);
-            file.push(&record_of(&job, &answer, &left));
+            let job = lent(job, 8 * ROW, totals_needed(1));
+            let left = judge.run_on_copies(&job);
+            file.push(&record_of(&job, &left, false));
         }
     }
 }
@@ -159,6 +173,24 @@ fn sums(file: &mut File) {
     }
 }
 
+/// Runs about the totals.
+fn with_totals(file: &mut File) -> Result<(), String> {
+    let mut judge = Judge::new();
+    for totals::Kept { job, number, keeps } in totals::kept() {
+        let (results, totals) = (job.results.len(), job.totals.len());
+        let job = lent(job, results, totals);
+        let left = judge.run_on_copies(&job);
+        if left.answer.number != number {
+            let other = left.answer.number;
+            return Err(format!(
+                "a run about totals is refused {other}, not {number}"
+            ));
+        }
+        file.push(&record_of(&job, &left, keeps));
+    }
+    Ok(())
+}
+
 pub fn file(settings: &Settings) -> Result<File, String> {
     let mut random = settings.random("replayed runs");
     let mut file = File::default();
@@ -172,6 +204,7 @@ pub fn file(settings: &Settings) -> Result<File, String> {
     let any = (0..400_000).map(|_| maker.any_job());
     let met = take(&mut file, "random", any);
     sums(&mut file);
+    with_totals(&mut file)?;
     match met.whole() {
         true => Ok(file),
         false => Err(String::from("too few runs of some number")),
