@@ -19,12 +19,14 @@ use Rattle.jobs.specs.declared.answers.RunAnswer.the-variants.{Accepted, Refuse
 use Rattle.jobs.specs.Job.{Job, readingAt}
 use Rattle.jobs.specs.Step.{stepWith, stepAt}
 use Rattle.jobs.specs.Rows.{putRow, withRow}
-use Rattle.jobs.specs.Totals.{dayOfStep, totalsCount, totalsAt, withTotals}
+use Rattle.jobs.specs.Totals.{dayOfStep, totalsCount, monthPart, totalsAt, withTotals}
 use Rattle.jobs.specs.declared.answers.RunAnswer.{RunAnswer}
 use Rattle.jobs.specs.Run.{Ran, ran, rowsStored, runFrom}
 use Rattle.jobs.proofs.StepRows.{step-row, row-fits}
 use Rattle.jobs.proofs.RunLaws.{run-ended, run-refused, run-onward}
-use Rattle.totals.specs.Kept.{emptied, withRowAdded}
+use Rattle.jobs.proofs.TotalsLaws.{month-to, month-few, day-to, day-few}
+use Rattle.totals.specs.declared.Parts.{Parts}
+use Rattle.totals.specs.Kept.{emptied, partsOf, withRowAdded}
 use Rattle.totals.proofs.Kept.{few-added, row-added, over-emptied}
 
 pub job-step : (job : Job) (time : Float) (answer : StepAnswer) → answer ≡ stepWith (job .site) (job .surface) (job .sectors) (job .window) time (readingAt job time)
@@ -56,19 +58,30 @@ module _ (job : Job) (i : ℕ) (results totals₀ totals : List ℕ) (few : i < 
   abbrev leap : Bool
   leap = leapYear (job .site)
 
-  pub totals-next : (row : Row) (day : ℕ) (totals' results' : List ℕ) → stepAt job (timeAt (job .run) i) ≡ step.Row row → day ≡ dayOfStep (job .run) i
-      → totals' ≡ withRowAdded leap day (job .run .step) row totals → results' ≡ putRow results i row
+  pub totals-next : (row : Row) (parts : Parts) (totals' results' : List ℕ) → stepAt job (timeAt (job .run) i) ≡ step.Row row → parts ≡ partsOf leap (dayOfStep (job .run) i)
+      → totals' ≡ withRowAdded parts (job .run .step) row totals → results' ≡ putRow results i row
       → totals' ≡ withTotals leap (job .run) results' (i + 1) totals₀
-  totals-next row day totals' results' s d t r =
+  totals-next row parts totals' results' s p t r =
       let one : suc i ≡ i + 1 = omega arith in
       let fits = row-fits (step-row job (timeAt (job .run) i) row s) in
-      t ∙ ap₂ (λ (n : ℕ) (l : List ℕ). withRowAdded leap n (job .run .step) row l) d kept
+      t ∙ ap₂ (λ (q : Parts) (l : List ℕ). withRowAdded q (job .run .step) row l) p kept
       ∙ row-added leap (job .run) results totals₀ i row room fits few there
       ∙ ap₂ (λ (l : List ℕ) (n : ℕ). withTotals leap (job .run) l n totals₀) (sym r) one
 
   -- each record counts few steps
-  pub few-counted : (k : ℕ) → k < totalsCount leap → totalsAt totals k .count < 35137
+  few-counted : (k : ℕ) → k < totalsCount leap → totalsAt totals k .count < 35137
   few-counted k h = subst (λ (l : List ℕ). totalsAt l k .count < 35137) (sym kept) (few-added leap (job .run) results totals₀ i k few h)
+
+  pub parts-counted : (parts : Parts) → parts ≡ partsOf leap (dayOfStep (job .run) i)
+      → (((parts .day < 378) × (parts .month < 378)) × ((totalsAt totals (parts .day) .count < 35137) × (totalsAt totals (parts .month) .count < 35137)))
+  parts-counted parts e =
+      subst (λ (p : Parts). ((p .day < 378) × (p .month < 378)) × ((totalsAt totals (p .day) .count < 35137) × (totalsAt totals (p .month) .count < 35137))) (sym e) counted
+    where
+      counted : let p = partsOf leap (dayOfStep (job .run) i) in
+          ((p .day < 378) × (p .month < 378)) × ((totalsAt totals (p .day) .count < 35137) × (totalsAt totals (p .month) .count < 35137))
+      counted = unfold partsOf in
+          let day = dayOfStep (job .run) i in
+          ((day-few leap day there, month-few leap day there), (few-counted day (day-to leap day there), few-counted (monthPart leap day) (month-to leap day there)))
 
 -- the totals of a run whose list was emptied before
 pub totals-done : (leap : Bool) (run : Run) (totals₀ totals totals' results' : List ℕ) (answer : RunAnswer) (done : Ran)

@@ -5,7 +5,6 @@ ghost use Prim.Native.Nat.{_*_, _≤_, _<_};
 ghost use Rattle.doubles.specs.Arithmetic.{whole};
 ghost use Rattle.object_checks.specs.Checks.{sectorsFine, windowFine};
 ghost use Rattle.words.specs.Words.{wordCount};
-ghost use Rattle.calendar.specs.Calendar.{daysInYear};
 ghost use Rattle.days.specs.Table.{HoldsDays};
 ghost use Rattle.sun.specs.Site.{siteFine, leapYear, hoursInYear};
 ghost use Rattle.simulation_time.specs.Steps.{stepCount};
@@ -14,7 +13,7 @@ ghost use Rattle.jobs.specs.declared.answers.RunAnswer.the-variants.{Refused};
 ghost use Rattle.jobs.specs.Job.{jobOf};
 ghost use Rattle.jobs.specs.JobChecks.{seriesChecked, checked};
 ghost use Rattle.jobs.specs.Rows.{putRow, withRow};
-ghost use Rattle.jobs.specs.Totals.{monthPart, totalsAt, withTotals};
+ghost use Rattle.jobs.specs.Totals.{totalsAt, withTotals};
 ghost use Rattle.jobs.specs.Run.{ran, lent, left, roomFine, runFrom, rowsStored, runOf};
 ghost use Rattle.totals.specs.Kept.{emptied, withRowAdded};
 use crate::series::series_fine;
@@ -49,8 +48,11 @@ use steps::rows::with_row;
 use sun::site::Site;
 use sun::site::hours_in_year;
 use sun::site::site_fine;
+use totals::Parts;
 use totals::add_row;
 use totals::empty_totals;
+use totals::parts_for;
+use totals::parts_of;
 use words::word_count;
 
 // Room for the table of days, for the totals of the year and for every step's row.
@@ -162,22 +164,21 @@ fn keep_row(
     results: &mut [u8],
     totals: &mut [u8],
     i: usize,
-    leap: bool,
-    day: u32,
+    parts: Parts,
     step: f64,
     sum: f64,
     row: Row,
 ) -> f64
     requires { ⌜ i < 35137 ⌝ }
-    requires { ⌜ day < daysInYear leap ⌝ }
-    requires { ⌜ totalsAt (now totals) day .count < 35137 ⌝ }
-    requires { ⌜ totalsAt (now totals) (monthPart leap day) .count < 35137 ⌝ }
+    requires { ⌜ (parts .day < 378) × (parts .month < 378) ⌝ }
+    requires { ⌜ totalsAt (now totals) (parts .day) .count < 35137 ⌝ }
+    requires { ⌜ totalsAt (now totals) (parts .month) .count < 35137 ⌝ }
     ensures { λ r. ⌜ r ≡ withRow step sum row ⌝ }
-    ensures { λ _. ⌜ now (totals .exit) ≡ withRowAdded leap day step row (now (totals .entry)) ⌝ }
+    ensures { λ _. ⌜ now (totals .exit) ≡ withRowAdded parts step row (now (totals .entry)) ⌝ }
     ensures { λ _. ⌜ now (results .exit) ≡ putRow (now (results .entry)) i row ⌝ }
 {
     store_row(results, i, row);
-    add_row(totals, leap, day, step, row);
+    add_row(totals, parts, step, row);
     with_row(step, sum, row)
 }
 
@@ -216,6 +217,7 @@ fn run_steps(
     let places = sectors_of(sectors, n);
     let fixed = fixed_of(site, surface);
     let mut day = read_day(days, 0);
+    let mut parts = parts_of(leap, 0);
     let mut kept = kept_hour(site, surface, fixed, day, 0);
     let mut factor = FactorAnswer::Factor(1.0);
     let mut shaded = false;
@@ -226,6 +228,7 @@ fn run_steps(
         let hour = current_hour(time);
         if hour != kept.hour {
             day = day_for(days, hour / 24, day);
+            parts = parts_for(leap, hour / 24, parts);
             kept = kept_hour(site, surface, fixed, day, hour);
             shaded = false;
         }
@@ -258,16 +261,7 @@ fn run_steps(
                 return refused_at(refusal, i);
             }
             StepAnswer::Row(row) => {
-                sum = keep_row(
-                    results,
-                    totals,
-                    i as usize,
-                    leap,
-                    hour / 24,
-                    run.step,
-                    sum,
-                    row,
-                );
+                sum = keep_row(results, totals, i as usize, parts, run.step, sum, row);
             }
         }
         time += run.step;

@@ -25,6 +25,21 @@ use Rattle.jobs.proofs.TotalsLaws.{totals-few, part-next, month-from, month-to,
 use Rattle.totals.specs.declared.Parts.{Parts}
 use Rattle.totals.specs.Kept.{emptied, partsOf, withRowAdded}
 
+-- ---- the parts of a day
+
+-- there is a first day
+pub year-starts : (leap : Bool) → 0 < daysInYear leap
+unfolding daysInYear
+year-starts true = omega arith
+year-starts false = omega arith
+
+-- they are told by their day
+pub same-parts : (leap : Bool) (day : ℕ) (parts : Parts) → parts ≡ partsOf leap day → parts ≡ partsOf leap (parts .day)
+unfolding partsOf
+same-parts leap day parts e = e ∙ ap (partsOf leap) (sym (ap (λ (p : Parts). p .day) e))
+
+-- ---- the totals, step by step
+
 -- 64 bits hold the number of any step
 pub small : (i : ℕ) → i < 35137 → i < 2 ^ 64
 small i h = lt-trans h (lit< tt)
