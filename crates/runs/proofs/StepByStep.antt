@@ -11,6 +11,7 @@ use Rattle.calendar.specs.Calendar.{daysInYear}
 use Rattle.sun.specs.Site.{leapYear}
 use Rattle.simulation_time.specs.declared.run.Run.{Run}
 use Rattle.simulation_time.specs.Steps.{timeAt}
+use Rattle.simulation_time.specs.Timestep.{currentHour}
 use Rattle.objects.specs.declared.answers.Refusal.{Refusal}
 use Rattle.jobs.specs.declared.answers.Row.{Row}
 use Rattle.jobs.specs.declared.answers.StepAnswer.{StepAnswer}
@@ -22,12 +23,13 @@ use Rattle.jobs.specs.Rows.{putRow, withRow}
 use Rattle.jobs.specs.Totals.{dayOfStep, totalsCount, monthPart, totalsAt, withTotals}
 use Rattle.jobs.specs.declared.answers.RunAnswer.{RunAnswer}
 use Rattle.jobs.specs.Run.{Ran, ran, rowsStored, runFrom}
+use Rattle.jobs.proofs.RowStores.{RowFits}
 use Rattle.jobs.proofs.StepRows.{step-row, row-fits}
 use Rattle.jobs.proofs.RunLaws.{run-ended, run-refused, run-onward}
 use Rattle.jobs.proofs.TotalsLaws.{month-to, month-few, day-to, day-few}
-use Rattle.totals.specs.declared.Parts.{Parts}
-use Rattle.totals.specs.Kept.{emptied, partsOf, withRowAdded}
-use Rattle.totals.proofs.Kept.{few-added, row-added, over-emptied}
+use Rattle.totals.specs.declared.KeptTotals.{KeptTotals}
+use Rattle.totals.specs.Kept.{emptied, partsOf, keptTotals, withRowAdded, putKept}
+use Rattle.totals.proofs.Kept.{few-added, kept-added, row-added, over-emptied}
 
 pub job-step : (job : Job) (time : Float) (answer : StepAnswer) → answer ≡ stepWith (job .site) (job .surface) (job .sectors) (job .window) time (readingAt job time)
     → answer ≡ stepAt job time
@@ -58,30 +60,44 @@ module _ (job : Job) (i : ℕ) (results totals₀ totals : List ℕ) (few : i < 
   abbrev leap : Bool
   leap = leapYear (job .site)
 
-  pub totals-next : (row : Row) (parts : Parts) (totals' results' : List ℕ) → stepAt job (timeAt (job .run) i) ≡ step.Row row → parts ≡ partsOf leap (dayOfStep (job .run) i)
-      → totals' ≡ withRowAdded parts (job .run .step) row totals → results' ≡ putRow results i row
-      → totals' ≡ withTotals leap (job .run) results' (i + 1) totals₀
-  totals-next row parts totals' results' s p t r =
-      let one : suc i ≡ i + 1 = omega arith in
-      let fits = row-fits (step-row job (timeAt (job .run) i) row s) in
-      t ∙ ap₂ (λ (q : Parts) (l : List ℕ). withRowAdded q (job .run .step) row l) p kept
-      ∙ row-added leap (job .run) results totals₀ i row room fits few there
-      ∙ ap₂ (λ (l : List ℕ) (n : ℕ). withTotals leap (job .run) l n totals₀) (sym r) one
+  -- what is kept of its day and its month
+  module _ (old : KeptTotals) (known : old ≡ keptTotals leap (dayOfStep (job .run) i) totals) where
+    abbrev day : ℕ
+    day = dayOfStep (job .run) i
 
-  -- each record counts few steps
-  few-counted : (k : ℕ) → k < totalsCount leap → totalsAt totals k .count < 35137
-  few-counted k h = subst (λ (l : List ℕ). totalsAt l k .count < 35137) (sym kept) (few-added leap (job .run) results totals₀ i k few h)
+    known-kept : old ≡ keptTotals leap day (withTotals leap (job .run) results i totals₀)
+    known-kept = known ∙ ap (keptTotals leap day) kept
 
-  pub parts-counted : (parts : Parts) → parts ≡ partsOf leap (dayOfStep (job .run) i)
-      → (((parts .day < 378) × (parts .month < 378)) × ((totalsAt totals (parts .day) .count < 35137) × (totalsAt totals (parts .month) .count < 35137)))
-  parts-counted parts e =
-      subst (λ (p : Parts). ((p .day < 378) × (p .month < 378)) × ((totalsAt totals (p .day) .count < 35137) × (totalsAt totals (p .month) .count < 35137))) (sym e) counted
-    where
-      counted : let p = partsOf leap (dayOfStep (job .run) i) in
-          ((p .day < 378) × (p .month < 378)) × ((totalsAt totals (p .day) .count < 35137) × (totalsAt totals (p .month) .count < 35137))
-      counted = unfold partsOf in
-          let day = dayOfStep (job .run) i in
-          ((day-few leap day there, month-few leap day there), (few-counted day (day-to leap day there), few-counted (monthPart leap day) (month-to leap day there)))
+    module _ (row : Row) (totals' results' : List ℕ) (here : stepAt job (timeAt (job .run) i) ≡ step.Row row)
+        (stored : totals' ≡ putKept totals (withRowAdded (job .run .step) row old)) (put : results' ≡ putRow results i row) where
+      fits : RowFits row
+      fits = row-fits (step-row job (timeAt (job .run) i) row here)
+
+      so-far : withTotals leap (job .run) (putRow results i row) (suc i) totals₀ ≡ withTotals leap (job .run) results' (i + 1) totals₀
+      so-far = let one : suc i ≡ i + 1 = omega arith in ap₂ (λ (l : List ℕ) (n : ℕ). withTotals leap (job .run) l n totals₀) (sym put) one
+
+      pub totals-next : totals' ≡ withTotals leap (job .run) results' (i + 1) totals₀
+      totals-next =
+          stored ∙ ap₂ (λ (l : List ℕ) (k : KeptTotals). putKept l (withRowAdded (job .run .step) row k)) kept known-kept
+          ∙ row-added leap (job .run) results totals₀ i row room fits few there ∙ so-far
+
+      pub kept-next : (new : KeptTotals) (hour : ℕ) → new ≡ withRowAdded (job .run .step) row old → hour ≡ currentHour (timeAt (job .run) i) → new ≡ keptTotals leap (hour / 24) totals'
+      kept-next new hour e h =
+          e ∙ ap (withRowAdded (job .run .step) row) known-kept ∙ kept-added leap (job .run) results totals₀ i row room fits few there
+          ∙ ap₂ (λ (n : ℕ) (l : List ℕ). keptTotals leap (n / 24) l) (sym h) (so-far ∙ sym totals-next)
+
+    -- each record counts few steps
+    few-counted : (k : ℕ) → k < totalsCount leap → totalsAt totals k .count < 35137
+    few-counted k h = subst (λ (l : List ℕ). totalsAt l k .count < 35137) (sym kept) (few-added leap (job .run) results totals₀ i k few h)
+
+    pub kept-counted : ((old .parts .day < 378) × (old .parts .month < 378)) × ((old .day .count < 35137) × (old .month .count < 35137))
+    kept-counted =
+        subst (λ (k : KeptTotals). ((k .parts .day < 378) × (k .parts .month < 378)) × ((k .day .count < 35137) × (k .month .count < 35137))) (sym known) counted
+      where
+        counted : let k = keptTotals leap (dayOfStep (job .run) i) totals in
+            ((k .parts .day < 378) × (k .parts .month < 378)) × ((k .day .count < 35137) × (k .month .count < 35137))
+        counted = unfold keptTotals partsOf in
+            ((day-few leap day there, month-few leap day there), (few-counted day (day-to leap day there), few-counted (monthPart leap day) (month-to leap day there)))
 
 -- the totals of a run whose list was emptied before
 pub totals-done : (leap : Bool) (run : Run) (totals₀ totals totals' results' : List ℕ) (answer : RunAnswer) (done : Ran)

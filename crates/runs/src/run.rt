@@ -1,7 +1,7 @@
 // The run: the checks before the first step, then step by step.
 ghost use mathlib.Core.Path.{_≡_};
 ghost use mathlib.Core.Bool.{true};
-ghost use Prim.Native.Nat.{_*_, _≤_, _<_};
+ghost use Prim.Native.Nat.{_*_, _≤_};
 ghost use Rattle.doubles.specs.Arithmetic.{whole};
 ghost use Rattle.object_checks.specs.Checks.{sectorsFine, windowFine};
 ghost use Rattle.words.specs.Words.{wordCount};
@@ -12,15 +12,13 @@ ghost use Rattle.simulation_time.specs.RunChecks.{runAccepted};
 ghost use Rattle.jobs.specs.declared.answers.RunAnswer.the-variants.{Refused};
 ghost use Rattle.jobs.specs.Job.{jobOf};
 ghost use Rattle.jobs.specs.JobChecks.{seriesChecked, checked};
-ghost use Rattle.jobs.specs.Rows.{putRow, withRow};
-ghost use Rattle.jobs.specs.Totals.{totalsAt, withTotals};
+ghost use Rattle.jobs.specs.Totals.{withTotals};
 ghost use Rattle.jobs.specs.Run.{ran, lent, left, roomFine, runFrom, rowsStored, runOf};
-ghost use Rattle.totals.specs.Kept.{emptied, withRowAdded};
+ghost use Rattle.totals.specs.Kept.{emptied};
 use crate::series::series_fine;
 use calendar::days_in_year;
 use days::table::fill_days;
 use jobs::answers::Checked;
-use jobs::answers::Row;
 use jobs::answers::RunAnswer;
 use jobs::answers::StepAnswer;
 use object_checks::sectors_fine;
@@ -48,11 +46,9 @@ use steps::rows::with_row;
 use sun::site::Site;
 use sun::site::hours_in_year;
 use sun::site::site_fine;
-use totals::Parts;
 use totals::add_row;
 use totals::empty_totals;
-use totals::parts_for;
-use totals::parts_of;
+use totals::read_totals;
 use words::word_count;
 
 // Room for the table of days, for the totals of the year and for every step's row.
@@ -159,29 +155,6 @@ fn refused_at(refusal: Refusal, step: u64) -> RunAnswer
     }
 }
 
-// A step's row, stored as the i-th and added to the totals of its day and its month; and the sum with it.
-fn keep_row(
-    results: &mut [u8],
-    totals: &mut [u8],
-    i: usize,
-    parts: Parts,
-    step: f64,
-    sum: f64,
-    row: Row,
-) -> f64
-    requires { ⌜ i < 35137 ⌝ }
-    requires { ⌜ (parts .day < 378) × (parts .month < 378) ⌝ }
-    requires { ⌜ totalsAt (now totals) (parts .day) .count < 35137 ⌝ }
-    requires { ⌜ totalsAt (now totals) (parts .month) .count < 35137 ⌝ }
-    ensures { λ r. ⌜ r ≡ withRow step sum row ⌝ }
-    ensures { λ _. ⌜ now (totals .exit) ≡ withRowAdded parts step row (now (totals .entry)) ⌝ }
-    ensures { λ _. ⌜ now (results .exit) ≡ putRow (now (results .entry)) i row ⌝ }
-{
-    store_row(results, i, row);
-    add_row(totals, parts, step, row);
-    with_row(step, sum, row)
-}
-
 // All steps of a job that has passed the checks. The sectors are read into a table once, a day is read from the table of days, and
 // the factor is worked out once an hour: `shaded` says that it is that of the hour which is kept.
 fn run_steps(
@@ -217,7 +190,7 @@ fn run_steps(
     let places = sectors_of(sectors, n);
     let fixed = fixed_of(site, surface);
     let mut day = read_day(days, 0);
-    let mut parts = parts_of(leap, 0);
+    let mut kept_totals = read_totals(totals, leap, 0);
     let mut kept = kept_hour(site, surface, fixed, day, 0);
     let mut factor = FactorAnswer::Factor(1.0);
     let mut shaded = false;
@@ -227,8 +200,10 @@ fn run_steps(
     while i < count {
         let hour = current_hour(time);
         if hour != kept.hour {
+            if hour / 24 != day.index {
+                kept_totals = read_totals(totals, leap, hour / 24);
+            }
             day = day_for(days, hour / 24, day);
-            parts = parts_for(leap, hour / 24, parts);
             kept = kept_hour(site, surface, fixed, day, hour);
             shaded = false;
         }
@@ -261,7 +236,9 @@ fn run_steps(
                 return refused_at(refusal, i);
             }
             StepAnswer::Row(row) => {
-                sum = keep_row(results, totals, i as usize, parts, run.step, sum, row);
+                store_row(results, i as usize, row);
+                kept_totals = add_row(totals, kept_totals, run.step, row);
+                sum = with_row(run.step, sum, row);
             }
         }
         time += run.step;

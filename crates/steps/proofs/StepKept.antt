@@ -65,6 +65,10 @@ pub day-of-its-hour : (site : Site) (surface : Surface) (hour : ℕ) (kept : Kep
     → kept ≡ keptHour site surface hour → day ≡ keptDay (hour / 24) → day ≡ keptDay (kept .hour / 24)
 day-of-its-hour site surface hour kept day e d = d ∙ ap (λ (h : ℕ). keptDay (h / 24)) (sym (its-hour site surface hour kept e))
 
+pub its-index : (index : ℕ) (kept : KeptDay) → kept ≡ keptDay index → kept .index ≡ index
+unfolding keptDay
+its-index index kept e = ap (λ (k : KeptDay). k .index) e
+
 pub of-its-day : (index : ℕ) (kept : KeptDay) → kept ≡ keptDay index → kept ≡ keptDay (kept .index)
 unfolding keptDay
 of-its-day index kept e = e ∙ sym (ap (λ (k : KeptDay). keptDay (k .index)) e)

@@ -6,7 +6,7 @@ use mathlib.Core.List.{List, _++_}
 use Prim.Native.Nat.{ℕ, suc, _+_, _*_, _/_, _^_, _≤_, _<_}
 use native.Mathlib.Decide.{ℕ-discrete}
 use native.Mathlib.Omega.{arith}
-use native.Mathlib.Nat.{lt-trans}
+use native.Mathlib.Nat.{lt-trans, lt-of-le-of-lt}
 use borrow.Author.Tests.{eq-eqb, ne-eqb}
 use lib.Dec.{eqb, lit<}
 use lib.ListN.{length, drop}
@@ -22,8 +22,8 @@ use Rattle.jobs.specs.Totals.{noTotals, withStep, dayOfStep, totalsOf, totalsCo
 use Rattle.jobs.proofs.RowStores.{RowFits}
 use Rattle.jobs.proofs.TotalsRecords.{length-records, length-putTotals, put-among}
 use Rattle.jobs.proofs.TotalsLaws.{totals-few, part-next, month-from, month-to, day-to, day-in, month-in, no-other, totals-read}
-use Rattle.totals.specs.declared.Parts.{Parts}
-use Rattle.totals.specs.Kept.{emptied, partsOf, withRowAdded}
+use Rattle.totals.specs.declared.KeptTotals.{KeptTotals}
+use Rattle.totals.specs.Kept.{emptied, partsOf, keptTotals, withRowAdded, putKept}
 
 -- ---- the parts of a day
 
@@ -33,16 +33,14 @@ unfolding daysInYear
 year-starts true = omega arith
 year-starts false = omega arith
 
--- they are told by their day
-pub same-parts : (leap : Bool) (day : ℕ) (parts : Parts) → parts ≡ partsOf leap day → parts ≡ partsOf leap (parts .day)
-unfolding partsOf
-same-parts leap day parts e = e ∙ ap (partsOf leap) (sym (ap (λ (p : Parts). p .day) e))
-
 -- ---- the totals, step by step
 
 -- 64 bits hold the number of any step
 pub small : (i : ℕ) → i < 35137 → i < 2 ^ 64
 small i h = lt-trans h (lit< tt)
+
+small-next : (i : ℕ) → i < 35137 → suc i < 2 ^ 64
+small-next i h = lt-of-le-of-lt h (lit< tt)
 
 -- before the first step
 pub none-added : (leap : Bool) (run : Run) (results totals : List ℕ) → emptied leap totals ≡ withTotals leap run results 0 totals
@@ -67,9 +65,9 @@ over-emptied leap run results n totals =
     ap (λ (rest : List ℕ). totalsRecords (totalsAtPart leap run results n) (totalsCount leap) 0 ++ rest) (behind-emptied leap totals)
 
 -- so long are they as before
-pub length-added : (parts : Parts) (step : Float) (row : Row) (totals : List ℕ) → length (withRowAdded parts step row totals) ≡ length totals
-unfolding withRowAdded
-length-added parts step row totals = length-putTotals _ _ _ ∙ length-putTotals totals (parts .day) _
+pub length-kept : (totals : List ℕ) (kept : KeptTotals) → length (putKept totals kept) ≡ length totals
+unfolding putKept
+length-kept totals kept = length-putTotals _ _ _ ∙ length-putTotals totals (kept .parts .day) (kept .day)
 
 -- no record counts more steps than there are rows
 pub few-added : (leap : Bool) (run : Run) (results totals : List ℕ) (i k : ℕ) → i < 35137 → k < totalsCount leap
@@ -124,15 +122,30 @@ module _ (leap : Bool) (run : Run) (results totals : List ℕ) (i : ℕ) (row : 
     | no n ↦ of-others k n ∙ sym (none-more k (no-other leap day h k n o))
   ]
 
-  pub row-added : withRowAdded (partsOf leap day) (run .step) row (withTotals leap run results i totals) ≡ withTotals leap run (putRow results i row) (suc i) totals
-  unfolding withRowAdded partsOf withTotals
+  kept-at : (k : ℕ) → k < totalsCount leap → totalsAt (withTotals leap run results i totals) k ≡ old k
+  kept-at k l = totals-read leap run results i totals (small i few) k l
+
+  -- what is kept of the day and the month, with the row, is what the totals with it have there
+  pub kept-added : withRowAdded (run .step) row (keptTotals leap day (withTotals leap run results i totals))
+      ≡ keptTotals leap day (withTotals leap run (putRow results i row) (suc i) totals)
+  unfolding withRowAdded keptTotals
+  kept-added =
+      let read : (k : ℕ) → k < totalsCount leap → totalsAt (withTotals leap run (putRow results i row) (suc i) totals) k ≡ new k =
+      λ k l. totals-read leap run (putRow results i row) (suc i) totals (small-next i few) k l in
+      let same : (k : ℕ) → k < totalsCount leap → inPart leap k day ≡ true
+      → withStep (run .step) (totalsAt (withTotals leap run results i totals) k) row ≡ totalsAt (withTotals leap run (putRow results i row) (suc i) totals) k =
+      λ k l e. ap (λ (t : Totals). withStep (run .step) t row) (kept-at k l) ∙ sym (one-more k e) ∙ sym (read k l) in
+      λ x. record { parts = partsOf leap day; day = same day (day-to leap day h) (day-in leap day h) x; month = same month (month-to leap day h) (month-in leap day h) x }
+
+  -- stored, first the day's record and then the month's, it makes them those totals
+  pub row-added : putKept (withTotals leap run results i totals) (withRowAdded (run .step) row (keptTotals leap day (withTotals leap run results i totals)))
+      ≡ withTotals leap run (putRow results i row) (suc i) totals
+  unfolding withRowAdded keptTotals putKept partsOf withTotals
   row-added =
       let count : ℕ = totalsCount leap in
       let before : List ℕ = totalsRecords old count 0 ++ rest in
-      let read : (k : ℕ) → k < count → totalsAt before k ≡ old k = λ k l. totals-read leap run results i totals (small i few) k l in
       let first : putTotals before day (withStep (run .step) (totalsAt before day) row) ≡ totalsRecords ofDay count 0 ++ rest =
-      ap (λ (t : Totals). putTotals before day (withStep (run .step) t row)) (read day (day-to leap day h))
+      ap (λ (t : Totals). putTotals before day (withStep (run .step) t row)) (kept-at day (day-to leap day h))
       ∙ put-among old count rest day (day-to leap day h) ofDay (added day) of-day (λ k l o. sym (of-others k o)) in
-      let step : totalsAt before month ≡ old month = read month (month-to leap day h) in
-      ap₂ (λ (l : List ℕ) (t : Totals). putTotals l month (withStep (run .step) t row)) first step
+      ap₂ (λ (l : List ℕ) (t : Totals). putTotals l month (withStep (run .step) t row)) first (kept-at month (month-to leap day h))
       ∙ put-among ofDay count rest month (month-to leap day h) new (added month) (one-more month (month-in leap day h)) (λ k l o. of-both k o)

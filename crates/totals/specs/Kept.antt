@@ -7,19 +7,25 @@ use lib.ListN.{drop}
 use lib.Ieee.{Float}
 use Rattle.jobs.specs.declared.answers.Row.{Row}
 use Rattle.totals.specs.declared.Parts.{Parts}
+use Rattle.totals.specs.declared.KeptTotals.{KeptTotals}
 use Rattle.jobs.specs.Totals.{noTotals, withStep, totalsCount, monthPart, totalsAt, putTotals, totalsRecords}
 
 -- every record of the year without a step; the bytes behind stay as they were
 unfoldable pub emptied : Bool → List ℕ → List ℕ
 emptied leap totals = totalsRecords (λ (k : ℕ). noTotals) (totalsCount leap) 0 ++ drop (24 * totalsCount leap) totals
 
--- the records in which the steps of a day count
+-- where a day and its month have their records
 unfoldable pub partsOf : Bool → ℕ → Parts
 partsOf leap day = record { day = day; month = monthPart leap day }
 
+-- both records, as they stand in a list
+unfoldable pub keptTotals : Bool → ℕ → List ℕ → KeptTotals
+keptTotals leap day totals = record { parts = partsOf leap day; day = totalsAt totals day; month = totalsAt totals (monthPart leap day) }
+
 -- one step more in both
-unfoldable pub withRowAdded : Parts → Float → Row → List ℕ → List ℕ
-withRowAdded parts step row totals =
-    let ofDay = withStep step (totalsAt totals (parts .day)) row in
-    let ofMonth = withStep step (totalsAt totals (parts .month)) row in
-    putTotals (putTotals totals (parts .day) ofDay) (parts .month) ofMonth
+unfoldable pub withRowAdded : Float → Row → KeptTotals → KeptTotals
+withRowAdded step row kept = record { parts = kept .parts; day = withStep step (kept .day) row; month = withStep step (kept .month) row }
+
+-- both stored
+unfoldable pub putKept : List ℕ → KeptTotals → List ℕ
+putKept totals kept = putTotals (putTotals totals (kept .parts .day) (kept .day)) (kept .parts .month) (kept .month)

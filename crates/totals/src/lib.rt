@@ -4,7 +4,7 @@ ghost use Prim.Native.Nat.{_*_, _≤_, _<_};
 ghost use lib.ListN.{length};
 ghost use Rattle.calendar.specs.Calendar.{daysInYear};
 ghost use Rattle.jobs.specs.Totals.{withStep, totalsCount, totalsAt, putTotals};
-ghost use Rattle.totals.specs.Kept.{emptied, partsOf, withRowAdded};
+ghost use Rattle.totals.specs.Kept.{emptied, partsOf, keptTotals, withRowAdded, putKept};
 use calendar::date_of;
 use calendar::days_in_year;
 use doubles::float_max;
@@ -70,7 +70,7 @@ pub fn empty_totals(totals: &mut [u8], leap: bool)
     }
 }
 
-// The two records in which the steps of a day count.
+// Where the day and the month of a step have their records.
 pub struct Parts {
     pub day: u32,
     pub month: u32,
@@ -86,27 +86,41 @@ pub fn parts_of(leap: bool, day: u32) -> Parts
     }
 }
 
-// The same, where those of some day are kept: the calendar is looked at once a day.
-pub fn parts_for(leap: bool, day: u32, kept: Parts) -> Parts
-    requires { ⌜ day < daysInYear leap ⌝ }
-    requires { ⌜ kept ≡ partsOf leap (kept .day) ⌝ }
-    ensures { λ r. ⌜ r ≡ partsOf leap day ⌝ }
-{
-    if day == kept.day {
-        return kept;
-    }
-    parts_of(leap, day)
+// The records of one day and of its month, as they stand in the list: what is kept from step to step, so that calendar and list are
+// read once a day.
+pub struct KeptTotals {
+    pub parts: Parts,
+    pub day: Totals,
+    pub month: Totals,
 }
 
-// A step's row, added to the totals of its day and to those of its month.
-pub fn add_row(totals: &mut [u8], parts: Parts, step: f64, row: Row)
-    requires { ⌜ (parts .day < 378) × (parts .month < 378) ⌝ }
-    requires { ⌜ totalsAt (now totals) (parts .day) .count < 35137 ⌝ }
-    requires { ⌜ totalsAt (now totals) (parts .month) .count < 35137 ⌝ }
-    ensures { λ _. ⌜ now (totals .exit) ≡ withRowAdded parts step row (now (totals .entry)) ⌝ }
+pub fn read_totals(totals: &[u8], leap: bool, day: u32) -> KeptTotals
+    requires { ⌜ day < daysInYear leap ⌝ }
+    ensures { λ r. ⌜ r ≡ keptTotals leap day (now (totals .entry)) ⌝ }
 {
-    let of_day = with_step(step, totals_at(totals, parts.day as usize), row);
-    let of_month = with_step(step, totals_at(totals, parts.month as usize), row);
-    store_totals(totals, parts.day as usize, of_day);
-    store_totals(totals, parts.month as usize, of_month);
+    let parts = parts_of(leap, day);
+    KeptTotals {
+        parts: parts,
+        day: totals_at(totals, parts.day as usize),
+        month: totals_at(totals, parts.month as usize),
+    }
+}
+
+// A step's row, added to the totals of its day and to those of its month, in the list too.
+pub fn add_row(totals: &mut [u8], kept: KeptTotals, step: f64, row: Row) -> KeptTotals
+    requires { ⌜ (kept .parts .day < 378) × (kept .parts .month < 378) ⌝ }
+    requires { ⌜ (kept .day .count < 35137) × (kept .month .count < 35137) ⌝ }
+    ensures { λ r. ⌜ r ≡ withRowAdded step row kept ⌝ }
+    ensures { λ _. ⌜ now (totals .exit) ≡ putKept (now (totals .entry)) (withRowAdded step row kept) ⌝ }
+{
+    let parts = kept.parts;
+    let day = with_step(step, kept.day, row);
+    let month = with_step(step, kept.month, row);
+    store_totals(totals, parts.day as usize, day);
+    store_totals(totals, parts.month as usize, month);
+    KeptTotals {
+        parts: parts,
+        day: day,
+        month: month,
+    }
 }

@@ -38,17 +38,17 @@ use Rattle.jobs.specs.Run.{ran, runFrom, rowsStored}
 use Rattle.jobs.proofs.PassedChecks.{hour-of-leap-year, day-of-year}
 use Rattle.jobs.proofs.RowStores.{length-putRow}
 use Rattle.steps.specs.Kept.{fixedOf, keptDay, keptHour}
-use Rattle.steps.proofs.StepKept.{kept-factor, by-kept, its-hour, of-its-hour, day-of-its-hour, of-its-day}
+use Rattle.steps.proofs.StepKept.{kept-factor, by-kept, its-hour, its-index, of-its-hour, day-of-its-hour, of-its-day}
 use Rattle.runs.proofs.CheckSteps.{start-day}
-use Rattle.totals.specs.declared.Parts.{Parts}
-use Rattle.totals.specs.Kept.{partsOf}
-use Rattle.totals.proofs.Kept.{none-added, length-added, same-parts, year-starts}
-use Rattle.runs.proofs.StepByStep.{job-step, row-next, refused-here, at-end, at-start, totals-next, parts-counted}
+use Rattle.totals.specs.declared.KeptTotals.{KeptTotals}
+use Rattle.totals.specs.Kept.{keptTotals}
+use Rattle.totals.proofs.Kept.{none-added, length-kept, year-starts}
+use Rattle.runs.proofs.StepByStep.{job-step, row-next, refused-here, at-end, at-start, totals-next, kept-next, kept-counted}
 use Rattle.runs.proofs.run.run_steps.Statement.{statement}
 use Rattle.runs.proofs.run.run_steps.Tie as tie
 
 abbrev Inv-loop : tie.InvT-loop
-Inv-loop site run count surface diffuse direct reflectivity sectors window days totals₀ results₀ leap objects n places fixed day₀ parts₀ kept₀ factor₀ shaded₀ time₀ sum₀ i₀ totals results day parts kept factor shaded time sum i =
+Inv-loop site run count surface diffuse direct reflectivity sectors window days totals₀ results₀ leap objects n places fixed day₀ kept-totals₀ kept₀ factor₀ shaded₀ time₀ sum₀ i₀ totals results day kept-totals kept factor shaded time sum i =
     (i ≤ count)
     × (length results ≡ length results₀)
     × (fixed ≡ fixedOf site surface)
@@ -63,10 +63,10 @@ Inv-loop site run count surface diffuse direct reflectivity sectors window days 
     ≡ runFrom count (jobOf site run surface diffuse direct reflectivity sectors window) 0 (run .start) (whole 0) results₀)
     × (length totals ≡ length totals₀)
     × (totals ≡ withTotals (leapYear site) run results i totals₀)
-    × (parts ≡ partsOf (leapYear site) (kept .hour / 24))
+    × (kept-totals ≡ keptTotals (leapYear site) (kept .hour / 24) totals)
 
 abbrev μ-loop : tie.MeasureT-loop
-μ-loop site run count surface diffuse direct reflectivity sectors window days totals₀ results₀ leap objects n places fixed day₀ parts₀ kept₀ factor₀ shaded₀ time₀ sum₀ i₀ totals results day parts kept factor shaded time sum i = count - i
+μ-loop site run count surface diffuse direct reflectivity sectors window days totals₀ results₀ leap objects n places fixed day₀ kept-totals₀ kept₀ factor₀ shaded₀ time₀ sum₀ i₀ totals results day kept-totals kept factor shaded time sum i = count - i
 
 few-sectors : (c : tie.Start Inv-loop μ-loop) (n : ℕ) → n ≡ sectorCount (now (c .args .sectors)) → n ≤ 36
 few-sectors c n e = subst (λ (m : ℕ). m ≤ 36) (sym e) (sector-count (now (c .args .sectors)) (subst T (sym (c .pre .1 .1 .1 .0)) tt))
@@ -98,10 +98,10 @@ read-day-requires : tie.Need-read-day-requires Inv-loop μ-loop
 read-day-requires c κs = (c .before .before .before .before .before .before .before .before .before .before .before .before .before .pre .1 .1 .1 .1 .1 .0, omega arith)
 
 kept-hour-requires : tie.Need-kept-hour-requires Inv-loop μ-loop
-kept-hour-requires c κs = (c .before .before .fixed-of .ensures, c .before .read-day .ensures)
+kept-hour-requires c κs = (c .before .before .before .fixed-of .ensures, c .before .before .read-day .ensures)
 
-parts-of-requires : tie.Need-parts-of-requires Inv-loop μ-loop
-parts-of-requires c κs = year-starts _
+read-totals-requires : tie.Need-read-totals-requires Inv-loop μ-loop
+read-totals-requires c κs = year-starts _
 
 never : {A : Type 0} → false ≡ true → A
 never e = absurd (subst T (sym e) tt)
@@ -109,23 +109,23 @@ never e = absurd (subst T (sym e) tt)
 loop-holds : tie.Need-loop-holds Inv-loop μ-loop
 unfolding ofBits whole placed timeAt
 loop-holds c =
-    let s = c .before .before .before .before .before .before .before .before .before .before .before .before .before .before .before .before in
-    let count = c .before .before .before .before .before .sector-count .ensures in
+    let s = c .before .before .before .before .before .before .before .before .before .before .before .before .before .before .before .before .before in
+    let count = c .before .before .before .before .before .before .sector-count .ensures in
     let few = few-sectors s _ count in (
       omega arith,
       refl,
-      c .before .before .before .fixed-of .ensures,
-      ap placed (c .before .before .before .before .before .before .window-of .ensures) ∙ window-places (now (s .args .window)) (subst T (sym (s .pre .1 .1 .1 .1 .0)) tt),
+      c .before .before .before .before .fixed-of .ensures,
+      ap placed (c .before .before .before .before .before .before .before .window-of .ensures) ∙ window-places (now (s .args .window)) (subst T (sym (s .pre .1 .1 .1 .1 .0)) tt),
       few,
-      sectors-taken (now (s .args .sectors)) _ _ count few (c .before .before .before .before .sectors-of .ensures),
-      day-of-its-hour _ _ _ _ _ (c .kept-hour .ensures) (c .before .before .read-day .ensures),
+      sectors-taken (now (s .args .sectors)) _ _ count few (c .before .before .before .before .before .sectors-of .ensures),
+      day-of-its-hour _ _ _ _ _ (c .kept-hour .ensures) (c .before .before .before .read-day .ensures),
       of-its-hour _ _ _ _ (c .kept-hour .ensures),
       λ e. never e,
       refl,
       at-start (job s) (s .args .count) (now (s .args .results)),
       refl,
       s .pre .1 .1 .1 .1 .1 .1 .0 ∙ none-added (leapYear (s .args .site)) (s .args .run) (now (s .args .results)) (now (s .args .totals)),
-      c .before .parts-of .ensures ∙ ap (λ (h : ℕ). partsOf (leapYear (s .args .site)) (h / 24)) (sym (its-hour (s .args .site) (s .args .surface) _ _ (c .kept-hour .ensures))),
+      c .before .read-totals .ensures ∙ ap (λ (h : ℕ). keptTotals (leapYear (s .args .site)) (h / 24) (now (s .args .totals))) (sym (its-hour (s .args .site) (s .args .surface) _ _ (c .kept-hour .ensures))),
     )
 
 -- what the totals have where the loop goes on
@@ -150,51 +150,54 @@ day-there s i time e h =
 
 day-for-requires : tie.Need-day-for-requires Inv-loop μ-loop
 day-for-requires c κs =
-    let l = c .before .before .before .before in
-    let s = l .before .before .before .before .before .before .before .before .before .before .before .before .before .before .before .before .before in
-    let there = day-there s (l .loop .i) (l .loop .time) (l .loop .inv .9) (c .before .before .before .loop-test .taken) in
-    (s .pre .1 .1 .1 .1 .1 .0, (subst (λ (h : ℕ). h / 24 < 366) (sym (c .before .before .current-hour .ensures)) there, of-its-day _ _ (l .loop .inv .6)))
+    let l = c .before .before .before .before .before .before in
+    let s = l .before .before .before .before .before .before .before .before .before .before .before .before .before .before .before .before .before .before in
+    let there = day-there s (l .loop .i) (l .loop .time) (l .loop .inv .9) (c .before .before .before .before .before .loop-test .taken) in
+    (s .pre .1 .1 .1 .1 .1 .0, (subst (λ (h : ℕ). h / 24 < 366) (sym (c .before .before .before .before .current-hour .ensures)) there, of-its-day _ _ (l .loop .inv .6)))
 
-parts-for-requires : tie.Need-parts-for-requires Inv-loop μ-loop
-parts-for-requires c κs =
-    let l = c .before .before .before .before .before in
-    let s = l .before .before .before .before .before .before .before .before .before .before .before .before .before .before .before .before .before in
+read-totals-requires-2 : tie.Need-read-totals-requires-2 Inv-loop μ-loop
+read-totals-requires-2 c κs =
+    let l = c .before .before .before .before .before .before .before in
+    let s = l .before .before .before .before .before .before .before .before .before .before .before .before .before .before .before .before .before .before in
     let q = l .loop in
-    let there = day-of s (q .i) (c .before .before .before .before .loop-test .taken) in
-    let day = ap (λ (h : ℕ). h / 24) (c .before .before .before .current-hour .ensures) ∙ ap (λ (t : Float). currentHour t / 24) (q .inv .9) in
-    (subst (λ (d : ℕ). d < daysInYear (leapYear (s .args .site))) (sym day) there, same-parts _ _ _ (q .inv .13))
+    let there = day-of s (q .i) (c .before .before .before .before .before .before .loop-test .taken) in
+    let day = ap (λ (h : ℕ). h / 24) (c .before .before .before .before .before .current-hour .ensures) ∙ ap (λ (t : Float). currentHour t / 24) (q .inv .9) in
+    subst (λ (d : ℕ). d < daysInYear (leapYear (s .args .site))) (sym day) there
 
 kept-hour-requires-2 : tie.Need-kept-hour-requires-2 Inv-loop μ-loop
-kept-hour-requires-2 c κs = (c .before .before .before .before .before .before .loop .inv .2, c .before .day-for .ensures)
+kept-hour-requires-2 c κs = (c .before .before .before .before .before .before .before .loop .inv .2, c .day-for .ensures)
 
 -- the day and the hour that the step goes by, and its factor where it is shaded, whichever way they came
 kept-now : (c : tie.Joined1 Inv-loop μ-loop)
     → let l = c .before .before .before .before in
-    let s = l .before .before .before .before .before .before .before .before .before .before .before .before .before .before .before .before .before in
+    let s = l .before .before .before .before .before .before .before .before .before .before .before .before .before .before .before .before .before .before in
     (c .if1 .day ≡ keptDay (currentHour (l .loop .time) / 24))
     × (c .if1 .kept ≡ keptHour (s .args .site) (s .args .surface) (currentHour (l .loop .time)))
     × (c .if1 .shaded ≡ true → l .loop .factor ≡ shadingAt (s .args .surface) (hourOf (s .args .site) (currentHour (l .loop .time))) (now (s .args .sectors)) (now (s .args .window)))
-    × (c .if1 .parts ≡ partsOf (leapYear (s .args .site)) (currentHour (l .loop .time) / 24))
+    × (c .if1 .kept-totals ≡ keptTotals (leapYear (s .args .site)) (currentHour (l .loop .time) / 24) (l .loop .totals))
 kept-now c =
     let l = c .before .before .before .before in
-    let a = l .before .before .before .before .before .before .before .before .before .before .before .before .before .before .before .before .before .args in
+    let a = l .before .before .before .before .before .before .before .before .before .before .before .before .before .before .before .before .before .before .args in
     let q = l .loop .inv in
     let same = c .before .before .current-hour .ensures in
     let hour = keptHour (a .site) (a .surface) in
-    let parts : ℕ → Parts = λ (h : ℕ). partsOf (leapYear (a .site)) (h / 24) in
+    let totals : ℕ → KeptTotals = λ (h : ℕ). keptTotals (leapYear (a .site)) (h / 24) (l .loop .totals) in
     let shade : ℕ → FactorAnswer = λ (h : ℕ). shadingAt (a .surface) (hourOf (a .site) h) (now (a .sectors)) (now (a .window)) in
     ⊎-elim
     (λ w. (
-      w .4 ∙ w .1 .ensures ∙ ap (λ (h : ℕ). keptDay (h / 24)) same,
-      w .6 ∙ w .3 .ensures ∙ ap hour same,
-      λ e. never (sym (w .7) ∙ e),
-      w .5 ∙ w .2 .ensures ∙ ap parts same,
+      w .5 ∙ w .3 .ensures ∙ ap (λ (h : ℕ). keptDay (h / 24)) same,
+      w .7 ∙ w .4 .ensures ∙ ap hour same,
+      λ e. never (sym (w .8) ∙ e),
+      w .6
+          ∙ ⊎-elim (λ v. v .3 ∙ v .2 .ensures ∙ ap totals same)
+          (λ v. v .1 ∙ q .13 ∙ ap (λ (d : ℕ). keptTotals (leapYear (a .site)) d (l .loop .totals)) (sym (v .0 .left ∙ its-index _ _ (q .6)) ∙ ap (λ (h : ℕ). h / 24) same))
+          (w .2 .came),
     ))
     (λ w. (
       w .1 ∙ q .6 ∙ ap (λ (h : ℕ). keptDay (h / 24)) (sym (w .0 .left) ∙ same),
       w .3 ∙ q .7 ∙ ap hour (sym (w .0 .left) ∙ same),
       λ e. q .8 (sym (w .4) ∙ e) ∙ ap shade (sym (w .0 .left) ∙ same),
-      w .2 ∙ q .13 ∙ ap parts (sym (w .0 .left) ∙ same),
+      w .2 ∙ q .13 ∙ ap totals (sym (w .0 .left) ∙ same),
     ))
     (c .if1 .came)
 
@@ -208,7 +211,7 @@ place-index-requires c κs = tt
 there : (c : tie.After-place-index Inv-loop μ-loop) → c .place-index .result < 36
 there c =
     let l = c .before .before .before .before .before .before .before in
-    let a = l .before .before .before .before .before .before .before .before .before .before .before .before .before .before .before .before .before .args in
+    let a = l .before .before .before .before .before .before .before .before .before .before .before .before .before .before .before .before .before .before .args in
     subst (λ (i : ℕ). i < 36) (sym (c .place-index .ensures)) (index-fits (a .surface) _ _ _ _ (l .loop .inv .4) _ (c .before .sun-place .ensures))
 
 mul-segment : tie.Need-mul-segment Inv-loop μ-loop
@@ -225,13 +228,13 @@ holds true e = refl
 holds false e = sym e
 
 -- the factor that the step goes by, whichever way it came
-factor-now : (c : tie.Joined2 Inv-loop μ-loop)
+factor-now : (c : tie.Joined3 Inv-loop μ-loop)
     → let l = c .before .before .before .before .before in
-    let s = l .before .before .before .before .before .before .before .before .before .before .before .before .before .before .before .before .before in
-    c .if2 .factor ≡ shadingAt (s .args .surface) (hourOf (s .args .site) (currentHour (l .loop .time))) (now (s .args .sectors)) (now (s .args .window))
+    let s = l .before .before .before .before .before .before .before .before .before .before .before .before .before .before .before .before .before .before in
+    c .if3 .factor ≡ shadingAt (s .args .surface) (hourOf (s .args .site) (currentHour (l .loop .time))) (now (s .args .sectors)) (now (s .args .window))
 factor-now c =
     let l = c .before .before .before .before .before in
-    let s = l .before .before .before .before .before .before .before .before .before .before .before .before .before .before .before .before .before in
+    let s = l .before .before .before .before .before .before .before .before .before .before .before .before .before .before .before .before .before .before in
     let a = s .args in
     let q = l .loop .inv in
     let kept = kept-now (c .before) in
@@ -239,12 +242,12 @@ factor-now c =
     (λ w.
     kept-factor (a .site) (a .surface) _ _ (kept .1) (now (a .sectors)) (now (a .window)) _ _ _ (q .5) (q .3)
     (w .5 ∙ w .4 .ensures
-    ∙ factor-by-table (a .surface) _ _ _ _ (q .4) _ _ _ _ (w .1 .ensures) (ap (λ (i : ℕ). getD (l .before .before .before .before .before .sectors-of .result) i _) (w .2 .ensures))))
+    ∙ factor-by-table (a .surface) _ _ _ _ (q .4) _ _ _ _ (w .1 .ensures) (ap (λ (i : ℕ). getD (l .before .before .before .before .before .before .sectors-of .result) i _) (w .2 .ensures))))
     (λ w. w .1 ∙ kept .2 (holds _ (w .0 .left)))
-    (c .if2 .came)
+    (c .if3 .came)
 
 step-at-requires : tie.Need-step-at-requires Inv-loop μ-loop
-step-at-requires c κs = let s = c .before .before .before .before .before .before .before .before .before .before .before .before .before .before .before .before .before .before .before .before .before .before in start-day (s .args .site) (subst T (sym (s .pre .0)) tt)
+step-at-requires c κs = let s = c .before .before .before .before .before .before .before .before .before .before .before .before .before .before .before .before .before .before .before .before .before .before .before in start-day (s .args .site) (subst T (sym (s .pre .0)) tt)
 
 enum-known-answer : tie.Need-enum-known-answer Inv-loop μ-loop
 enum-known-answer c = search needs
@@ -263,7 +266,7 @@ unfolding readingAt indexAt rowsStored
 returns c =
     let j = c .before .before .before .before .before in
     let l = j .before .before .before .before .before in
-    let s = l .before .before .before .before .before .before .before .before .before .before .before .before .before .before .before .before .before in
+    let s = l .before .before .before .before .before .before .before .before .before .before .before .before .before .before .before .before .before .before in
     let q = l .loop in
     let e = job-step (job s) (q .time) _ (by-kept (s .args .site) (s .args .surface) (now (s .args .sectors)) (now (s .args .window)) (q .time) (readingAt (job s) (q .time)) _ _ _ _ (q .inv .2) (kept-now (j .before) .1) (factor-now j) (c .before .before .before .before .step-at .ensures)) in
     let below : q .i < s .args .count = omega (arith, j .before .before .before .before .loop-test .taken) in (
@@ -276,21 +279,27 @@ returns c =
 enum-known-answer-2 : tie.Need-enum-known-answer-2 Inv-loop μ-loop
 enum-known-answer-2 c = search needs
 
-keep-row-requires : tie.Need-keep-row-requires Inv-loop μ-loop
-keep-row-requires c κs =
-    let j = c .before .before .before .before .before .before in
+store-row-requires : tie.Need-store-row-requires Inv-loop μ-loop
+store-row-requires c κs = let j = c .before .before .before .before .before in let s = j .before .before .before .before .before .before .before .before .before .before .before .before .before .before .before .before .before .before .before .before .before .before .before in few s _ (j .before .before .before .before .loop-test .taken)
+
+add-row-requires : tie.Need-add-row-requires Inv-loop μ-loop
+add-row-requires c κs =
+    let j = c .before .before .before .before .before .before .before .before .before in
     let l = j .before .before .before .before .before in
-    let s = l .before .before .before .before .before .before .before .before .before .before .before .before .before .before .before .before .before in
+    let s = l .before .before .before .before .before .before .before .before .before .before .before .before .before .before .before .before .before .before in
     let q = l .loop in
     let on = j .before .before .before .before .loop-test .taken in
-    let parts = kept-now (j .before) .3 ∙ ap (λ (t : Float). partsOf (leapYear (s .args .site)) (currentHour t / 24)) (q .inv .9) in
-    (few s (q .i) on, parts-counted (job s) (q .i) (q .results) (now (s .args .totals)) (q .totals) (few s (q .i) on) (room s (q .i) on (q .results) (q .inv .1)) (day-of s (q .i) on) (q .inv .12) _ parts)
+    let totals = kept-now (j .before) .3 ∙ ap (λ (t : Float). keptTotals (leapYear (s .args .site)) (currentHour t / 24) (q .totals)) (q .inv .9) in
+    kept-counted (job s) (q .i) (q .results) (now (s .args .totals)) (q .totals) (few s (q .i) on) (room s (q .i) on (q .results) (q .inv .1)) (day-of s (q .i) on) (q .inv .12) _ totals
+
+with-row-requires : tie.Need-with-row-requires Inv-loop μ-loop
+with-row-requires c κs = tt
 
 add-i : tie.Need-add-i Inv-loop μ-loop
-add-i c = let j = c .before .before .before .before .before .before .before .before .before .before .before .before in let s = j .before .before .before .before .before .before .before .before .before .before .before .before .before .before .before .before .before .before .before .before .before .before in omega (arith, j .before .before .before .before .loop-test .taken, few-steps s)
+add-i c = let j = c .before .before .before .before .before .before .before .before .before .before .before .before .before .before in let s = j .before .before .before .before .before .before .before .before .before .before .before .before .before .before .before .before .before .before .before .before .before .before .before in omega (arith, j .before .before .before .before .loop-test .taken, few-steps s)
 
 loop-less : tie.Need-loop-less Inv-loop μ-loop
-loop-less c = let j = c .before .before .before .before .before .before .before .before .before .before .before .before in omega (arith, j .before .before .before .before .loop-test .taken)
+loop-less c = let j = c .before .before .before .before .before .before .before .before .before .before .before .before .before .before in omega (arith, j .before .before .before .before .loop-test .taken)
 
 next-time : (run : Run) (i : ℕ) → timeAt run i ⊕ run .step ≡ timeAt run (i + 1)
 unfolding timeAt
@@ -299,22 +308,23 @@ next-time run i = let e : i + 1 ≡ suc i = omega arith in rw e
 loop-again : tie.Need-loop-again Inv-loop μ-loop
 unfolding readingAt indexAt
 loop-again c =
-    let j = c .before .before .before .before .before .before .before .before .before .before .before .before in
+    let j = c .before .before .before .before .before .before .before .before .before .before .before .before .before .before in
     let l = j .before .before .before .before .before in
-    let s = l .before .before .before .before .before .before .before .before .before .before .before .before .before .before .before .before .before in
+    let s = l .before .before .before .before .before .before .before .before .before .before .before .before .before .before .before .before .before .before in
     let a = s .args in
     let q = l .loop in
-    let row = c .before .before .before .before .before .before .before .before .before .answer2 .given .0 .0 in
+    let row = c .before .before .before .before .before .before .before .before .before .before .before .answer2 .given .0 .0 in
     let kept = kept-now (j .before) in
     let hour = its-hour (a .site) (a .surface) _ _ (kept .1) in
     let shade : ℕ → FactorAnswer = λ (h : ℕ). shadingAt (a .surface) (hourOf (a .site) h) (now (a .sectors)) (now (a .window)) in
-    let e = job-step (job s) (q .time) _ (by-kept (a .site) (a .surface) (now (a .sectors)) (now (a .window)) (q .time) (readingAt (job s) (q .time)) _ _ _ _ (q .inv .2) (kept .1) (factor-now j) (c .before .before .before .before .before .before .before .before .before .before .before .step-at .ensures)) in
+    let e = job-step (job s) (q .time) _ (by-kept (a .site) (a .surface) (now (a .sectors)) (now (a .window)) (q .time) (readingAt (job s) (q .time)) _ _ _ _ (q .inv .2) (kept .1) (factor-now j) (c .before .before .before .before .before .before .before .before .before .before .before .before .before .step-at .ensures)) in
     let on = j .before .before .before .before .loop-test .taken in
-    let kept-row = c .before .before .before .before .before .keep-row .ensures in
-    let stored = kept-row .1 .1 in
-    let added = kept-row .0 in
-    let here = sym e ∙ c .before .before .before .before .before .before .before .before .before .answer2 .given .1 in
-    let parts = kept .3 ∙ ap (λ (t : Float). partsOf (leapYear (a .site)) (currentHour t / 24)) (q .inv .9) in (
+    let stored = c .before .before .before .before .before .before .before .before .store-row .ensures in
+    let added = c .before .with-row .ensures in
+    let both = c .before .before .before .before .add-row .ensures in
+    let here = sym e ∙ c .before .before .before .before .before .before .before .before .before .before .before .answer2 .given .1 in
+    let totals = kept .3 ∙ ap (λ (t : Float). keptTotals (leapYear (a .site)) (currentHour t / 24) (q .totals)) (q .inv .9) in
+    let at-time = subst (λ (t : Float). stepAt (job s) t ≡ step.Row row) (q .inv .9) here in (
       omega (arith, on),
       ap length stored ∙ length-putRow (q .results) (q .i) row ∙ q .inv .1,
       q .inv .2,
@@ -328,9 +338,9 @@ loop-again c =
       (λ x. runFrom (a .count - (q .i + 1)) (job s) (q .i + 1) (q .time ⊕ a .run .step) (added x) (stored x))
           ∙ row-next (job s) (a .count) (q .i) (q .time) (q .sum) (q .results) row here on
           ∙ q .inv .10,
-      ap length (kept-row .1 .0) ∙ length-added _ _ row (q .totals) ∙ q .inv .11,
-      totals-next (job s) (q .i) (q .results) (now (a .totals)) (q .totals) (few s (q .i) on) (room s (q .i) on (q .results) (q .inv .1)) (day-of s (q .i) on) (q .inv .12) row _ _ _ (subst (λ (t : Float). stepAt (job s) t ≡ step.Row row) (q .inv .9) here) parts (kept-row .1 .0) stored,
-      kept .3 ∙ ap (λ (h : ℕ). partsOf (leapYear (a .site)) (h / 24)) (sym hour),
+      ap length (both .1) ∙ length-kept (q .totals) _ ∙ q .inv .11,
+      totals-next (job s) (q .i) (q .results) (now (a .totals)) (q .totals) (few s (q .i) on) (room s (q .i) on (q .results) (q .inv .1)) (day-of s (q .i) on) (q .inv .12) _ totals row _ _ at-time (both .1) stored,
+      kept-next (job s) (q .i) (q .results) (now (a .totals)) (q .totals) (few s (q .i) on) (room s (q .i) on (q .results) (q .inv .1)) (day-of s (q .i) on) (q .inv .12) _ totals row _ _ at-time (both .1) stored _ _ (both .0) (hour ∙ ap currentHour (q .inv .9)),
     )
 
 same-length-3 : tie.Need-same-length-3 Inv-loop μ-loop
@@ -343,7 +353,7 @@ returns-2 : tie.Need-returns-2 Inv-loop μ-loop
 unfolding rowsStored
 returns-2 c =
     let l = c .before in
-    let s = l .before .before .before .before .before .before .before .before .before .before .before .before .before .before .before .before .before in
+    let s = l .before .before .before .before .before .before .before .before .before .before .before .before .before .before .before .before .before .before in
     let q = l .loop in
     let done : q .i ≡ s .args .count = omega (arith, c .loop-test .left, q .inv .0) in (
       at-end (job s) (s .args .count) (q .i) (q .time) (q .sum) (q .results) done ∙ q .inv .10,
@@ -361,12 +371,12 @@ run-steps-spec =
     sectors-of-requires
     fixed-of-requires
     read-day-requires
-    parts-of-requires
+    read-totals-requires
     kept-hour-requires
     loop-holds
     current-hour-requires
+    read-totals-requires-2
     day-for-requires
-    parts-for-requires
     kept-hour-requires-2
     sun-place-requires
     place-index-requires
@@ -380,7 +390,9 @@ run-steps-spec =
     same-length-2
     returns
     enum-known-answer-2
-    keep-row-requires
+    store-row-requires
+    add-row-requires
+    with-row-requires
     add-i
     loop-less
     loop-again
