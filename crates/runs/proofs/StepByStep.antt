@@ -4,6 +4,7 @@ use mathlib.Core.Bool.{Bool}
 use mathlib.Core.List.{List}
 use Prim.Native.Nat.{ℕ, suc, _+_, _-_, _*_, _/_, _≤_, _<_}
 use native.Mathlib.Omega.{arith}
+use lib.ListN.{length}
 use lib.Ieee.{Float}
 use Rattle.doubles.specs.Arithmetic.{_⊕_, whole}
 use Rattle.words.specs.Words.{wordCount}
@@ -28,7 +29,7 @@ use Rattle.jobs.proofs.StepRows.{step-row, row-fits}
 use Rattle.jobs.proofs.RunLaws.{run-ended, run-refused, run-onward}
 use Rattle.jobs.proofs.TotalsLaws.{month-to, month-few, day-to, day-few}
 use Rattle.totals.specs.declared.KeptTotals.{KeptTotals}
-use Rattle.totals.specs.Kept.{emptied, partsOf, keptTotals, withRowAdded, putKept}
+use Rattle.totals.specs.Kept.{emptied, partsOf, keptTotals, CanAdd, withRowAdded, putKept}
 use Rattle.totals.proofs.Kept.{few-added, kept-added, row-added, over-emptied}
 
 pub job-step : (job : Job) (time : Float) (answer : StepAnswer) → answer ≡ stepWith (job .site) (job .surface) (job .sectors) (job .window) time (readingAt job time)
@@ -90,14 +91,24 @@ module _ (job : Job) (i : ℕ) (results totals₀ totals : List ℕ) (few : i < 
     few-counted : (k : ℕ) → k < totalsCount leap → totalsAt totals k .count < 35137
     few-counted k h = subst (λ (l : List ℕ). totalsAt l k .count < 35137) (sym kept) (few-added leap (job .run) results totals₀ i k few h)
 
-    pub kept-counted : ((old .parts .day < 378) × (old .parts .month < 378)) × ((old .day .count < 35137) × (old .month .count < 35137))
-    kept-counted =
-        subst (λ (k : KeptTotals). ((k .parts .day < 378) × (k .parts .month < 378)) × ((k .day .count < 35137) × (k .month .count < 35137))) (sym known) counted
+    pub can-add : 24 * totalsCount leap ≤ length totals → CanAdd totals old
+    can-add fits = subst (CanAdd totals) (sym known) counted
       where
-        counted : let k = keptTotals leap (dayOfStep (job .run) i) totals in
-            ((k .parts .day < 378) × (k .parts .month < 378)) × ((k .day .count < 35137) × (k .month .count < 35137))
-        counted = unfold keptTotals partsOf in
-            ((day-few leap day there, month-few leap day there), (few-counted day (day-to leap day there), few-counted (monthPart leap day) (month-to leap day there)))
+        month-below : monthPart leap day < totalsCount leap
+        month-below = month-to leap day there
+
+        day-below : day < totalsCount leap
+        day-below = day-to leap day there
+
+        counted : CanAdd totals (keptTotals leap day totals)
+        counted = unfold keptTotals partsOf in record {
+          day-of-year = day-few leap day there;
+          month-of-year = month-few leap day there;
+          day-there = omega (arith, fits, day-below);
+          month-there = omega (arith, fits, month-below);
+          day-count = few-counted day day-below;
+          month-count = few-counted (monthPart leap day) month-below;
+        }
 
 -- the totals of a run whose list was emptied before
 pub totals-done : (leap : Bool) (run : Run) (totals₀ totals totals' results' : List ℕ) (answer : RunAnswer) (done : Ran)

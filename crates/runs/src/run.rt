@@ -2,6 +2,7 @@
 ghost use mathlib.Core.Path.{_≡_};
 ghost use mathlib.Core.Bool.{true};
 ghost use Prim.Native.Nat.{_*_, _≤_};
+ghost use lib.ListN.{length};
 ghost use Rattle.doubles.specs.Arithmetic.{whole};
 ghost use Rattle.object_checks.specs.Checks.{sectorsFine, windowFine};
 ghost use Rattle.words.specs.Words.{wordCount};
@@ -12,7 +13,7 @@ ghost use Rattle.simulation_time.specs.RunChecks.{runAccepted};
 ghost use Rattle.jobs.specs.declared.answers.RunAnswer.the-variants.{Refused};
 ghost use Rattle.jobs.specs.Job.{jobOf};
 ghost use Rattle.jobs.specs.JobChecks.{seriesChecked, checked};
-ghost use Rattle.jobs.specs.Totals.{withTotals};
+ghost use Rattle.jobs.specs.Totals.{totalsCount, withTotals};
 ghost use Rattle.jobs.specs.Run.{ran, lent, left, roomFine, runFrom, rowsStored, runOf};
 ghost use Rattle.totals.specs.Kept.{emptied};
 use crate::series::series_fine;
@@ -178,6 +179,7 @@ fn run_steps(
     requires { ⌜ windowFine (now window) ≡ true ⌝ }
     requires { ⌜ HoldsDays (now days) ⌝ }
     requires { ⌜ now totals ≡ emptied (leapYear site) (now totals) ⌝ }
+    requires { ⌜ 24 * totalsCount (leapYear site) ≤ length (now totals) ⌝ }
     requires { ⌜ 6 * count ≤ wordCount (now results) ⌝ }
     ensures { λ r. ⌜ ran r (now (results .exit)) ≡ runFrom count
         (jobOf site run surface (now (diffuse .entry)) (now (direct .entry)) (now (reflectivity .entry)) (now (sectors .entry)) (now (window .entry)))

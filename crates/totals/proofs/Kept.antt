@@ -9,7 +9,7 @@ use native.Mathlib.Omega.{arith}
 use native.Mathlib.Nat.{lt-trans, lt-of-le-of-lt}
 use borrow.Author.Tests.{eq-eqb, ne-eqb}
 use lib.Dec.{eqb, lit<}
-use lib.ListN.{length, drop}
+use lib.ListN.{length, drop, length-append, length-drop}
 use lib.Seq.{drop-at}
 use lib.Ieee.{Float}
 use Rattle.words.specs.Words.{wordCount}
@@ -46,6 +46,13 @@ small-next i h = lt-of-le-of-lt h (lit< tt)
 pub none-added : (leap : Bool) (run : Run) (results totals : List ℕ) → emptied leap totals ≡ withTotals leap run results 0 totals
 unfolding emptied withTotals totalsAtPart totalsOf
 none-added leap run results totals = refl
+
+-- emptied, a list that has room is as long as it was
+pub length-emptied : (leap : Bool) (totals : List ℕ) → 24 * totalsCount leap ≤ length totals → length (emptied leap totals) ≡ length totals
+unfolding emptied
+length-emptied leap totals h =
+    length-append (totalsRecords (λ (k : ℕ). noTotals) (totalsCount leap) 0) (drop (24 * totalsCount leap) totals)
+    ∙ omega (arith, length-records (λ (k : ℕ). noTotals) (totalsCount leap) 0, length-drop (24 * totalsCount leap) totals, h)
 
 -- emptying leaves the bytes behind
 behind-emptied : (leap : Bool) (totals : List ℕ) → drop (24 * totalsCount leap) (emptied leap totals) ≡ drop (24 * totalsCount leap) totals

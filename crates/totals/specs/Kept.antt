@@ -2,8 +2,8 @@
 -- the totals of the stored rows.
 use mathlib.Core.Bool.{Bool}
 use mathlib.Core.List.{List, _++_}
-use Prim.Native.Nat.{ℕ, _*_}
-use lib.ListN.{drop}
+use Prim.Native.Nat.{ℕ, _+_, _*_, _≤_, _<_}
+use lib.ListN.{length, drop}
 use lib.Ieee.{Float}
 use Rattle.jobs.specs.declared.answers.Row.{Row}
 use Rattle.totals.specs.declared.Parts.{Parts}
@@ -21,6 +21,15 @@ partsOf leap day = record { day = day; month = monthPart leap day }
 -- both records, as they stand in a list
 unfoldable pub keptTotals : Bool → ℕ → List ℕ → KeptTotals
 keptTotals leap day totals = record { parts = partsOf leap day; day = totalsAt totals day; month = totalsAt totals (monthPart leap day) }
+
+-- a step can be added: the list has both records, and they count fewer steps than a run can have
+pub record CanAdd (totals : List ℕ) (kept : KeptTotals) : Type 0 where
+  pub day-of-year : kept .parts .day < 378
+  pub month-of-year : kept .parts .month < 378
+  pub day-there : 24 * kept .parts .day + 24 ≤ length totals
+  pub month-there : 24 * kept .parts .month + 24 ≤ length totals
+  pub day-count : kept .day .count < 35137
+  pub month-count : kept .month .count < 35137
 
 -- one step more in both
 unfoldable pub withRowAdded : Float → Row → KeptTotals → KeptTotals

@@ -1,10 +1,10 @@
 // Day and month totals, kept from step to step in a lent list of bytes.
 ghost use mathlib.Core.Path.{_≡_};
-ghost use Prim.Native.Nat.{_*_, _≤_, _<_};
+ghost use Prim.Native.Nat.{_+_, _*_, _≤_, _<_};
 ghost use lib.ListN.{length};
 ghost use Rattle.calendar.specs.Calendar.{daysInYear};
 ghost use Rattle.jobs.specs.Totals.{withStep, totalsCount, totalsAt, putTotals};
-ghost use Rattle.totals.specs.Kept.{emptied, partsOf, keptTotals, withRowAdded, putKept};
+ghost use Rattle.totals.specs.Kept.{emptied, partsOf, keptTotals, CanAdd, withRowAdded, putKept};
 use calendar::date_of;
 use calendar::days_in_year;
 use doubles::float_max;
@@ -12,8 +12,8 @@ use jobs::answers::Row;
 use jobs::answers::Totals;
 use steps::rows::with_row;
 use words::double_at;
-use words::store_double;
-use words::store_word;
+use words::store_double_within;
+use words::store_word_within;
 use words::word_at;
 
 // One step more, which is so many hours long. Of equal totals `float_max` takes the second, the latest, and it drops a NaN.
@@ -41,15 +41,16 @@ pub fn totals_at(totals: &[u8], k: usize) -> Totals
     }
 }
 
-// Stores the k-th record.
+// Stores the k-th record of a list that has it.
 pub fn store_totals(totals: &mut [u8], k: usize, new: Totals)
     requires { ⌜ k < 378 ⌝ }
+    requires { ⌜ 24 * k + 24 ≤ length (now totals) ⌝ }
     ensures { λ _. ⌜ now (totals .exit) ≡ putTotals (now (totals .entry)) k new ⌝ }
 {
     let word = 3 * k;
-    store_word(totals, word, new.count);
-    store_double(totals, word + 1, new.largest);
-    store_double(totals, word + 2, new.sum);
+    store_word_within(totals, word, new.count);
+    store_double_within(totals, word + 1, new.largest);
+    store_double_within(totals, word + 2, new.sum);
 }
 
 // All records of the year, as they are before the first step.
@@ -108,8 +109,7 @@ pub fn read_totals(totals: &[u8], leap: bool, day: u32) -> KeptTotals
 
 // A step's row, added to the totals of its day and to those of its month, in the list too.
 pub fn add_row(totals: &mut [u8], kept: KeptTotals, step: f64, row: Row) -> KeptTotals
-    requires { ⌜ (kept .parts .day < 378) × (kept .parts .month < 378) ⌝ }
-    requires { ⌜ (kept .day .count < 35137) × (kept .month .count < 35137) ⌝ }
+    requires { ⌜ CanAdd (now totals) kept ⌝ }
     ensures { λ r. ⌜ r ≡ withRowAdded step row kept ⌝ }
     ensures { λ _. ⌜ now (totals .exit) ≡ putKept (now (totals .entry)) (withRowAdded step row kept) ⌝ }
 {

@@ -58,27 +58,35 @@ pub fn word_at(bytes: &[u8], k: usize) -> u64
     0
 }
 
+// Writes w as the k-th word of a list that has it.
+pub fn store_word_within(bytes: &mut [u8], k: usize, w: u64)
+    requires { ⌜ k < wordCount (now bytes) ⌝ }
+    ensures { λ _. ⌜ now (bytes .exit) ≡ putWord (now (bytes .entry)) k w ⌝ }
+{
+    let a = 8 * k;
+    let w1 = w / 256;
+    let w2 = w1 / 256;
+    let w3 = w2 / 256;
+    let w4 = w3 / 256;
+    let w5 = w4 / 256;
+    let w6 = w5 / 256;
+    let w7 = w6 / 256;
+    bytes[a] = (w % 256) as u8;
+    bytes[a + 1] = (w1 % 256) as u8;
+    bytes[a + 2] = (w2 % 256) as u8;
+    bytes[a + 3] = (w3 % 256) as u8;
+    bytes[a + 4] = (w4 % 256) as u8;
+    bytes[a + 5] = (w5 % 256) as u8;
+    bytes[a + 6] = (w6 % 256) as u8;
+    bytes[a + 7] = (w7 % 256) as u8;
+}
+
 // Writes w as the k-th word; where there is no such whole word nothing is written.
 pub fn store_word(bytes: &mut [u8], k: usize, w: u64)
     ensures { λ _. ⌜ now (bytes .exit) ≡ putWord (now (bytes .entry)) k w ⌝ }
 {
     if k < bytes.len() / 8 {
-        let a = 8 * k;
-        let w1 = w / 256;
-        let w2 = w1 / 256;
-        let w3 = w2 / 256;
-        let w4 = w3 / 256;
-        let w5 = w4 / 256;
-        let w6 = w5 / 256;
-        let w7 = w6 / 256;
-        bytes[a] = (w % 256) as u8;
-        bytes[a + 1] = (w1 % 256) as u8;
-        bytes[a + 2] = (w2 % 256) as u8;
-        bytes[a + 3] = (w3 % 256) as u8;
-        bytes[a + 4] = (w4 % 256) as u8;
-        bytes[a + 5] = (w5 % 256) as u8;
-        bytes[a + 6] = (w6 % 256) as u8;
-        bytes[a + 7] = (w7 % 256) as u8;
+        store_word_within(bytes, k, w);
     }
 }
 
@@ -130,4 +138,12 @@ pub fn store_double(bytes: &mut [u8], k: usize, x: f64)
     ensures { λ _. ⌜ now (bytes .exit) ≡ putDouble (now (bytes .entry)) k x ⌝ }
 {
     store_word(bytes, k, bits_of_double(x));
+}
+
+// The same in a list that has it.
+pub fn store_double_within(bytes: &mut [u8], k: usize, x: f64)
+    requires { ⌜ k < wordCount (now bytes) ⌝ }
+    ensures { λ _. ⌜ now (bytes .exit) ≡ putDouble (now (bytes .entry)) k x ⌝ }
+{
+    store_word_within(bytes, k, bits_of_double(x));
 }

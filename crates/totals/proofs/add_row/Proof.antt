@@ -1,5 +1,5 @@
 -- `add_row` meets its contract.
-use mathlib.Core.Path.{_≡_, ap₂, _∙_}
+use mathlib.Core.Path.{_≡_}
 use Rattle.totals.specs.declared.KeptTotals.{KeptTotals}
 use Rattle.totals.specs.Kept.{withRowAdded, putKept}
 use borrow.Author.Needs.{needs}

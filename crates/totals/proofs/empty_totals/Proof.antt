@@ -54,7 +54,13 @@ cast-store-totals : tie.Need-cast-store-totals Inv-loop μ-loop
 cast-store-totals c = search needs
 
 store-totals-requires : tie.Need-store-totals-requires Inv-loop μ-loop
-store-totals-requires c κs = let l = c .before .before in omega (arith, c .before .loop-test .taken, few (l .before .before .before .args .leap) _ (l .loop .inv .2))
+store-totals-requires c κs =
+    let l = c .before .before in
+    let s = l .before .before .before in
+    let below = c .before .loop-test .taken in
+    let count = l .loop .inv .2 in
+    let long = l .loop .inv .1 in
+    (omega (arith, below, few (s .args .leap) _ count), omega (arith, below, count, long, s .pre))
 
 add-k : tie.Need-add-k Inv-loop μ-loop
 add-k c = let l = c .before .before .before .before .before in omega (arith, c .before .before .before .before .loop-test .taken, few (l .before .before .before .args .leap) _ (l .loop .inv .2))

@@ -1,9 +1,11 @@
 -- `run_job` meets its contract.
-use mathlib.Core.Path.{_≡_, refl, sym, _∙_, subst}
+use mathlib.Core.Path.{_≡_, refl, sym, ap, _∙_, subst}
 use mathlib.Core.List.{List}
 use Prim.Native.Nat.{ℕ, _*_, _≤_}
 use lib.Ieee.Bits.{is-true}
 use denote.Ref.{now}
+use lib.ListN.{length}
+use Rattle.jobs.specs.Totals.{totalsCount}
 use Rattle.words.specs.Words.{wordCount}
 use Rattle.days.specs.Table.{HoldsDays}
 use Rattle.days.proofs.TableLaws.{table-read}
@@ -14,7 +16,7 @@ use Rattle.jobs.specs.Job.{Job, jobOf}
 use Rattle.jobs.specs.Run.{Lent, lent, roomFor, daysLeft, totalsLeft, runOf, runChecked}
 use Rattle.jobs.proofs.PassedChecks.{passed, days-fit, totals-fit, rows-fit}
 use Rattle.totals.specs.Kept.{emptied}
-use Rattle.totals.proofs.Kept.{emptied-again}
+use Rattle.totals.proofs.Kept.{length-emptied, emptied-again}
 use Rattle.runs.proofs.StepByStep.{totals-done}
 use borrow.Author.Needs.{needs}
 use Rattle.runs.proofs.run.run_job.Statement.{statement}
@@ -62,6 +64,8 @@ run-steps-requires c κs =
     let holds = subst HoldsDays (sym filled) (table-read (now (s .args .days)) (days-fit (job s) (lists s) (p .0))) in
     let empty = c .before .before .before .before .before .empty-totals .ensures in
     let none = subst (λ (l : List ℕ). l ≡ emptied leap l) (sym empty) (emptied-again leap (now (s .args .totals))) in
+    let fits = totals-fit (job s) (lists s) (p .0) in
+    let wide = subst (λ (n : ℕ). 24 * totalsCount leap ≤ n) (sym (ap length empty ∙ length-emptied leap (now (s .args .totals)) fits)) fits in
     let rows = subst (λ (n : ℕ). 6 * n ≤ wordCount (now (s .args .results))) (sym (p .1)) (rows-fit (job s) (lists s) (p .0)) in (
       is-true (siteFine (s .args .site)) (p .0 .site-fine),
       (
@@ -70,7 +74,7 @@ run-steps-requires c κs =
           p .1,
           (
             is-true (sectorsFine (now (s .args .sectors))) (p .0 .sectors-fine),
-            (is-true (windowFine (now (s .args .window))) (p .0 .window-fine), (holds, (none, rows))),
+            (is-true (windowFine (now (s .args .window))) (p .0 .window-fine), (holds, (none, (wide, rows)))),
           ),
         ),
       ),

@@ -33,7 +33,7 @@ use Rattle.words.specs.Words.{wordCount}
 use Rattle.calendar.specs.Calendar.{daysInYear}
 use Rattle.sun.specs.Site.{leapYear}
 use Rattle.jobs.specs.Rows.{putRow, withRow}
-use Rattle.jobs.specs.Totals.{dayOfStep, withTotals}
+use Rattle.jobs.specs.Totals.{dayOfStep, totalsCount, withTotals}
 use Rattle.jobs.specs.Run.{ran, runFrom, rowsStored}
 use Rattle.jobs.proofs.PassedChecks.{hour-of-leap-year, day-of-year}
 use Rattle.jobs.proofs.RowStores.{length-putRow}
@@ -43,7 +43,7 @@ use Rattle.runs.proofs.CheckSteps.{start-day}
 use Rattle.totals.specs.declared.KeptTotals.{KeptTotals}
 use Rattle.totals.specs.Kept.{keptTotals}
 use Rattle.totals.proofs.Kept.{none-added, length-kept, year-starts}
-use Rattle.runs.proofs.StepByStep.{job-step, row-next, refused-here, at-end, at-start, totals-next, kept-next, kept-counted}
+use Rattle.runs.proofs.StepByStep.{job-step, row-next, refused-here, at-end, at-start, totals-next, kept-next, can-add}
 use Rattle.runs.proofs.run.run_steps.Statement.{statement}
 use Rattle.runs.proofs.run.run_steps.Tie as tie
 
@@ -137,7 +137,7 @@ module _ (s : tie.Start Inv-loop μ-loop) (i : ℕ) (h : i < s .args .count) whe
   day-of = day-of-year (s .args .site) (s .args .run) (subst T (sym (s .pre .1 .0)) tt) i (subst (λ (n : ℕ). i < n) (s .pre .1 .1 .0) h)
 
   room : (results : List ℕ) → length results ≡ length (now (s .args .results)) → 6 * i + 6 ≤ wordCount results
-  room results e = let fits = s .pre .1 .1 .1 .1 .1 .1 .1 in unfold wordCount in omega (arith, e, h, fits)
+  room results e = let fits = s .pre .1 .1 .1 .1 .1 .1 .1 .1 in unfold wordCount in omega (arith, e, h, fits)
 
 current-hour-requires : tie.Need-current-hour-requires Inv-loop μ-loop
 current-hour-requires c κs = tt
@@ -290,7 +290,7 @@ add-row-requires c κs =
     let q = l .loop in
     let on = j .before .before .before .before .loop-test .taken in
     let totals = kept-now (j .before) .3 ∙ ap (λ (t : Float). keptTotals (leapYear (s .args .site)) (currentHour t / 24) (q .totals)) (q .inv .9) in
-    kept-counted (job s) (q .i) (q .results) (now (s .args .totals)) (q .totals) (few s (q .i) on) (room s (q .i) on (q .results) (q .inv .1)) (day-of s (q .i) on) (q .inv .12) _ totals
+    can-add (job s) (q .i) (q .results) (now (s .args .totals)) (q .totals) (few s (q .i) on) (room s (q .i) on (q .results) (q .inv .1)) (day-of s (q .i) on) (q .inv .12) _ totals (subst (λ (m : ℕ). 24 * totalsCount (leapYear (s .args .site)) ≤ m) (sym (q .inv .11)) (s .pre .1 .1 .1 .1 .1 .1 .1 .0))
 
 with-row-requires : tie.Need-with-row-requires Inv-loop μ-loop
 with-row-requires c κs = tt
