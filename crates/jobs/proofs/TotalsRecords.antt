@@ -10,7 +10,7 @@ use lib.Seq.{sets, sets-eq, take-at, drop-at, length-sets}
 use lib.Ieee.{Float}
 use Rattle.doubles.specs.Order.{Fits}
 use Rattle.words.specs.Words.{bytesOf, bytesOfDouble, wordCount, wordAt, doubleAt, putWord, putDouble}
-use Rattle.words.proofs.Stores.{sets-append}
+use Rattle.words.proofs.Stores.{sets-append, sets-again, sets-comm}
 use Rattle.words.proofs.Laws.{length-bytesOf, put-word-in, wordCount-putWord, other-word, stored-word, length-double, put-double-in, wordCount-putDouble, other-double, stored-double, length-putWord, length-putDouble}
 use Rattle.jobs.specs.declared.answers.Totals.{Totals}
 use Rattle.jobs.specs.Totals.{totalsBytes, totalsAt, putTotals, totalsRecords}
@@ -83,6 +83,24 @@ stored-totals l k t h f =
   where
     other-put : (m : List ℕ) (j : ℕ) (x : Float) (n : ℕ) → n ≢ j → wordAt (putDouble m j x) n ≡ wordAt m n
     other-put m j x n o = unfold putDouble in other-word m j _ n o
+
+-- ---- two stored
+
+-- a record over another one at the same place
+pub put-again : (l : List ℕ) (k : ℕ) (t u : Totals) → 24 * k + 24 ≤ length l → putTotals (putTotals l k t) k u ≡ putTotals l k u
+put-again l k t u h =
+    put-record (putTotals l k t) k u (omega (arith, h, length-putTotals l k t))
+    ∙ ap (λ (m : List ℕ). sets m (24 * k) (totalsBytes u)) (put-record l k t h)
+    ∙ sets-again l (24 * k) (totalsBytes t) (totalsBytes u) (length-record t ∙ sym (length-record u)) ∙ sym (put-record l k u h)
+
+-- two at different places, in either order
+pub put-swapped : (l : List ℕ) (j k : ℕ) (t u : Totals) → j < k → 24 * k + 24 ≤ length l → putTotals (putTotals l j t) k u ≡ putTotals (putTotals l k u) j t
+put-swapped l j k t u b h =
+    put-record (putTotals l j t) k u (omega (arith, h, length-putTotals l j t))
+    ∙ ap (λ (m : List ℕ). sets m (24 * k) (totalsBytes u)) (put-record l j t (omega (arith, h, b)))
+    ∙ sets-comm l (24 * j) (24 * k) (totalsBytes t) (totalsBytes u) (omega (arith, b, length-record t))
+    ∙ ap (λ (m : List ℕ). sets m (24 * j) (totalsBytes t)) (sym (put-record l k u h))
+    ∙ sym (put-record (putTotals l k u) j t (omega (arith, h, b, length-putTotals l k u)))
 
 -- ---- records one behind the other
 

@@ -27,10 +27,10 @@ use Rattle.jobs.specs.Run.{Ran, ran, rowsStored, runFrom}
 use Rattle.jobs.proofs.RowStores.{RowFits}
 use Rattle.jobs.proofs.StepRows.{step-row, row-fits}
 use Rattle.jobs.proofs.RunLaws.{run-ended, run-refused, run-onward}
-use Rattle.jobs.proofs.TotalsLaws.{month-to, month-few, day-to, day-few}
+use Rattle.jobs.proofs.TotalsLaws.{month-from, month-to, month-few, day-to, day-few}
 use Rattle.totals.specs.declared.KeptTotals.{KeptTotals}
-use Rattle.totals.specs.Kept.{emptied, partsOf, keptTotals, CanAdd, withRowAdded, putKept}
-use Rattle.totals.proofs.Kept.{few-added, kept-added, row-added, over-emptied}
+use Rattle.totals.specs.Kept.{emptied, partsOf, keptTotals, withRowAdded, HasRecords, putKept}
+use Rattle.totals.proofs.Kept.{few-added, kept-over, kept-stored, kept-added, row-added, over-emptied}
 
 pub job-step : (job : Job) (time : Float) (answer : StepAnswer) → answer ≡ stepWith (job .site) (job .surface) (job .sectors) (job .window) time (readingAt job time)
     → answer ≡ stepAt job time
@@ -54,61 +54,87 @@ module _ (job : Job) (count i : ℕ) (time sum : Float) (results : List ℕ) whe
 pub at-start : (job : Job) (count : ℕ) (results : List ℕ) → runFrom (count - 0) job 0 (job .run .start) (whole 0) results ≡ runFrom count job 0 (job .run .start) (whole 0) results
 at-start job count results = let z : count - 0 ≡ count = omega arith in ap (λ (n : ℕ). runFrom n job 0 (job .run .start) (whole 0) results) z
 
--- the totals go on by the row that is stored
-module _ (job : Job) (i : ℕ) (results totals₀ totals : List ℕ) (few : i < 35137) (room : 6 * i + 6 ≤ wordCount results)
-    (there : dayOfStep (job .run) i < daysInYear (leapYear (job .site)))
-    (kept : totals ≡ withTotals (leapYear (job .site)) (job .run) results i totals₀) where
+-- ---- the totals: those of the day and the month are kept by value, and stored where the day changes and at the end
+
+-- the list has the records of a day of the year
+pub has-records : (leap : Bool) (day : ℕ) (l totals : List ℕ) (kept : KeptTotals) → kept ≡ keptTotals leap day l → day < daysInYear leap
+    → 24 * totalsCount leap ≤ length totals → HasRecords totals (kept .parts)
+has-records leap day l totals kept e there fits = subst (λ (k : KeptTotals). HasRecords totals (k .parts)) (sym e) records
+  where
+    month-below : monthPart leap day < totalsCount leap
+    month-below = month-to leap day there
+
+    day-below : day < totalsCount leap
+    day-below = day-to leap day there
+
+    records : HasRecords totals (keptTotals leap day l .parts)
+    records = unfold keptTotals partsOf in record {
+      day-of-year = day-few leap day there;
+      month-of-year = month-few leap day there;
+      day-there = omega (arith, fits, day-below);
+      month-there = omega (arith, fits, month-below);
+    }
+
+module _ (job : Job) (i : ℕ) (results totals₀ : List ℕ) (few : i < 35137) where
   abbrev leap : Bool
   leap = leapYear (job .site)
 
-  -- what is kept of its day and its month
-  module _ (old : KeptTotals) (known : old ≡ keptTotals leap (dayOfStep (job .run) i) totals) where
+  abbrev so-far : List ℕ
+  so-far = withTotals leap (job .run) results i totals₀
+
+  -- another day: what was kept is stored, and what the list has of that day is kept
+  pub new-day : (day : ℕ) (totals totals' : List ℕ) (old new : KeptTotals) → day < daysInYear leap → putKept totals old ≡ so-far
+      → totals' ≡ putKept totals old → new ≡ keptTotals leap day totals' → (putKept totals' new ≡ so-far) × (new ≡ keptTotals leap day so-far)
+  new-day day totals totals' old new there kept stored read =
+      let same : totals' ≡ so-far = stored ∙ kept in
+      let known : new ≡ keptTotals leap day so-far = read ∙ ap (keptTotals leap day) same in
+      (ap₂ putKept same known ∙ kept-stored leap (job .run) results totals₀ i day few there, known)
+
+  -- a step of the day whose totals are kept
+  module _ (totals : List ℕ) (old : KeptTotals) (known : old ≡ keptTotals leap (dayOfStep (job .run) i) so-far)
+      (there : dayOfStep (job .run) i < daysInYear leap) where
     abbrev day : ℕ
     day = dayOfStep (job .run) i
 
-    known-kept : old ≡ keptTotals leap day (withTotals leap (job .run) results i totals₀)
-    known-kept = known ∙ ap (keptTotals leap day) kept
+    few-counted : (k : ℕ) → k < totalsCount leap → totalsAt so-far k .count < 35137
+    few-counted k h = few-added leap (job .run) results totals₀ i k few h
 
-    module _ (row : Row) (totals' results' : List ℕ) (here : stepAt job (timeAt (job .run) i) ≡ step.Row row)
-        (stored : totals' ≡ putKept totals (withRowAdded (job .run .step) row old)) (put : results' ≡ putRow results i row) where
-      fits : RowFits row
-      fits = row-fits (step-row job (timeAt (job .run) i) row here)
-
-      so-far : withTotals leap (job .run) (putRow results i row) (suc i) totals₀ ≡ withTotals leap (job .run) results' (i + 1) totals₀
-      so-far = let one : suc i ≡ i + 1 = omega arith in ap₂ (λ (l : List ℕ) (n : ℕ). withTotals leap (job .run) l n totals₀) (sym put) one
-
-      pub totals-next : totals' ≡ withTotals leap (job .run) results' (i + 1) totals₀
-      totals-next =
-          stored ∙ ap₂ (λ (l : List ℕ) (k : KeptTotals). putKept l (withRowAdded (job .run .step) row k)) kept known-kept
-          ∙ row-added leap (job .run) results totals₀ i row room fits few there ∙ so-far
-
-      pub kept-next : (new : KeptTotals) (hour : ℕ) → new ≡ withRowAdded (job .run .step) row old → hour ≡ currentHour (timeAt (job .run) i) → new ≡ keptTotals leap (hour / 24) totals'
-      kept-next new hour e h =
-          e ∙ ap (withRowAdded (job .run .step) row) known-kept ∙ kept-added leap (job .run) results totals₀ i row room fits few there
-          ∙ ap₂ (λ (n : ℕ) (l : List ℕ). keptTotals leap (n / 24) l) (sym h) (so-far ∙ sym totals-next)
-
-    -- each record counts few steps
-    few-counted : (k : ℕ) → k < totalsCount leap → totalsAt totals k .count < 35137
-    few-counted k h = subst (λ (l : List ℕ). totalsAt l k .count < 35137) (sym kept) (few-added leap (job .run) results totals₀ i k few h)
-
-    pub can-add : 24 * totalsCount leap ≤ length totals → CanAdd totals old
-    can-add fits = subst (CanAdd totals) (sym known) counted
+    pub kept-counted : (old .day .count < 35137) × (old .month .count < 35137)
+    kept-counted = subst (λ (k : KeptTotals). (k .day .count < 35137) × (k .month .count < 35137)) (sym known) counted
       where
-        month-below : monthPart leap day < totalsCount leap
-        month-below = month-to leap day there
+        counted : (keptTotals leap (dayOfStep (job .run) i) so-far .day .count < 35137) × (keptTotals leap (dayOfStep (job .run) i) so-far .month .count < 35137)
+        counted = unfold keptTotals in (few-counted day (day-to leap day there), few-counted (monthPart leap day) (month-to leap day there))
 
-        day-below : day < totalsCount leap
-        day-below = day-to leap day there
+    module _ (kept : putKept totals old ≡ so-far) (fits : 24 * totalsCount leap ≤ length totals) (room : 6 * i + 6 ≤ wordCount results)
+        (row : Row) (new : KeptTotals) (results' : List ℕ) (here : stepAt job (timeAt (job .run) i) ≡ step.Row row)
+        (added : new ≡ withRowAdded (job .run .step) row old) (put : results' ≡ putRow results i row) where
+      row-fit : RowFits row
+      row-fit = row-fits (step-row job (timeAt (job .run) i) row here)
 
-        counted : CanAdd totals (keptTotals leap day totals)
-        counted = unfold keptTotals partsOf in record {
-          day-of-year = day-few leap day there;
-          month-of-year = month-few leap day there;
-          day-there = omega (arith, fits, day-below);
-          month-there = omega (arith, fits, month-below);
-          day-count = few-counted day day-below;
-          month-count = few-counted (monthPart leap day) month-below;
-        }
+      abbrev with-row : List ℕ
+      with-row = withTotals leap (job .run) results' (i + 1) totals₀
+
+      next : withTotals leap (job .run) (putRow results i row) (suc i) totals₀ ≡ with-row
+      next = let one : suc i ≡ i + 1 = omega arith in ap₂ (λ (l : List ℕ) (n : ℕ). withTotals leap (job .run) l n totals₀) (sym put) one
+
+      same-parts : old .parts ≡ new .parts
+      unfolding withRowAdded
+      same-parts = ap (λ (k : KeptTotals). k .parts) (sym added)
+
+      day-first : old .parts .day < old .parts .month
+      unfolding keptTotals partsOf
+      day-first = subst (λ (k : KeptTotals). k .parts .day < k .parts .month) (sym known) (omega (arith, there, month-from leap day there))
+
+      pub totals-next : putKept totals new ≡ with-row
+      totals-next =
+          sym (kept-over totals old new same-parts day-first (has-records leap day so-far totals old known there fits .month-there))
+          ∙ ap₂ putKept kept (added ∙ ap (withRowAdded (job .run .step) row) known)
+          ∙ row-added leap (job .run) results totals₀ i row room row-fit few there ∙ next
+
+      pub kept-next : (hour : ℕ) → hour ≡ currentHour (timeAt (job .run) i) → new ≡ keptTotals leap (hour / 24) with-row
+      kept-next hour h =
+          added ∙ ap (withRowAdded (job .run .step) row) known ∙ kept-added leap (job .run) results totals₀ i row room row-fit few there
+          ∙ ap₂ (λ (n : ℕ) (l : List ℕ). keptTotals leap (n / 24) l) (sym h) next
 
 -- the totals of a run whose list was emptied before
 pub totals-done : (leap : Bool) (run : Run) (totals₀ totals totals' results' : List ℕ) (answer : RunAnswer) (done : Ran)

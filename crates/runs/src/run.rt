@@ -50,6 +50,7 @@ use sun::site::site_fine;
 use totals::add_row;
 use totals::empty_totals;
 use totals::read_totals;
+use totals::store_kept;
 use words::word_count;
 
 // Room for the table of days, for the totals of the year and for every step's row.
@@ -203,6 +204,7 @@ fn run_steps(
         let hour = current_hour(time);
         if hour != kept.hour {
             if hour / 24 != day.index {
+                store_kept(totals, kept_totals);
                 kept_totals = read_totals(totals, leap, hour / 24);
             }
             day = day_for(days, hour / 24, day);
@@ -235,17 +237,19 @@ fn run_steps(
         );
         match answer {
             StepAnswer::Refused(refusal) => {
+                store_kept(totals, kept_totals);
                 return refused_at(refusal, i);
             }
             StepAnswer::Row(row) => {
                 store_row(results, i as usize, row);
-                kept_totals = add_row(totals, kept_totals, run.step, row);
+                kept_totals = add_row(kept_totals, run.step, row);
                 sum = with_row(run.step, sum, row);
             }
         }
         time += run.step;
         i += 1;
     }
+    store_kept(totals, kept_totals);
     RunAnswer::Accepted {
         count: count,
         sum: sum,

@@ -20,8 +20,9 @@ use Rattle.jobs.specs.declared.answers.Totals.{Totals}
 use Rattle.jobs.specs.Rows.{putRow}
 use Rattle.jobs.specs.Totals.{noTotals, withStep, dayOfStep, totalsOf, totalsCount, monthPart, inPart, totalsAtPart, totalsAt, putTotals, totalsRecords, withTotals}
 use Rattle.jobs.proofs.RowStores.{RowFits}
-use Rattle.jobs.proofs.TotalsRecords.{length-records, length-putTotals, put-among}
+use Rattle.jobs.proofs.TotalsRecords.{length-records, length-putTotals, put-again, put-swapped, put-among}
 use Rattle.jobs.proofs.TotalsLaws.{totals-few, part-next, month-from, month-to, day-to, day-in, month-in, no-other, totals-read}
+use Rattle.totals.specs.declared.Parts.{Parts}
 use Rattle.totals.specs.declared.KeptTotals.{KeptTotals}
 use Rattle.totals.specs.Kept.{emptied, partsOf, keptTotals, withRowAdded, putKept}
 
@@ -76,6 +77,23 @@ pub length-kept : (totals : List ℕ) (kept : KeptTotals) → length (putKept to
 unfolding putKept
 length-kept totals kept = length-putTotals _ _ _ ∙ length-putTotals totals (kept .parts .day) (kept .day)
 
+-- stored over others of the same day and month, they are what stays
+pub kept-over : (totals : List ℕ) (old new : KeptTotals) → old .parts ≡ new .parts → old .parts .day < old .parts .month
+    → 24 * old .parts .month + 24 ≤ length totals → putKept (putKept totals old) new ≡ putKept totals new
+unfolding putKept
+kept-over totals old new e b h =
+    let d : ℕ = old .parts .day in
+    let m : ℕ = old .parts .month in
+    let one : List ℕ = putTotals totals d (old .day) in
+    let long : length one ≡ length totals = length-putTotals totals d (old .day) in
+    let wide : length (putTotals totals d (new .day)) ≡ length totals = length-putTotals totals d (new .day) in
+    ap (λ (p : Parts). putTotals (putTotals (putTotals one m (old .month)) (p .day) (new .day)) (p .month) (new .month)) (sym e)
+    ∙ ap (λ (l : List ℕ). putTotals l m (new .month))
+    (sym (put-swapped one d m (new .day) (old .month) b (omega (arith, h, long)))
+    ∙ ap (λ (l : List ℕ). putTotals l m (old .month)) (put-again totals d (old .day) (new .day) (omega (arith, h, b))))
+    ∙ put-again (putTotals totals d (new .day)) m (old .month) (new .month) (omega (arith, h, wide))
+    ∙ ap (λ (p : Parts). putTotals (putTotals totals (p .day) (new .day)) (p .month) (new .month)) e
+
 -- no record counts more steps than there are rows
 pub few-added : (leap : Bool) (run : Run) (results totals : List ℕ) (i k : ℕ) → i < 35137 → k < totalsCount leap
     → totalsAt (withTotals leap run results i totals) k .count < 35137
@@ -84,6 +102,23 @@ few-added leap run results totals i k h l =
     let few : totalsAt (withTotals leap run results i totals) k .count ≤ i =
     subst (λ (t : Totals). t .count ≤ i) (sym (totals-read leap run results i totals (small i h) k l)) (totals-few (inPart leap k) run results i) in
     omega (arith, few, h)
+
+-- what a list of totals has of a day and its month, stored there again, changes nothing
+pub kept-stored : (leap : Bool) (run : Run) (results totals : List ℕ) (i day : ℕ) → i < 35137 → day < daysInYear leap
+    → putKept (withTotals leap run results i totals) (keptTotals leap day (withTotals leap run results i totals)) ≡ withTotals leap run results i totals
+unfolding putKept keptTotals partsOf
+kept-stored leap run results totals i day few h =
+    let whole : List ℕ = withTotals leap run results i totals in
+    ap (λ (l : List ℕ). putTotals l (monthPart leap day) (totalsAt whole (monthPart leap day))) (again day (day-to leap day h))
+    ∙ again (monthPart leap day) (month-to leap day h)
+  where
+    again : (k : ℕ) → k < totalsCount leap
+        → putTotals (withTotals leap run results i totals) k (totalsAt (withTotals leap run results i totals) k) ≡ withTotals leap run results i totals
+    again k l = unfold withTotals in
+        let f : ℕ → Totals = totalsAtPart leap run results i in
+        let rest : List ℕ = drop (24 * totalsCount leap) totals in
+        ap (putTotals (totalsRecords f (totalsCount leap) 0 ++ rest) k) (totals-read leap run results i totals (small i few) k l)
+        ∙ put-among f (totalsCount leap) rest k l f (f k) refl (λ j b o. refl)
 
 -- each row, whose day is one of the year's
 module _ (leap : Bool) (run : Run) (results totals : List ℕ) (i : ℕ) (row : Row)

@@ -1,5 +1,5 @@
--- The totals as they are kept: emptied, then each row added where it belongs. `row-added` (proofs/Kept.antt) says that this comes to
--- the totals of the stored rows.
+-- The totals as a run keeps them: emptied, then each row added to those of its day and its month. `row-added` (proofs/Kept.antt) says
+-- that this comes to the totals of the stored rows.
 use mathlib.Core.Bool.{Bool}
 use mathlib.Core.List.{List, _++_}
 use Prim.Native.Nat.{ℕ, _+_, _*_, _≤_, _<_}
@@ -22,18 +22,16 @@ partsOf leap day = record { day = day; month = monthPart leap day }
 unfoldable pub keptTotals : Bool → ℕ → List ℕ → KeptTotals
 keptTotals leap day totals = record { parts = partsOf leap day; day = totalsAt totals day; month = totalsAt totals (monthPart leap day) }
 
--- a step can be added: the list has both records, and they count fewer steps than a run can have
-pub record CanAdd (totals : List ℕ) (kept : KeptTotals) : Type 0 where
-  pub day-of-year : kept .parts .day < 378
-  pub month-of-year : kept .parts .month < 378
-  pub day-there : 24 * kept .parts .day + 24 ≤ length totals
-  pub month-there : 24 * kept .parts .month + 24 ≤ length totals
-  pub day-count : kept .day .count < 35137
-  pub month-count : kept .month .count < 35137
-
 -- one step more in both
 unfoldable pub withRowAdded : Float → Row → KeptTotals → KeptTotals
 withRowAdded step row kept = record { parts = kept .parts; day = withStep step (kept .day) row; month = withStep step (kept .month) row }
+
+-- a list has both records
+pub record HasRecords (totals : List ℕ) (parts : Parts) : Type 0 where
+  pub day-of-year : parts .day < 378
+  pub month-of-year : parts .month < 378
+  pub day-there : 24 * parts .day + 24 ≤ length totals
+  pub month-there : 24 * parts .month + 24 ≤ length totals
 
 -- both stored
 unfoldable pub putKept : List ℕ → KeptTotals → List ℕ

@@ -4,7 +4,7 @@ ghost use Prim.Native.Nat.{_+_, _*_, _≤_, _<_};
 ghost use lib.ListN.{length};
 ghost use Rattle.calendar.specs.Calendar.{daysInYear};
 ghost use Rattle.jobs.specs.Totals.{withStep, totalsCount, totalsAt, putTotals};
-ghost use Rattle.totals.specs.Kept.{emptied, partsOf, keptTotals, CanAdd, withRowAdded, putKept};
+ghost use Rattle.totals.specs.Kept.{emptied, partsOf, keptTotals, withRowAdded, HasRecords, putKept};
 use calendar::date_of;
 use calendar::days_in_year;
 use doubles::float_max;
@@ -87,8 +87,8 @@ pub fn parts_of(leap: bool, day: u32) -> Parts
     }
 }
 
-// The records of one day and of its month, as they stand in the list: what is kept from step to step, so that calendar and list are
-// read once a day.
+// The totals of the day and the month that a run is in. They are kept by value from step to step and stored where the day changes and
+// at the end, so that calendar and list are looked at once a day.
 pub struct KeptTotals {
     pub parts: Parts,
     pub day: Totals,
@@ -107,20 +107,27 @@ pub fn read_totals(totals: &[u8], leap: bool, day: u32) -> KeptTotals
     }
 }
 
-// A step's row, added to the totals of its day and to those of its month, in the list too.
-pub fn add_row(totals: &mut [u8], kept: KeptTotals, step: f64, row: Row) -> KeptTotals
-    requires { ⌜ CanAdd (now totals) kept ⌝ }
+// A step's row, added to the totals of its day and to those of its month.
+pub fn add_row(kept: KeptTotals, step: f64, row: Row) -> KeptTotals
+    requires { ⌜ (kept .day .count < 35137) × (kept .month .count < 35137) ⌝ }
     ensures { λ r. ⌜ r ≡ withRowAdded step row kept ⌝ }
-    ensures { λ _. ⌜ now (totals .exit) ≡ putKept (now (totals .entry)) (withRowAdded step row kept) ⌝ }
 {
     let parts = kept.parts;
     let day = with_step(step, kept.day, row);
     let month = with_step(step, kept.month, row);
-    store_totals(totals, parts.day as usize, day);
-    store_totals(totals, parts.month as usize, month);
     KeptTotals {
         parts: parts,
         day: day,
         month: month,
     }
+}
+
+// Stores both records.
+pub fn store_kept(totals: &mut [u8], kept: KeptTotals)
+    requires { ⌜ HasRecords (now totals) (kept .parts) ⌝ }
+    ensures { λ _. ⌜ now (totals .exit) ≡ putKept (now (totals .entry)) kept ⌝ }
+{
+    let parts = kept.parts;
+    store_totals(totals, parts.day as usize, kept.day);
+    store_totals(totals, parts.month as usize, kept.month);
 }

@@ -1,6 +1,6 @@
 -- `run_steps` meets its contract. The loop's invariant: from here the run goes on to what it comes to from the start, what is kept is
 -- that of its hour, and so is the factor where it is shaded.
-use mathlib.Core.Path.{_≡_, refl, sym, _∙_, ap, subst}
+use mathlib.Core.Path.{_≡_, refl, sym, _∙_, ap, ap₂, subst}
 use mathlib.Core.Bool.{Bool, true, false, not}
 use mathlib.Core.List.{List}
 use mathlib.Core.Logic.{⊎-elim}
@@ -40,10 +40,9 @@ use Rattle.jobs.proofs.RowStores.{length-putRow}
 use Rattle.steps.specs.Kept.{fixedOf, keptDay, keptHour}
 use Rattle.steps.proofs.StepKept.{kept-factor, by-kept, its-hour, its-index, of-its-hour, day-of-its-hour, of-its-day}
 use Rattle.runs.proofs.CheckSteps.{start-day}
-use Rattle.totals.specs.declared.KeptTotals.{KeptTotals}
-use Rattle.totals.specs.Kept.{keptTotals}
-use Rattle.totals.proofs.Kept.{none-added, length-kept, year-starts}
-use Rattle.runs.proofs.StepByStep.{job-step, row-next, refused-here, at-end, at-start, totals-next, kept-next, can-add}
+use Rattle.totals.specs.Kept.{keptTotals, putKept}
+use Rattle.totals.proofs.Kept.{none-added, length-kept, kept-stored, year-starts}
+use Rattle.runs.proofs.StepByStep.{job-step, row-next, refused-here, at-end, at-start, has-records, new-day, kept-counted, totals-next, kept-next}
 use Rattle.runs.proofs.run.run_steps.Statement.{statement}
 use Rattle.runs.proofs.run.run_steps.Tie as tie
 
@@ -62,8 +61,9 @@ Inv-loop site run count surface diffuse direct reflectivity sectors window days 
     × (runFrom (count - i) (jobOf site run surface diffuse direct reflectivity sectors window) i time sum results
     ≡ runFrom count (jobOf site run surface diffuse direct reflectivity sectors window) 0 (run .start) (whole 0) results₀)
     × (length totals ≡ length totals₀)
-    × (totals ≡ withTotals (leapYear site) run results i totals₀)
-    × (kept-totals ≡ keptTotals (leapYear site) (kept .hour / 24) totals)
+    × (putKept totals kept-totals ≡ withTotals (leapYear site) run results i totals₀)
+    × (kept-totals ≡ keptTotals (leapYear site) (kept .hour / 24) (withTotals (leapYear site) run results i totals₀))
+    × (kept .hour / 24 < daysInYear (leapYear site))
 
 abbrev μ-loop : tie.MeasureT-loop
 μ-loop site run count surface diffuse direct reflectivity sectors window days totals₀ results₀ leap objects n places fixed day₀ kept-totals₀ kept₀ factor₀ shaded₀ time₀ sum₀ i₀ totals results day kept-totals kept factor shaded time sum i = count - i
@@ -111,7 +111,12 @@ unfolding ofBits whole placed timeAt
 loop-holds c =
     let s = c .before .before .before .before .before .before .before .before .before .before .before .before .before .before .before .before .before in
     let count = c .before .before .before .before .before .before .sector-count .ensures in
-    let few = few-sectors s _ count in (
+    let few = few-sectors s _ count in
+    let leap = leapYear (s .args .site) in
+    let none : now (s .args .totals) ≡ withTotals leap (s .args .run) (now (s .args .results)) 0 (now (s .args .totals)) =
+    s .pre .1 .1 .1 .1 .1 .1 .0 ∙ none-added leap (s .args .run) (now (s .args .results)) (now (s .args .totals)) in
+    let known = c .before .read-totals .ensures in
+    let hour = its-hour (s .args .site) (s .args .surface) _ _ (c .kept-hour .ensures) in (
       omega arith,
       refl,
       c .before .before .before .before .fixed-of .ensures,
@@ -124,9 +129,14 @@ loop-holds c =
       refl,
       at-start (job s) (s .args .count) (now (s .args .results)),
       refl,
-      s .pre .1 .1 .1 .1 .1 .1 .0 ∙ none-added (leapYear (s .args .site)) (s .args .run) (now (s .args .results)) (now (s .args .totals)),
-      c .before .read-totals .ensures ∙ ap (λ (h : ℕ). keptTotals (leapYear (s .args .site)) (h / 24) (now (s .args .totals))) (sym (its-hour (s .args .site) (s .args .surface) _ _ (c .kept-hour .ensures))),
+      ap₂ putKept none (known ∙ ap (keptTotals leap 0) none) ∙ kept-stored leap (s .args .run) (now (s .args .results)) (now (s .args .totals)) 0 0 (omega arith) (year-starts leap),
+      known ∙ ap₂ (λ (h : ℕ) (l : List ℕ). keptTotals leap (h / 24) l) (sym hour) none,
+      subst (λ (h : ℕ). h / 24 < daysInYear leap) (sym hour) (year-starts leap),
     )
+
+-- the list of totals stays as long as it was
+wide : (s : tie.Start Inv-loop μ-loop) (totals : List ℕ) → length totals ≡ length (now (s .args .totals)) → 24 * totalsCount (leapYear (s .args .site)) ≤ length totals
+wide s totals e = subst (λ (m : ℕ). 24 * totalsCount (leapYear (s .args .site)) ≤ m) (sym e) (s .pre .1 .1 .1 .1 .1 .1 .1 .0)
 
 -- what the totals have where the loop goes on
 module _ (s : tie.Start Inv-loop μ-loop) (i : ℕ) (h : i < s .args .count) where
@@ -155,13 +165,20 @@ day-for-requires c κs =
     let there = day-there s (l .loop .i) (l .loop .time) (l .loop .inv .9) (c .before .before .before .before .before .loop-test .taken) in
     (s .pre .1 .1 .1 .1 .1 .0, (subst (λ (h : ℕ). h / 24 < 366) (sym (c .before .before .before .before .current-hour .ensures)) there, of-its-day _ _ (l .loop .inv .6)))
 
-read-totals-requires-2 : tie.Need-read-totals-requires-2 Inv-loop μ-loop
-read-totals-requires-2 c κs =
+store-kept-requires : tie.Need-store-kept-requires Inv-loop μ-loop
+store-kept-requires c κs =
     let l = c .before .before .before .before .before .before .before in
     let s = l .before .before .before .before .before .before .before .before .before .before .before .before .before .before .before .before .before .before in
+    let q = l .loop .inv in
+    has-records _ _ _ _ _ (q .13) (q .14) (wide s (l .loop .totals) (q .11))
+
+read-totals-requires-2 : tie.Need-read-totals-requires-2 Inv-loop μ-loop
+read-totals-requires-2 c κs =
+    let l = c .before .before .before .before .before .before .before .before .before .before .before in
+    let s = l .before .before .before .before .before .before .before .before .before .before .before .before .before .before .before .before .before .before in
     let q = l .loop in
-    let there = day-of s (q .i) (c .before .before .before .before .before .before .loop-test .taken) in
-    let day = ap (λ (h : ℕ). h / 24) (c .before .before .before .before .before .current-hour .ensures) ∙ ap (λ (t : Float). currentHour t / 24) (q .inv .9) in
+    let there = day-of s (q .i) (c .before .before .before .before .before .before .before .before .before .before .loop-test .taken) in
+    let day = ap (λ (h : ℕ). h / 24) (c .before .before .before .before .before .before .before .before .before .current-hour .ensures) ∙ ap (λ (t : Float). currentHour t / 24) (q .inv .9) in
     subst (λ (d : ℕ). d < daysInYear (leapYear (s .args .site))) (sym day) there
 
 kept-hour-requires-2 : tie.Need-kept-hour-requires-2 Inv-loop μ-loop
@@ -174,32 +191,62 @@ kept-now : (c : tie.Joined1 Inv-loop μ-loop)
     (c .if1 .day ≡ keptDay (currentHour (l .loop .time) / 24))
     × (c .if1 .kept ≡ keptHour (s .args .site) (s .args .surface) (currentHour (l .loop .time)))
     × (c .if1 .shaded ≡ true → l .loop .factor ≡ shadingAt (s .args .surface) (hourOf (s .args .site) (currentHour (l .loop .time))) (now (s .args .sectors)) (now (s .args .window)))
-    × (c .if1 .kept-totals ≡ keptTotals (leapYear (s .args .site)) (currentHour (l .loop .time) / 24) (l .loop .totals))
+    × (putKept (c .if1 .totals) (c .if1 .kept-totals) ≡ withTotals (leapYear (s .args .site)) (s .args .run) (l .loop .results) (l .loop .i) (now (s .args .totals)))
+    × (c .if1 .kept-totals ≡ keptTotals (leapYear (s .args .site)) (currentHour (l .loop .time) / 24) (withTotals (leapYear (s .args .site)) (s .args .run) (l .loop .results) (l .loop .i) (now (s .args .totals))))
+    × (length (c .if1 .totals) ≡ length (now (s .args .totals)))
 kept-now c =
     let l = c .before .before .before .before in
-    let a = l .before .before .before .before .before .before .before .before .before .before .before .before .before .before .before .before .before .before .args in
+    let s = l .before .before .before .before .before .before .before .before .before .before .before .before .before .before .before .before .before .before in
+    let a = s .args in
     let q = l .loop .inv in
     let same = c .before .before .current-hour .ensures in
     let hour = keptHour (a .site) (a .surface) in
-    let totals : ℕ → KeptTotals = λ (h : ℕ). keptTotals (leapYear (a .site)) (h / 24) (l .loop .totals) in
+    let leap = leapYear (a .site) in
+    let so-far = withTotals leap (a .run) (l .loop .results) (l .loop .i) (now (a .totals)) in
     let shade : ℕ → FactorAnswer = λ (h : ℕ). shadingAt (a .surface) (hourOf (a .site) h) (now (a .sectors)) (now (a .window)) in
+    let on = c .before .before .before .loop-test .taken in
+    let there : currentHour (l .loop .time) / 24 < daysInYear leap = subst (λ (t : Float). currentHour t / 24 < daysInYear leap) (sym (q .9)) (day-of s (l .loop .i) on) in
     ⊎-elim
-    (λ w. (
-      w .5 ∙ w .3 .ensures ∙ ap (λ (h : ℕ). keptDay (h / 24)) same,
-      w .7 ∙ w .4 .ensures ∙ ap hour same,
-      λ e. never (sym (w .8) ∙ e),
-      w .6
-          ∙ ⊎-elim (λ v. v .3 ∙ v .2 .ensures ∙ ap totals same)
-          (λ v. v .1 ∙ q .13 ∙ ap (λ (d : ℕ). keptTotals (leapYear (a .site)) d (l .loop .totals)) (sym (v .0 .left ∙ its-index _ _ (q .6)) ∙ ap (λ (h : ℕ). h / 24) same))
-          (w .2 .came),
+    (λ w.
+    let turned : (putKept (c .if1 .totals) (c .if1 .kept-totals) ≡ so-far)
+    × (c .if1 .kept-totals ≡ keptTotals leap (currentHour (l .loop .time) / 24) so-far)
+    × (length (c .if1 .totals) ≡ length (now (a .totals))) = ⊎-elim
+    (λ v.
+    let both = new-day (job s) (l .loop .i) (l .loop .results) (now (a .totals)) (few s (l .loop .i) on) (currentHour (l .loop .time) / 24) (l .loop .totals) _ _ _ there (q .12) (w .5 ∙ v .7 ∙ v .2 .ensures) (w .7 ∙ v .8 ∙ v .6 .ensures ∙ ap₂ (λ (h : ℕ) (m : List ℕ). keptTotals leap (h / 24) m) same (sym (w .5 ∙ v .7))) in
+    (both .0, both .1, ap length (w .5 ∙ v .7 ∙ v .2 .ensures) ∙ length-kept (l .loop .totals) (l .loop .kept-totals) ∙ q .11))
+    (λ v. (
+      ap₂ putKept (w .5 ∙ v .1) (w .7 ∙ v .2) ∙ q .12,
+      w .7 ∙ v .2 ∙ q .13 ∙ ap (λ (d : ℕ). keptTotals leap d so-far) (sym (v .0 .left ∙ its-index _ _ (q .6)) ∙ ap (λ (h : ℕ). h / 24) same),
+      ap length (w .5 ∙ v .1) ∙ q .11,
+    ))
+    (w .2 .came) in (
+      w .6 ∙ w .3 .ensures ∙ ap (λ (h : ℕ). keptDay (h / 24)) same,
+      w .8 ∙ w .4 .ensures ∙ ap hour same,
+      λ e. never (sym (w .9) ∙ e),
+      turned .0,
+      turned .1,
+      turned .2,
     ))
     (λ w. (
-      w .1 ∙ q .6 ∙ ap (λ (h : ℕ). keptDay (h / 24)) (sym (w .0 .left) ∙ same),
-      w .3 ∙ q .7 ∙ ap hour (sym (w .0 .left) ∙ same),
-      λ e. q .8 (sym (w .4) ∙ e) ∙ ap shade (sym (w .0 .left) ∙ same),
-      w .2 ∙ q .13 ∙ ap totals (sym (w .0 .left) ∙ same),
+      w .2 ∙ q .6 ∙ ap (λ (h : ℕ). keptDay (h / 24)) (sym (w .0 .left) ∙ same),
+      w .4 ∙ q .7 ∙ ap hour (sym (w .0 .left) ∙ same),
+      λ e. q .8 (sym (w .5) ∙ e) ∙ ap shade (sym (w .0 .left) ∙ same),
+      ap₂ putKept (w .1) (w .3) ∙ q .12,
+      w .3 ∙ q .13 ∙ ap (λ (h : ℕ). keptTotals leap (h / 24) so-far) (sym (w .0 .left) ∙ same),
+      ap length (w .1) ∙ q .11,
     ))
     (c .if1 .came)
+
+-- what is kept of the step's own day and month
+known-now : (c : tie.Joined1 Inv-loop μ-loop)
+    → let l = c .before .before .before .before in
+    let s = l .before .before .before .before .before .before .before .before .before .before .before .before .before .before .before .before .before .before in
+    c .if1 .kept-totals ≡ keptTotals (leapYear (s .args .site)) (dayOfStep (s .args .run) (l .loop .i)) (withTotals (leapYear (s .args .site)) (s .args .run) (l .loop .results) (l .loop .i) (now (s .args .totals)))
+known-now c =
+    let l = c .before .before .before .before in
+    let s = l .before .before .before .before .before .before .before .before .before .before .before .before .before .before .before .before .before .before in
+    kept-now c .4
+    ∙ ap (λ (t : Float). keptTotals (leapYear (s .args .site)) (currentHour t / 24) (withTotals (leapYear (s .args .site)) (s .args .run) (l .loop .results) (l .loop .i) (now (s .args .totals)))) (l .loop .inv .9)
 
 sun-place-requires : tie.Need-sun-place-requires Inv-loop μ-loop
 sun-place-requires c κs = c .before .before .before .before .before .loop .inv .4
@@ -256,25 +303,36 @@ refused-at-requires : tie.Need-refused-at-requires Inv-loop μ-loop
 refused-at-requires c κs = tt
 
 same-length : tie.Need-same-length Inv-loop μ-loop
-same-length c = c .before .before .before .before .before .before .before .before .before .before .loop .inv .11
+same-length c = ap length (c .before .before .before .store-kept2 .ensures) ∙ length-kept _ _ ∙ kept-now (c .before .before .before .before .before .before .before .before .before .before) .5
 
 same-length-2 : tie.Need-same-length-2 Inv-loop μ-loop
-same-length-2 c = c .before .before .before .before .before .before .before .before .before .before .loop .inv .1
+same-length-2 c = c .before .before .before .before .before .before .before .before .before .before .before .before .before .before .loop .inv .1
 
 returns : tie.Need-returns Inv-loop μ-loop
 unfolding readingAt indexAt rowsStored
 returns c =
+    let j = c .before .before .before .before .before .before .before .before .before in
+    let l = j .before .before .before .before .before in
+    let s = l .before .before .before .before .before .before .before .before .before .before .before .before .before .before .before .before .before .before in
+    let q = l .loop in
+    let e = job-step (job s) (q .time) _ (by-kept (s .args .site) (s .args .surface) (now (s .args .sectors)) (now (s .args .window)) (q .time) (readingAt (job s) (q .time)) _ _ _ _ (q .inv .2) (kept-now (j .before) .1) (factor-now j) (c .before .before .before .before .before .before .before .before .step-at .ensures)) in
+    let below : q .i < s .args .count = omega (arith, j .before .before .before .before .loop-test .taken) in (
+      ap (λ (r : RunAnswer). ran r (q .results)) (c .refused-at .ensures)
+          ∙ refused-here (job s) (s .args .count) (q .i) (q .time) (q .sum) (q .results) _ (sym e ∙ c .before .before .before .before .before .before .answer .given .1) below
+          ∙ q .inv .10,
+      c .before .before .before .store-kept2 .ensures ∙ kept-now (j .before) .3
+          ∙ ap (λ (r : RunAnswer). withTotals (leapYear (s .args .site)) (s .args .run) (q .results) (rowsStored r) (now (s .args .totals))) (sym (c .refused-at .ensures)),
+    )
+
+store-kept-requires-2 : tie.Need-store-kept-requires-2 Inv-loop μ-loop
+store-kept-requires-2 c κs =
     let j = c .before .before .before .before .before in
     let l = j .before .before .before .before .before in
     let s = l .before .before .before .before .before .before .before .before .before .before .before .before .before .before .before .before .before .before in
     let q = l .loop in
-    let e = job-step (job s) (q .time) _ (by-kept (s .args .site) (s .args .surface) (now (s .args .sectors)) (now (s .args .window)) (q .time) (readingAt (job s) (q .time)) _ _ _ _ (q .inv .2) (kept-now (j .before) .1) (factor-now j) (c .before .before .before .before .step-at .ensures)) in
-    let below : q .i < s .args .count = omega (arith, j .before .before .before .before .loop-test .taken) in (
-      ap (λ (r : RunAnswer). ran r (q .results)) (c .refused-at .ensures)
-          ∙ refused-here (job s) (s .args .count) (q .i) (q .time) (q .sum) (q .results) _ (sym e ∙ c .before .before .answer .given .1) below
-          ∙ q .inv .10,
-      q .inv .12 ∙ ap (λ (r : RunAnswer). withTotals (leapYear (s .args .site)) (s .args .run) (q .results) (rowsStored r) (now (s .args .totals))) (sym (c .refused-at .ensures)),
-    )
+    let kept = kept-now (j .before) in
+    let there = subst (λ (t : Float). currentHour t / 24 < daysInYear (leapYear (s .args .site))) (sym (q .inv .9)) (day-of s (q .i) (j .before .before .before .before .loop-test .taken)) in
+    has-records _ _ _ _ _ (kept .4) there (wide s (j .before .if1 .totals) (kept .5))
 
 enum-known-answer-2 : tie.Need-enum-known-answer-2 Inv-loop μ-loop
 enum-known-answer-2 c = search needs
@@ -284,22 +342,21 @@ store-row-requires c κs = let j = c .before .before .before .before .before in 
 
 add-row-requires : tie.Need-add-row-requires Inv-loop μ-loop
 add-row-requires c κs =
-    let j = c .before .before .before .before .before .before .before .before .before in
+    let j = c .before .before .before .before .before .before .before .before in
     let l = j .before .before .before .before .before in
     let s = l .before .before .before .before .before .before .before .before .before .before .before .before .before .before .before .before .before .before in
     let q = l .loop in
     let on = j .before .before .before .before .loop-test .taken in
-    let totals = kept-now (j .before) .3 ∙ ap (λ (t : Float). keptTotals (leapYear (s .args .site)) (currentHour t / 24) (q .totals)) (q .inv .9) in
-    can-add (job s) (q .i) (q .results) (now (s .args .totals)) (q .totals) (few s (q .i) on) (room s (q .i) on (q .results) (q .inv .1)) (day-of s (q .i) on) (q .inv .12) _ totals (subst (λ (m : ℕ). 24 * totalsCount (leapYear (s .args .site)) ≤ m) (sym (q .inv .11)) (s .pre .1 .1 .1 .1 .1 .1 .1 .0))
+    kept-counted (job s) (q .i) (q .results) (now (s .args .totals)) (few s (q .i) on) (j .before .if1 .totals) _ (known-now (j .before)) (day-of s (q .i) on)
 
 with-row-requires : tie.Need-with-row-requires Inv-loop μ-loop
 with-row-requires c κs = tt
 
 add-i : tie.Need-add-i Inv-loop μ-loop
-add-i c = let j = c .before .before .before .before .before .before .before .before .before .before .before .before .before .before in let s = j .before .before .before .before .before .before .before .before .before .before .before .before .before .before .before .before .before .before .before .before .before .before .before in omega (arith, j .before .before .before .before .loop-test .taken, few-steps s)
+add-i c = let j = c .before .before .before .before .before .before .before .before .before .before .before in let s = j .before .before .before .before .before .before .before .before .before .before .before .before .before .before .before .before .before .before .before .before .before .before .before in omega (arith, j .before .before .before .before .loop-test .taken, few-steps s)
 
 loop-less : tie.Need-loop-less Inv-loop μ-loop
-loop-less c = let j = c .before .before .before .before .before .before .before .before .before .before .before .before .before .before in omega (arith, j .before .before .before .before .loop-test .taken)
+loop-less c = let j = c .before .before .before .before .before .before .before .before .before .before .before in omega (arith, j .before .before .before .before .loop-test .taken)
 
 next-time : (run : Run) (i : ℕ) → timeAt run i ⊕ run .step ≡ timeAt run (i + 1)
 unfolding timeAt
@@ -308,22 +365,21 @@ next-time run i = let e : i + 1 ≡ suc i = omega arith in rw e
 loop-again : tie.Need-loop-again Inv-loop μ-loop
 unfolding readingAt indexAt
 loop-again c =
-    let j = c .before .before .before .before .before .before .before .before .before .before .before .before .before .before in
+    let j = c .before .before .before .before .before .before .before .before .before .before .before in
     let l = j .before .before .before .before .before in
     let s = l .before .before .before .before .before .before .before .before .before .before .before .before .before .before .before .before .before .before in
     let a = s .args in
     let q = l .loop in
-    let row = c .before .before .before .before .before .before .before .before .before .before .before .answer2 .given .0 .0 in
+    let row = c .before .before .before .before .before .before .before .before .answer2 .given .0 .0 in
     let kept = kept-now (j .before) in
     let hour = its-hour (a .site) (a .surface) _ _ (kept .1) in
     let shade : ℕ → FactorAnswer = λ (h : ℕ). shadingAt (a .surface) (hourOf (a .site) h) (now (a .sectors)) (now (a .window)) in
-    let e = job-step (job s) (q .time) _ (by-kept (a .site) (a .surface) (now (a .sectors)) (now (a .window)) (q .time) (readingAt (job s) (q .time)) _ _ _ _ (q .inv .2) (kept .1) (factor-now j) (c .before .before .before .before .before .before .before .before .before .before .before .before .before .step-at .ensures)) in
+    let e = job-step (job s) (q .time) _ (by-kept (a .site) (a .surface) (now (a .sectors)) (now (a .window)) (q .time) (readingAt (job s) (q .time)) _ _ _ _ (q .inv .2) (kept .1) (factor-now j) (c .before .before .before .before .before .before .before .before .before .before .step-at .ensures)) in
     let on = j .before .before .before .before .loop-test .taken in
-    let stored = c .before .before .before .before .before .before .before .before .store-row .ensures in
+    let stored = c .before .before .before .before .before .store-row .ensures in
     let added = c .before .with-row .ensures in
-    let both = c .before .before .before .before .add-row .ensures in
-    let here = sym e ∙ c .before .before .before .before .before .before .before .before .before .before .before .answer2 .given .1 in
-    let totals = kept .3 ∙ ap (λ (t : Float). keptTotals (leapYear (a .site)) (currentHour t / 24) (q .totals)) (q .inv .9) in
+    let more = c .before .before .add-row .ensures in
+    let here = sym e ∙ c .before .before .before .before .before .before .before .before .answer2 .given .1 in
     let at-time = subst (λ (t : Float). stepAt (job s) t ≡ step.Row row) (q .inv .9) here in (
       omega (arith, on),
       ap length stored ∙ length-putRow (q .results) (q .i) row ∙ q .inv .1,
@@ -338,26 +394,35 @@ loop-again c =
       (λ x. runFrom (a .count - (q .i + 1)) (job s) (q .i + 1) (q .time ⊕ a .run .step) (added x) (stored x))
           ∙ row-next (job s) (a .count) (q .i) (q .time) (q .sum) (q .results) row here on
           ∙ q .inv .10,
-      ap length (both .1) ∙ length-kept (q .totals) _ ∙ q .inv .11,
-      totals-next (job s) (q .i) (q .results) (now (a .totals)) (q .totals) (few s (q .i) on) (room s (q .i) on (q .results) (q .inv .1)) (day-of s (q .i) on) (q .inv .12) _ totals row _ _ at-time (both .1) stored,
-      kept-next (job s) (q .i) (q .results) (now (a .totals)) (q .totals) (few s (q .i) on) (room s (q .i) on (q .results) (q .inv .1)) (day-of s (q .i) on) (q .inv .12) _ totals row _ _ at-time (both .1) stored _ _ (both .0) (hour ∙ ap currentHour (q .inv .9)),
+      kept .5,
+      totals-next (job s) (q .i) (q .results) (now (a .totals)) (few s (q .i) on) (j .before .if1 .totals) _ (known-now (j .before)) (day-of s (q .i) on) (kept .3) (wide s (j .before .if1 .totals) (kept .5)) (room s (q .i) on (q .results) (q .inv .1)) row _ _ at-time more stored,
+      kept-next (job s) (q .i) (q .results) (now (a .totals)) (few s (q .i) on) (j .before .if1 .totals) _ (known-now (j .before)) (day-of s (q .i) on) (kept .3) (wide s (j .before .if1 .totals) (kept .5)) (room s (q .i) on (q .results) (q .inv .1)) row _ _ at-time more stored _ (hour ∙ ap currentHour (q .inv .9)),
+      subst (λ (h : ℕ). h / 24 < daysInYear (leapYear (a .site))) (sym (hour ∙ ap currentHour (q .inv .9))) (day-of s (q .i) on),
     )
 
 same-length-3 : tie.Need-same-length-3 Inv-loop μ-loop
-same-length-3 c = c .before .loop .inv .11
+same-length-3 c = ap length (c .before .before .store-kept3 .ensures) ∙ length-kept _ _ ∙ c .before .before .before .before .before .loop .inv .11
 
 same-length-4 : tie.Need-same-length-4 Inv-loop μ-loop
-same-length-4 c = c .before .loop .inv .1
+same-length-4 c = c .before .before .before .before .before .loop .inv .1
+
+store-kept-requires-3 : tie.Need-store-kept-requires-3 Inv-loop μ-loop
+store-kept-requires-3 c κs =
+    let l = c .before .before in
+    let s = l .before .before .before .before .before .before .before .before .before .before .before .before .before .before .before .before .before .before in
+    let q = l .loop .inv in
+    has-records _ _ _ _ _ (q .13) (q .14) (wide s (l .loop .totals) (q .11))
 
 returns-2 : tie.Need-returns-2 Inv-loop μ-loop
 unfolding rowsStored
 returns-2 c =
-    let l = c .before in
+    let l = c .before .before .before .before .before in
     let s = l .before .before .before .before .before .before .before .before .before .before .before .before .before .before .before .before .before .before in
     let q = l .loop in
-    let done : q .i ≡ s .args .count = omega (arith, c .loop-test .left, q .inv .0) in (
+    let done : q .i ≡ s .args .count = omega (arith, c .before .before .before .before .loop-test .left, q .inv .0) in (
       at-end (job s) (s .args .count) (q .i) (q .time) (q .sum) (q .results) done ∙ q .inv .10,
-      q .inv .12 ∙ ap (λ (n : ℕ). withTotals (leapYear (s .args .site)) (s .args .run) (q .results) n (now (s .args .totals))) done,
+      c .before .before .store-kept3 .ensures ∙ q .inv .12
+          ∙ ap (λ (n : ℕ). withTotals (leapYear (s .args .site)) (s .args .run) (q .results) n (now (s .args .totals))) done,
     )
 
 pub run-steps-spec : {M : Type 1} → statement M
@@ -375,6 +440,7 @@ run-steps-spec =
     kept-hour-requires
     loop-holds
     current-hour-requires
+    store-kept-requires
     read-totals-requires-2
     day-for-requires
     kept-hour-requires-2
@@ -385,6 +451,7 @@ run-steps-spec =
     factor-at-requires
     step-at-requires
     enum-known-answer
+    store-kept-requires-2
     refused-at-requires
     same-length
     same-length-2
@@ -396,6 +463,7 @@ run-steps-spec =
     add-i
     loop-less
     loop-again
+    store-kept-requires-3
     same-length-3
     same-length-4
     returns-2)
