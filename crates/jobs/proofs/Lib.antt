@@ -8,6 +8,7 @@ pub mod StepRows
 pub mod PassedChecks
 pub mod TotalsRecords
 pub mod TotalsLaws
+pub mod LargestLaws
 pub mod RunLaws
 pub mod ObjectLists
 pub mod EveryHour

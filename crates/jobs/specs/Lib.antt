@@ -7,6 +7,7 @@ pub mod Step
 pub mod Rows
 pub mod Totals
 pub mod Numbers
+pub mod LargestTotal
 pub mod Run
 pub mod WithTable
 pub mod Hourly
