@@ -1,7 +1,8 @@
 -- `TwoJobs` has the claim on two jobs compared. `RunLaws` says what a run leaves, `RowStores` how a row is read back, `StepRows` what a
 -- step's row has, `PassedChecks` what an accepted job has, `ObjectLists` what the words of two jobs' lists say of their records, `Sums`
--- that sums keep the order. `EveryHour` has the claim that every hour has numbers, `WithTableLaws` the one on days worked out once,
--- `HourlyLaws` the one on runs of one-hour steps.
+-- that sums keep the order. `TotalsRecords` says how records of totals stand in a list, `TotalsLaws` how totals go on by a row.
+-- `EveryHour` has the claim that every hour has numbers, `WithTableLaws` the one on days worked out once, `LargestLaws` the one on the
+-- largest total, `HourlyLaws` the one on runs of one-hour steps.
 pub mod RowStores
 pub mod Sums
 pub mod StepRows
