@@ -20,6 +20,7 @@ use Rattle.angles.specs.Sine.{isAngle, quarterTurns, quadrant, remainder, sineS
 use Rattle.arcsines.specs.Arcsine.{arcsineSeries, halfPi, arcsineUpward, arcsine}
 use Rattle.powers.specs.Power.{logarithmOf, powerOf, powerBy, powMinus1253}
 use Rattle.words.specs.Words.{number, wordCount, wordAt, doubleAt}
+use Rattle.calendar.specs.Calendar.{daysInYear}
 use Rattle.days.specs.Day.{orbitDeviation, solarDeclination, equationOfTime, extraTerrestrialRadiation, dayOf}
 use Rattle.sun.specs.Hour.{sinCosOf, timeShift, solarTime, hourAngle, altitudeSine, cutAltitude, solarAltitude, solarZenith, azimuthDenominator, solarAzimuth, airMass, hourOf}
 use Rattle.sun.specs.Site.{siteFine, hoursInYear}
@@ -45,9 +46,10 @@ use Rattle.shading_laws.specs.Premises.{AllNumbers, NoNanExtent, Holds}
 use Rattle.jobs.specs.declared.answers.Checked.the-variants as check
 use Rattle.weather.specs.Weather.{inSeries, readSeries, readingFine}
 use Rattle.jobs.specs.Job.{Job}
-use Rattle.jobs.specs.JobChecks.{indicesFine, readingsFine, daysFine, resultsFine, tried, checked}
+use Rattle.jobs.specs.JobChecks.{indicesFine, readingsFine, daysFine, totalsFine, resultsFine, tried, checked}
 use Rattle.jobs.specs.Step.{sunAt, shadingAt, rowWith, stepWith, stepAt}
-use Rattle.jobs.specs.Run.{numberFor, onRow, runFrom, runChecked, Lent, lent, roomFine, runOf}
+use Rattle.jobs.specs.Totals.{totalsCount, totalsAt}
+use Rattle.jobs.specs.Run.{numberFor, onRow, runFrom, runChecked, Lent, lent, roomFine, roomFor, runOf}
 use Rattle.jobs.specs.Comparison.{sumOf, SameSeries, Alike, triple, sectorObjects, windowObject, windowObjects, HoldsAll, SameObjects, NoNan, Doubles, IsAccepted, Comparable}
 use Rattle.segments.proofs.SameWalks.{found-has}
 use Rattle.shading_laws.proofs.Members.{extents-into}
@@ -125,7 +127,7 @@ mixed : Job
 mixed = jobWith (minus-zero ++ round ++ word 3 ++ eaves ++ wall ++ eaves ++ zeros 15) (awning ++ awning)
 
 room : Lent
-room = lent (zeros 1098) (zeros 12)
+room = lent (zeros 1098) (zeros 1134) (zeros 12)
 
 -- ---- all that the values are computed from: to unfold these names unfolds them
 
@@ -139,7 +141,7 @@ unfolding add sub mul div lt le neg eq ne isNan toUnsigned bits whole decimal of
 doubles = 0
 
 checks : ℕ
-unfolding lists doubles checked tried siteFine hoursInYear atAll indicesFine readingsFine readingFine daysFine resultsFine roomFine runAccepted runFine hoursFine hourFine times timesFrom
+unfolding lists doubles checked tried siteFine hoursInYear atAll indicesFine readingsFine readingFine daysFine daysInYear totalsCount totalsFine resultsFine roomFine runAccepted runFine hoursFine hourFine times timesFrom
     stepCount stepsFrom goesOn currentHour seriesIndex inSeries readSeries within aboveZero surfaceFine firstFine recordsFine windowValuesFine windowRecordFine windowFine
     objectValuesFine objectFine objectUnused tripleFine boundsFine sectorRecordFine sectorsFine
 checks = 0
@@ -170,7 +172,7 @@ isFactor (factor.Refused r) = false
 answered : Job → Float → FactorAnswer
 answered job time = shadingAt (job .surface) (sunAt (job .site) time) (job .sectors) (job .window)
 
-two-steps : (job : Job) → checked job (roomFine (job .run) room) ≡ check.Steps 2 → T (isFactor (answered job (job .run .start)))
+two-steps : (job : Job) → checked job (roomFor job room) ≡ check.Steps 2 → T (isFactor (answered job (job .run .start)))
     → T (isFactor (answered job (job .run .start ⊕ job .run .step))) → IsAccepted (runOf job room .ran)
 unfolding answered runOf
 two-steps job c t u = go (answered job (job .run .start)) (answered job (job .run .start ⊕ job .run .step)) refl refl t u
@@ -367,8 +369,8 @@ same = record {
 
 -- the objects make no factor and no sum larger
 no-larger : sumOf (runOf built room .ran) ≼ sumOf (runOf bare room .ran)
-no-larger = two-jobs-compared bare built room room bare-built .second-more more .sums
+no-larger = two-jobs-compared bare built room room bare-built .runs .second-more more .sums
 
 -- their order and number is all one
 same-sum : sumOf (runOf built room .ran) ≡ sumOf (runOf mixed room .ran)
-same-sum = two-jobs-compared built mixed room room built-mixed .same-sums same
+same-sum = two-jobs-compared built mixed room room built-mixed .runs .same-sums same
