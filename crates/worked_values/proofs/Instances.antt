@@ -9,7 +9,7 @@ use Prim.Native.Nat.{ℕ, zero, suc, _*_, _<_}
 use native.Mathlib.Omega.{arith}
 use lib.Dec.{T}
 use lib.IntN.{pos}
-use lib.ListN.{replicate}
+use lib.ListN.{take, replicate}
 use lib.Ieee.{Float, add, sub, mul, div, neg, lt, le, eq, ne, isNan, fits, toUnsigned, ofInt, ofBits}
 use lib.Ieee.Fits.{and-l, and-r}
 use Rattle.doubles.specs.Arithmetic.{_⊕_, whole, decimal, bits}
@@ -374,3 +374,17 @@ no-larger = two-jobs-compared bare built room room bare-built .runs .second-more
 -- their order and number is all one
 same-sum : sumOf (runOf built room .ran) ≡ sumOf (runOf mixed room .ran)
 same-sum = two-jobs-compared built mixed room room built-mixed .runs .same-sums same
+
+-- nor the sum of the first of January, nor that of January, which stands behind 365 days
+day-no-larger : totalsAt (runOf built room .totals) 0 .sum ≼ totalsAt (runOf bare room .totals) 0 .sum
+unfolding lists totalsCount daysInYear
+day-no-larger = two-jobs-compared bare built room room bare-built .totals .second-more more 0 (omega arith)
+
+month-no-larger : totalsAt (runOf built room .totals) 365 .sum ≼ totalsAt (runOf bare room .totals) 365 .sum
+unfolding lists totalsCount daysInYear
+month-no-larger = two-jobs-compared bare built room room bare-built .totals .second-more more 365 (omega arith)
+
+-- the totals of the same objects are the same bytes
+same-totals : take (24 * 377) (runOf built room .totals) ≡ take (24 * 377) (runOf mixed room .totals)
+unfolding lists totalsCount daysInYear
+same-totals = two-jobs-compared built mixed room room built-mixed .totals .same-bytes same
