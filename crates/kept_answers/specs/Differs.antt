@@ -88,7 +88,7 @@ isRun l number step count sum =
 unfoldable pub answerKept : List ℕ → RunAnswer → Bool
 answerKept l answer = isRun l (numberFor answer) (stepFor answer) (countFor answer) (sumFor answer)
 
--- totals that are not kept are an empty list; those that are kept are as long as the ones that were lent
+-- a record that does not keep the totals has an empty list; any other has all that were lent, and so as many bytes
 unfoldable pub totalsKept : List ℕ → List ℕ → Bool
 totalsKept kept totals = eqb (length kept) 0 || sameText totals kept
 

@@ -73,7 +73,7 @@ fn answers(kept: &[u8], answer: RunAnswer) -> bool
     }
 }
 
-// Whether totals are as they are kept. Where they are not, the list that is kept is empty.
+// Whether totals are as the record has them. One that does not keep them has an empty list.
 fn totals_kept(kept: &[u8], totals: &[u8]) -> bool
     ensures { λ r. ⌜ r ≡ totalsKept (now (kept .entry)) (now (totals .entry)) ⌝ }
 {

@@ -1,6 +1,7 @@
 -- The claim on two jobs compared is about something: three jobs of two steps, at noon and one on the first of January. `bare` has no
 -- objects; `built` has a distant obstacle, a distant overhang and an overhang at the window; `mixed` has these in another order and
--- some twice, and its sector starts at −0.0. All premises are met, computed by the checker from the definitions.
+-- some twice, and its sector starts at −0.0. All premises are met, computed by the checker from the definitions. So are the totals that
+-- `built` leaves.
 use mathlib.Core.Path.{_≡_, refl, sym, subst, ap, _∙_}
 use mathlib.Core.Logic.{inl, inr}
 use mathlib.Core.Bool.{Bool, true, false, not, _&&_}

@@ -1,7 +1,7 @@
 -- The calendar about the end of February and of the year, and the totals of rows that are given, computed by the checker from the
 -- definitions. Doubles are compared by their bits, so that −0.0 is not 0.
 use mathlib.Core.Path.{_≡_, refl}
-use mathlib.Core.Bool.{Bool, true, false, cond, _&&_}
+use mathlib.Core.Bool.{Bool, true, false, _&&_}
 use mathlib.Core.List.{List}
 use Prim.Native.Nat.{ℕ}
 use lib.Dec.{eqb}
