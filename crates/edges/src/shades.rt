@@ -89,7 +89,7 @@ pub fn two_sectors_factor(start: f64, azimuth: f64) -> FactorAnswer
 
 // A run from 0 to 3 by steps of 1.
 pub fn three_hours() -> RunAnswer
-    ensures { λ r. ⌜ r ≡ runOf threeHours (lent (replicate 8784 0) (replicate 144 0)) .ran .answer ⌝ }
+    ensures { λ r. ⌜ r ≡ runOf threeHours (lent (replicate 8784 0) (replicate 9048 0) (replicate 144 0)) .ran .answer ⌝ }
 {
     let site = Site {
         latitude: 51.0,
@@ -108,6 +108,7 @@ pub fn three_hours() -> RunAnswer
     let series = [0u8; 24];
     let sectors = whole_horizon();
     let mut days = [0u8; 8784];
+    let mut totals = [0u8; 9048];
     let mut results = [0u8; 144];
     runs::run::run_job(
         site,
@@ -119,6 +120,7 @@ pub fn three_hours() -> RunAnswer
         &sectors,
         b"",
         &mut days,
+        &mut totals,
         &mut results,
     )
 }

@@ -16,7 +16,7 @@ use Rattle.shading.specs.Call.{factorCall}
 use Rattle.sun.specs.declared.site.Site.{Site}
 use Rattle.simulation_time.specs.declared.run.Run.{Run}
 use Rattle.jobs.specs.Job.{Job, jobOf}
-use Rattle.jobs.specs.Run.{Ran, Lent, lent, runOf, numberFor, stepFor, countFor, sumFor}
+use Rattle.jobs.specs.Run.{Lent, lent, Left, runOf, numberFor, stepFor, countFor, sumFor}
 use Rattle.jobs.specs.declared.answers.RunAnswer.{RunAnswer}
 use Rattle.text.specs.Text.{sameText, linesOf}
 use Rattle.listing.specs.Listing.{body}
@@ -83,32 +83,42 @@ keptJob l diffuse direct reflectivity sectors window =
 -- number, step, count and sum are the record's
 unfoldable pub isRun : List ℕ → ℕ → ℕ → ℕ → Float → Bool
 isRun l number step count sum =
-    eqb (wordAt l 23) number && eqb (wordAt l 24) step && (eqb (wordAt l 25) count && eqb (wordAt l 26) (toBits binary64 sum))
+    eqb (wordAt l 24) number && eqb (wordAt l 25) step && (eqb (wordAt l 26) count && eqb (wordAt l 27) (toBits binary64 sum))
 
 unfoldable pub answerKept : List ℕ → RunAnswer → Bool
 answerKept l answer = isRun l (numberFor answer) (stepFor answer) (countFor answer) (sumFor answer)
 
-unfoldable pub runKept : List ℕ → List ℕ → Ran → Bool
-runKept l left ran = sameText (ran .results) left && answerKept l (ran .answer)
+-- a record that does not keep the totals has an empty list; any other has all that were lent, and so as many bytes
+unfoldable pub totalsKept : List ℕ → List ℕ → Bool
+totalsKept kept totals = eqb (length kept) 0 || sameText totals kept
 
--- before the run every byte of the lists is A5; as many of the results are lent as there are afterwards, at most 1,024
-unfoldable pub listsFor : List ℕ → Lent
-listsFor left = lent (replicate 8784 0xA5) (take (length left) (replicate 1024 0xA5))
+-- with these results and these totals
+unfoldable pub runKept : List ℕ → List ℕ → List ℕ → Left → Bool
+runKept l results totals left =
+    sameText (left .ran .results) results && totalsKept totals (left .totals) && answerKept l (left .ran .answer)
 
--- with the first three lists, behind which the other three follow from place `at` on
+-- before the run every byte of the lists is A5; as many of the totals are lent as the record says, at most 9,080, and as many of the
+-- results as there are afterwards, at most 20,000
+unfoldable pub listsFor : List ℕ → List ℕ → Lent
+listsFor l results =
+    lent (replicate 8784 0xA5) (take (wordAt l 28) (replicate 9080 0xA5)) (take (length results) (replicate 20000 0xA5))
+
+-- with the first three lists, behind which the other four follow from place `at` on
 unfoldable pub seriesKept : List ℕ → ℕ → List ℕ → List ℕ → List ℕ → Bool
 seriesKept l at diffuse direct reflectivity =
     let a = listEnd l at (wordAt l 20) in
     let b = listEnd l a (wordAt l 21) in
-    let left = part l b (listEnd l b (wordAt l 22)) in
-    runKept l left (runOf (keptJob l diffuse direct reflectivity (part l at a) (part l a b)) (listsFor left) .ran)
+    let c = listEnd l b (wordAt l 22) in
+    let results = part l b c in
+    let totals = part l c (listEnd l c (wordAt l 23)) in
+    runKept l results totals (runOf (keptJob l diffuse direct reflectivity (part l at a) (part l a b)) (listsFor l results))
 
 unfoldable pub runDiffers : List ℕ → Bool
 runDiffers l =
-    let a = listEnd l 216 (wordAt l 17) in
+    let a = listEnd l 232 (wordAt l 17) in
     let b = listEnd l a (wordAt l 18) in
     let c = listEnd l b (wordAt l 19) in
-    ltb (length l) 216 || not (seriesKept l c (part l 216 a) (part l a b) (part l b c))
+    ltb (length l) 232 || not (seriesKept l c (part l 232 a) (part l a b) (part l b c))
 
 -- ---- the table of days
 

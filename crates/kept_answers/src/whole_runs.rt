@@ -1,9 +1,9 @@
-// Runs: 27 words, then the six lists, the results as they are afterwards.
+// Runs: 29 words, then the seven lists, the results and the totals as they are afterwards.
 ghost use mathlib.Core.Path.{_≡_};
 ghost use Prim.Native.Nat.{_≤_};
 ghost use lib.ListN.{length};
 ghost use Rattle.jobs.specs.Run.{lent, runOf};
-ghost use Rattle.kept_answers.specs.Differs.{wholeOf, siteOf, runAt, keptJob, isRun, answerKept, runKept, listsFor, seriesKept, runDiffers};
+ghost use Rattle.kept_answers.specs.Differs.{wholeOf, siteOf, runAt, keptJob, isRun, answerKept, totalsKept, runKept, listsFor, seriesKept, runDiffers};
 use crate::parts::list_end;
 use crate::parts::surface_at;
 use jobs::answers::RunAnswer;
@@ -57,8 +57,8 @@ fn run_of(kept: &[u8]) -> Run
 fn is_answer(kept: &[u8], number: u64, step: u64, count: u64, sum: f64) -> bool
     ensures { λ r. ⌜ r ≡ isRun (now (kept .entry)) number step count sum ⌝ }
 {
-    let numbers = (word_at(kept, 23) == number) & (word_at(kept, 24) == step);
-    let sums = (word_at(kept, 25) == count) & (word_at(kept, 26) == bits_of_double(sum));
+    let numbers = (word_at(kept, 24) == number) & (word_at(kept, 25) == step);
+    let sums = (word_at(kept, 26) == count) & (word_at(kept, 27) == bits_of_double(sum));
     numbers & sums
 }
 
@@ -73,7 +73,14 @@ fn answers(kept: &[u8], answer: RunAnswer) -> bool
     }
 }
 
-// Whether a run with these lists answers as the record says, and leaves that in its results.
+// Whether totals are as the record has them. One that does not keep them has an empty list.
+fn totals_kept(kept: &[u8], totals: &[u8]) -> bool
+    ensures { λ r. ⌜ r ≡ totalsKept (now (kept .entry)) (now (totals .entry)) ⌝ }
+{
+    (kept.len() == 0) | same_text(totals, kept)
+}
+
+// Whether a run with these lists answers as the record says, and leaves that in its results and its totals.
 fn is_answered(
     kept: &[u8],
     diffuse: &[u8],
@@ -81,13 +88,15 @@ fn is_answered(
     reflectivity: &[u8],
     sectors: &[u8],
     window: &[u8],
-    left: &[u8],
+    results_left: &[u8],
+    totals_left: &[u8],
     days: &mut [u8],
+    totals: &mut [u8],
     results: &mut [u8],
 ) -> bool
-    ensures { λ r. ⌜ r ≡ runKept (now (kept .entry)) (now (left .entry))
+    ensures { λ r. ⌜ r ≡ runKept (now (kept .entry)) (now («results_left» .entry)) (now («totals_left» .entry))
         (runOf (keptJob (now (kept .entry)) (now (diffuse .entry)) (now (direct .entry)) (now (reflectivity .entry))
-        (now (sectors .entry)) (now (window .entry))) (lent (now (days .entry)) (now (results .entry))) .ran) ⌝ }
+        (now (sectors .entry)) (now (window .entry))) (lent (now (days .entry)) (now (totals .entry)) (now (results .entry)))) ⌝ }
 {
     let answer = run_job(
         site_of(kept),
@@ -99,12 +108,14 @@ fn is_answered(
         sectors,
         window,
         days,
+        totals,
         results,
     );
-    same_text(results, left) & answers(kept, answer)
+    same_text(results, results_left) & totals_kept(totals_left, totals) & answers(kept, answer)
 }
 
-// As many bytes of results are lent as there are afterwards, at most 1,024, and a table of days.
+// Lends a table of days, as many bytes of totals as the record says, at most 9,080, and of results as there are afterwards, at most
+// 20,000.
 fn with_lists(
     kept: &[u8],
     diffuse: &[u8],
@@ -112,15 +123,18 @@ fn with_lists(
     reflectivity: &[u8],
     sectors: &[u8],
     window: &[u8],
-    left: &[u8],
+    results_left: &[u8],
+    totals_left: &[u8],
 ) -> bool
-    ensures { λ r. ⌜ r ≡ runKept (now (kept .entry)) (now (left .entry))
+    ensures { λ r. ⌜ r ≡ runKept (now (kept .entry)) (now («results_left» .entry)) (now («totals_left» .entry))
         (runOf (keptJob (now (kept .entry)) (now (diffuse .entry)) (now (direct .entry)) (now (reflectivity .entry))
-        (now (sectors .entry)) (now (window .entry))) (listsFor (now (left .entry))) .ran) ⌝ }
+        (now (sectors .entry)) (now (window .entry))) (listsFor (now (kept .entry)) (now («results_left» .entry)))) ⌝ }
 {
     let mut days = [0xA5u8; 8784];
-    let mut results = [0xA5u8; 1024];
-    let n = least(left.len(), 1024);
+    let mut totals = [0xA5u8; 9080];
+    let mut results = [0xA5u8; 20000];
+    let m = least(word_at(kept, 28) as usize, 9080);
+    let n = least(results_left.len(), 20000);
     is_answered(
         kept,
         diffuse,
@@ -128,13 +142,15 @@ fn with_lists(
         reflectivity,
         sectors,
         window,
-        left,
+        results_left,
+        totals_left,
         &mut days,
+        &mut totals[..m],
         &mut results[..n],
     )
 }
 
-// The lists of objects and the results begin where the series end.
+// The lists of objects, the results and the totals begin where the series end.
 fn with_series(bytes: &[u8], at: usize, diffuse: &[u8], direct: &[u8], reflectivity: &[u8]) -> bool
     requires { ⌜ at ≤ length (now bytes) ⌝ }
     ensures { λ r. ⌜ r ≡ seriesKept (now (bytes .entry)) at (now (diffuse .entry)) (now (direct .entry)) (now (reflectivity .entry)) ⌝ }
@@ -142,6 +158,7 @@ fn with_series(bytes: &[u8], at: usize, diffuse: &[u8], direct: &[u8], reflectiv
     let a = list_end(bytes, at, word_at(bytes, 20));
     let b = list_end(bytes, a, word_at(bytes, 21));
     let c = list_end(bytes, b, word_at(bytes, 22));
+    let d = list_end(bytes, c, word_at(bytes, 23));
     with_lists(
         bytes,
         diffuse,
@@ -150,6 +167,7 @@ fn with_series(bytes: &[u8], at: usize, diffuse: &[u8], direct: &[u8], reflectiv
         &bytes[at..a],
         &bytes[a..b],
         &bytes[b..c],
+        &bytes[c..d],
     )
 }
 
@@ -157,11 +175,11 @@ fn with_series(bytes: &[u8], at: usize, diffuse: &[u8], direct: &[u8], reflectiv
 pub fn differs(kept: &[u8]) -> bool
     ensures { λ r. ⌜ r ≡ runDiffers (now (kept .entry)) ⌝ }
 {
-    if kept.len() < 216 {
+    if kept.len() < 232 {
         return true;
     }
-    let a = list_end(kept, 216, word_at(kept, 17));
+    let a = list_end(kept, 232, word_at(kept, 17));
     let b = list_end(kept, a, word_at(kept, 18));
     let c = list_end(kept, b, word_at(kept, 19));
-    !with_series(kept, c, &kept[216..a], &kept[a..b], &kept[b..c])
+    !with_series(kept, c, &kept[232..a], &kept[a..b], &kept[b..c])
 }

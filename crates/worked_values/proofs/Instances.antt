@@ -1,7 +1,8 @@
 -- The claim on two jobs compared is about something: three jobs of two steps, at noon and one on the first of January. `bare` has no
 -- objects; `built` has a distant obstacle, a distant overhang and an overhang at the window; `mixed` has these in another order and
--- some twice, and its sector starts at −0.0. All premises are met, computed by the checker from the definitions.
-use mathlib.Core.Path.{_≡_, refl, sym, subst}
+-- some twice, and its sector starts at −0.0. All premises are met, computed by the checker from the definitions. So are the totals that
+-- `built` leaves.
+use mathlib.Core.Path.{_≡_, refl, sym, subst, ap, _∙_}
 use mathlib.Core.Logic.{inl, inr}
 use mathlib.Core.Bool.{Bool, true, false, not, _&&_}
 use mathlib.Core.List.{List, [], _∷_, _++_, List·Memᴰ, List·Memᴰ·head, List·Memᴰ·tail, List·Memᴰ·not-nil, List·Memᴰ·cases-cons}
@@ -9,20 +10,21 @@ use Prim.Native.Nat.{ℕ, zero, suc, _*_, _<_}
 use native.Mathlib.Omega.{arith}
 use lib.Dec.{T}
 use lib.IntN.{pos}
-use lib.ListN.{replicate}
-use lib.Ieee.{Float, add, sub, mul, div, neg, lt, le, eq, ne, isNan, fits, toUnsigned, ofInt, ofBits}
+use lib.ListN.{take, replicate}
+use lib.Ieee.{Float, add, sub, mul, div, neg, lt, le, eq, ne, isNan, fits, toUnsigned, ofInt, ofBits, toBits}
 use lib.Ieee.Fits.{and-l, and-r}
 use Rattle.doubles.specs.Arithmetic.{_⊕_, whole, decimal, bits}
 use Rattle.doubles.specs.Functions.{clamp, floorOf, cubeOf, toRadians, toDegrees, minOf2, maxOf2, floatMin, floatMax, largestOf}
 use Rattle.doubles.specs.Order.{_≼_, _≈_, Number}
 use Rattle.doubles.specs.Ranges.{within, aboveZero}
 use Rattle.angles.specs.Sine.{isAngle, quarterTurns, quadrant, remainder, sineSum, cosineSum, sineSeries, cosineSeries, sineAt, cosineAt, sine, cosine, tangent}
-use Rattle.arcsines.specs.Arcsine.{arcsineSeries, halfPi, arcsineUpward, arcsine}
+use Rattle.arcsines.specs.Arcsine.{arcsineSeries, halfPi, arcsineUpward, arcsine, arccosine}
 use Rattle.powers.specs.Power.{logarithmOf, powerOf, powerBy, powMinus1253}
-use Rattle.words.specs.Words.{number, wordCount, wordAt, doubleAt}
+use Rattle.words.specs.Words.{number, bytesOf, wordCount, wordAt, doubleAt, putWord, putDouble}
+use Rattle.calendar.specs.Calendar.{daysInYear, monthLengths, dateFrom, dateAt, placeOf as tablePlace, dateOf}
 use Rattle.days.specs.Day.{orbitDeviation, solarDeclination, equationOfTime, extraTerrestrialRadiation, dayOf}
 use Rattle.sun.specs.Hour.{sinCosOf, timeShift, solarTime, hourAngle, altitudeSine, cutAltitude, solarAltitude, solarZenith, azimuthDenominator, solarAzimuth, airMass, hourOf}
-use Rattle.sun.specs.Site.{siteFine, hoursInYear}
+use Rattle.sun.specs.Site.{siteFine, leapYear, hoursInYear}
 use Rattle.orientation.specs.Orientation.{orientation180, wrappedOnce}
 use Rattle.simulation_time.specs.Steps.{runFine, goesOn, stepsFrom, stepCount, timeAt, timesFrom, times, atAll}
 use Rattle.simulation_time.specs.Timestep.{currentHour, seriesIndex}
@@ -42,15 +44,23 @@ use Rattle.objects.specs.Objects.{isObstacle, isOverhang, kindNumber, ofKind, c
 use Rattle.shading.specs.declared.sun_on_surface.SunOnSurface.{SunOnSurface}
 use Rattle.shading.specs.Factor.{extents, sunOn, nearObstacleHeight, obstacleExtents, overhangExtents, windowOverhangExtents, rightFinExtents, leftFinExtents, overhangShade, sunlitBetween, sunlitHeight, sunlitWidth, sunlitPart, leastOf, reductionFactor, hasReveal, factorIn, shadingFactor}
 use Rattle.shading_laws.specs.Premises.{AllNumbers, NoNanExtent, Holds}
+use Rattle.jobs.specs.declared.answers.Checked.{Checked}
 use Rattle.jobs.specs.declared.answers.Checked.the-variants as check
 use Rattle.weather.specs.Weather.{inSeries, readSeries, readingFine}
-use Rattle.jobs.specs.Job.{Job}
-use Rattle.jobs.specs.JobChecks.{indicesFine, readingsFine, daysFine, resultsFine, tried, checked}
-use Rattle.jobs.specs.Step.{sunAt, shadingAt, rowWith, stepWith, stepAt}
-use Rattle.jobs.specs.Run.{numberFor, onRow, runFrom, runChecked, Lent, lent, roomFine, runOf}
+use Rattle.irradiance.specs.Table.{limits, firstAbove, tableRow, coefficients, coefficientsAt}
+use Rattle.irradiance.specs.Sky.{directBeam, altitudeTerm, clearness, skyBrightness, brightnessOf, brightnessIn, brightness, cutBrightness, circumsolarBrightness, horizontalBrightness, skyOf}
+use Rattle.irradiance.specs.Surface.{cosineOfDegrees, incidenceArgument, incidenceAngle, aOverB, incidenceBy, incidenceOf}
+use Rattle.irradiance.specs.Parts.{directIrradiance, skyIrradiance, circumsolarIrradiance, horizontalIrradiance, groundReflection, irradianceOf}
+use Rattle.jobs.specs.Job.{Job, indexAt, readingAt}
+use Rattle.jobs.specs.JobChecks.{indicesFine, readingsFine, daysFine, totalsFine, resultsFine, tried, checked}
+use Rattle.jobs.specs.Step.{sunAt, irradianceByDay, irradianceAt, shadingAt, rowWith, stepWith, stepAt}
+use Rattle.jobs.specs.Rows.{putRow, storedRow, withRow}
+use Rattle.jobs.specs.Totals.{noTotals, withStep, totalsOf, totalsCount, monthPart, inPart, totalsAtPart, totalsAt, withTotals}
+use Rattle.jobs.specs.Run.{numberFor, countFor, sumFor, onRow, runFrom, runChecked, Lent, lent, roomFine, roomFor, rowsStored, totalsLeft, Ran, runOf}
 use Rattle.jobs.specs.Comparison.{sumOf, SameSeries, Alike, triple, sectorObjects, windowObject, windowObjects, HoldsAll, SameObjects, NoNan, Doubles, IsAccepted, Comparable}
 use Rattle.segments.proofs.SameWalks.{found-has}
 use Rattle.shading_laws.proofs.Members.{extents-into}
+use Rattle.jobs.proofs.TotalsLaws.{totals-read}
 use Rattle.jobs.proofs.TwoJobs.{two-jobs-compared}
 
 -- ---- the jobs
@@ -125,7 +135,7 @@ mixed : Job
 mixed = jobWith (minus-zero ++ round ++ word 3 ++ eaves ++ wall ++ eaves ++ zeros 15) (awning ++ awning)
 
 room : Lent
-room = lent (zeros 1098) (zeros 12)
+room = lent (zeros 1098) (zeros 1134) (zeros 12)
 
 -- ---- all that the values are computed from: to unfold these names unfolds them
 
@@ -139,7 +149,7 @@ unfolding add sub mul div lt le neg eq ne isNan toUnsigned bits whole decimal of
 doubles = 0
 
 checks : ℕ
-unfolding lists doubles checked tried siteFine hoursInYear atAll indicesFine readingsFine readingFine daysFine resultsFine roomFine runAccepted runFine hoursFine hourFine times timesFrom
+unfolding lists doubles checked tried siteFine hoursInYear atAll indicesFine readingsFine readingFine daysFine daysInYear totalsCount totalsFine resultsFine roomFine runAccepted runFine hoursFine hourFine times timesFrom
     stepCount stepsFrom goesOn currentHour seriesIndex inSeries readSeries within aboveZero surfaceFine firstFine recordsFine windowValuesFine windowRecordFine windowFine
     objectValuesFine objectFine objectUnused tripleFine boundsFine sectorRecordFine sectorsFine
 checks = 0
@@ -170,7 +180,7 @@ isFactor (factor.Refused r) = false
 answered : Job → Float → FactorAnswer
 answered job time = shadingAt (job .surface) (sunAt (job .site) time) (job .sectors) (job .window)
 
-two-steps : (job : Job) → checked job (roomFine (job .run) room) ≡ check.Steps 2 → T (isFactor (answered job (job .run .start)))
+two-steps : (job : Job) → checked job (roomFor job room) ≡ check.Steps 2 → T (isFactor (answered job (job .run .start)))
     → T (isFactor (answered job (job .run .start ⊕ job .run .step))) → IsAccepted (runOf job room .ran)
 unfolding answered runOf
 two-steps job c t u = go (answered job (job .run .start)) (answered job (job .run .start ⊕ job .run .step)) refl refl t u
@@ -367,8 +377,63 @@ same = record {
 
 -- the objects make no factor and no sum larger
 no-larger : sumOf (runOf built room .ran) ≼ sumOf (runOf bare room .ran)
-no-larger = two-jobs-compared bare built room room bare-built .second-more more .sums
+no-larger = two-jobs-compared bare built room room bare-built .runs .second-more more .sums
 
 -- their order and number is all one
 same-sum : sumOf (runOf built room .ran) ≡ sumOf (runOf mixed room .ran)
-same-sum = two-jobs-compared built mixed room room built-mixed .same-sums same
+same-sum = two-jobs-compared built mixed room room built-mixed .runs .same-sums same
+
+-- nor the sum of the first of January, nor that of January, which stands behind 365 days
+day-no-larger : totalsAt (runOf built room .totals) 0 .sum ≼ totalsAt (runOf bare room .totals) 0 .sum
+unfolding lists totalsCount daysInYear
+day-no-larger = two-jobs-compared bare built room room bare-built .totals .second-more more 0 (omega arith)
+
+month-no-larger : totalsAt (runOf built room .totals) 365 .sum ≼ totalsAt (runOf bare room .totals) 365 .sum
+unfolding lists totalsCount daysInYear
+month-no-larger = two-jobs-compared bare built room room bare-built .totals .second-more more 365 (omega arith)
+
+-- the totals of the same objects are the same bytes
+same-totals : take (24 * 377) (runOf built room .totals) ≡ take (24 * 377) (runOf mixed room .totals)
+unfolding lists totalsCount daysInYear
+same-totals = two-jobs-compared built mixed room room built-mixed .totals .same-bytes same
+
+-- ---- what a run leaves of its day and its month
+
+sky : ℕ
+unfolding sun limits firstAbove tableRow coefficients coefficientsAt directBeam altitudeTerm clearness skyBrightness brightnessOf brightnessIn brightness cutBrightness
+    circumsolarBrightness horizontalBrightness skyOf cosineOfDegrees incidenceArgument incidenceAngle aOverB incidenceBy incidenceOf arccosine directIrradiance skyIrradiance
+    circumsolarIrradiance horizontalIrradiance groundReflection irradianceOf irradianceByDay irradianceAt indexAt readingAt seriesIndex readSeries
+sky = 0
+
+run : ℕ
+unfolding checks shade sky runOf runChecked runFrom onRow stepAt stepWith rowWith numberFor countFor sumFor sumOf rowsStored putRow storedRow withRow putDouble putWord bytesOf toBits
+run = 0
+
+totals : ℕ
+unfolding run totalsAtPart totalsOf noTotals withStep inPart monthPart dateOf tablePlace dateAt dateFrom monthLengths timeAt
+totals = 0
+
+-- after two steps a record is the totals of its part
+part-left : (job : Job) (k : ℕ) → checked job (roomFor job room) ≡ check.Steps 2 → rowsStored (runOf job room .ran .answer) ≡ 2 → k < totalsCount (leapYear (job .site))
+    → totalsAt (runOf job room .totals) k ≡ totalsAtPart (leapYear (job .site)) (job .run) (runOf job room .ran .results) 2 k
+unfolding runOf totalsLeft
+part-left job k c e h =
+    let ran : Ran = runOf job room .ran in
+    let leap = leapYear (job .site) in
+    ap (λ (s : Checked). totalsAt (totalsLeft s job ran (room .totals)) k) c
+    ∙ ap (λ (n : ℕ). totalsAt (withTotals leap (job .run) (ran .results) n (room .totals)) k) e
+    ∙ totals-read leap (job .run) (ran .results) 2 (room .totals) (omega arith) k h
+
+-- both steps, the total at noon, and the run's sum
+built-day : totalsAt (runOf built room .totals) 0 ≡ record { count = 2; largest = doubleAt (runOf built room .ran .results) 4; sum = sumOf (runOf built room .ran) }
+unfolding totals
+built-day = part-left built 0 refl refl (omega arith) ∙ refl
+
+built-month : totalsAt (runOf built room .totals) 365 ≡ record { count = 2; largest = doubleAt (runOf built room .ran .results) 4; sum = sumOf (runOf built room .ran) }
+unfolding totals
+built-month = part-left built 365 refl refl (omega arith) ∙ refl
+
+-- and nothing on the second
+built-second : totalsAt (runOf built room .totals) 1 ≡ noTotals
+unfolding totals
+built-second = part-left built 1 refl refl (omega arith) ∙ refl

@@ -1,3 +1,5 @@
--- `EdgeValues` has the specification's values at the edges, `Instances` three jobs that the claim on two jobs compared speaks of.
+-- `EdgeValues` has the specification's values at the edges, `TotalsValues` dates and totals, `Instances` three jobs that the claim on
+-- two jobs compared speaks of.
 pub mod EdgeValues
+pub mod TotalsValues
 pub mod Instances

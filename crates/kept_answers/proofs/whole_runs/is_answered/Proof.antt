@@ -22,6 +22,9 @@ run-job-requires c κs = tt
 same-text-requires : tie.Need-same-text-requires
 same-text-requires c κs = tt
 
+totals-kept-requires : tie.Need-totals-kept-requires
+totals-kept-requires c κs = tt
+
 answers-requires : tie.Need-answers-requires
 answers-requires c κs = tt
 
@@ -31,12 +34,15 @@ same-length c = search needs
 same-length-2 : tie.Need-same-length-2
 same-length-2 c = search needs
 
+same-length-3 : tie.Need-same-length-3
+same-length-3 c = search needs
+
 returns : tie.Need-returns
 unfolding runKept
 returns c =
-    let a = c .before .before .before .before .before .before .before .before .before .before .before .before .before .before .before .before .before .before .before .before .before .before .args in
-    let e = rw (c .before .before .before .before .before .before .before .before .before .before .before .before .site-of .ensures, c .before .before .before .before .before .before .before .before .before .before .before .run-of .ensures, c .before .before .before .before .before .before .before .before .before .before .surface-at .ensures) at (c .before .before .before .before .before .before .before .run-job .ensures) in
-    rw (c .before .same-text .ensures, c .answers .ensures) (ap (runKept (now (a .kept)) (now (a .left))) (ap (λ x. x .ran) e))
+    let a = c .before .before .before .before .before .before .before .before .before .before .before .before .before .before .before .before .before .before .before .before .before .before .before .before .before .before .before .before .before .args in
+    let e = rw (c .before .before .before .before .before .before .before .before .before .before .before .before .before .before .before .before .before .site-of .ensures, c .before .before .before .before .before .before .before .before .before .before .before .before .before .before .before .before .run-of .ensures, c .before .before .before .before .before .before .before .before .before .before .before .before .before .before .before .surface-at .ensures) at (c .before .before .before .before .before .before .before .before .before .before .before .run-job .ensures) in
+    rw (c .before .before .before .same-text .ensures, c .before .totals-kept .ensures, c .answers .ensures) (ap (runKept (now (a .kept)) (now (a .results-left)) (now (a .totals-left))) e)
 
 pub is-answered-spec : {M : Type 1} → statement M
 is-answered-spec =
@@ -47,7 +53,9 @@ is-answered-spec =
     surface-at-requires
     run-job-requires
     same-text-requires
+    totals-kept-requires
     answers-requires
     same-length
     same-length-2
+    same-length-3
     returns)
