@@ -1,7 +1,6 @@
 -- The largest total is the latest of the largest numbers. Assumes nothing.
-use mathlib.Core.Path.{_≡_, refl, sym, ap, _∙_, subst}
+use mathlib.Core.Path.{_≡_, refl, sym, ap, subst}
 use mathlib.Core.Bool.{Bool, true, false, cond, not}
-use mathlib.Core.List.{List}
 use mathlib.Core.Logic.{⊎-elim}
 use Prim.Native.Nat.{ℕ, zero, suc, _<_}
 use native.Mathlib.Nat.{le-of-suc-le-suc, eq-or-lt-of-le}
@@ -11,7 +10,6 @@ use lib.Ieee.{Float, nan, inf, fin, isNan, lt}
 use Rattle.doubles.specs.Functions.{floatMax, maxOf2}
 use Rattle.doubles.specs.Order.{_≼_, _≺_, Number}
 use Rattle.doubles.proofs.Order.{le-refl, le-trans, lt→le, le-of-not-lt}
-use Rattle.simulation_time.specs.declared.run.Run.{Run}
 use Rattle.jobs.specs.declared.answers.Totals.{Totals}
 use Rattle.jobs.specs.Rows.{storedRow}
 use Rattle.jobs.specs.Totals.{noTotals, withStep, dayOfStep, totalsOf}

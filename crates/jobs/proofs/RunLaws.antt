@@ -21,7 +21,6 @@ use Rattle.jobs.specs.declared.answers.StepAnswer.{StepAnswer}
 use Rattle.jobs.specs.declared.answers.StepAnswer.the-variants as step
 use Rattle.jobs.specs.declared.answers.Checked.{Checked}
 use Rattle.jobs.specs.declared.answers.Checked.the-variants as check
-use Rattle.jobs.specs.declared.answers.RunAnswer.{RunAnswer}
 use Rattle.jobs.specs.declared.answers.RunAnswer.the-variants.{Accepted, Refused}
 use Rattle.jobs.specs.Job.{Job}
 use Rattle.jobs.specs.JobChecks.{checked}

@@ -1,14 +1,13 @@
 -- What a run keeps of its days and months: one row more in the results is one step more in the totals of its day and of its month, and
 -- nothing in any other. Assumes nothing.
-use mathlib.Core.Path.{_≡_, refl, sym, ap, ap₂, _∙_, subst}
+use mathlib.Core.Path.{_≡_, refl, sym, ap, ap₂, subst}
 use mathlib.Core.Bool.{Bool, true, false, cond, _||_}
 use mathlib.Core.Logic.{_≢_}
-use mathlib.Core.List.{List, _++_}
-use Prim.Native.Nat.{ℕ, zero, suc, _+_, _-_, _*_, _/_, _^_, _≤_, _<_}
-use native.Mathlib.Decide.{decLt}
+use mathlib.Core.List.{List}
+use Prim.Native.Nat.{ℕ, zero, suc, _+_, _-_, _*_, _^_, _≤_, _<_}
 use native.Mathlib.Omega.{arith}
-use borrow.Author.Tests.{lt-ltb, le-ltb, eq-eqb, ne-eqb}
-use lib.Dec.{ltb, eqb}
+use borrow.Author.Tests.{eq-eqb, ne-eqb}
+use lib.Dec.{eqb}
 use lib.ListN.{take, drop}
 use lib.Seq.{take-at}
 use lib.Ieee.{Float, binary64, isNan, lt}
@@ -19,13 +18,13 @@ use Rattle.doubles.specs.Functions.{floatMax, maxOf2}
 use Rattle.doubles.specs.Order.{Fits}
 use Rattle.doubles.proofs.MinMax.{either-fits}
 use Rattle.words.specs.Words.{wordCount, doubleAt}
-use Rattle.calendar.specs.Calendar.{daysInYear, dateOf}
+use Rattle.calendar.specs.Calendar.{daysInYear}
 use Rattle.calendar.proofs.Rule.{year-few, calendar-right}
 use Rattle.simulation_time.specs.declared.run.Run.{Run}
 use Rattle.jobs.specs.declared.answers.Row.{Row}
 use Rattle.jobs.specs.declared.answers.Totals.{Totals}
 use Rattle.jobs.specs.Rows.{putRow, storedRow, withRow}
-use Rattle.jobs.specs.Totals.{noTotals, withStep, dayOfStep, totalsOf, totalsCount, monthPart, inPart, totalsAtPart, totalsAt, putTotals, totalsRecords, withTotals}
+use Rattle.jobs.specs.Totals.{noTotals, withStep, dayOfStep, totalsOf, totalsCount, monthPart, inPart, totalsAtPart, totalsAt, totalsRecords, withTotals}
 use Rattle.jobs.proofs.RowStores.{RowFits, double-putRow, stored-row}
 use Rattle.jobs.proofs.StepRows.{zero-fits}
 use Rattle.jobs.proofs.Sums.{total}

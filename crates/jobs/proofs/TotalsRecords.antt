@@ -2,11 +2,10 @@
 use mathlib.Core.Path.{_≡_, refl, sym, ap, ap₂, _∙_, subst}
 use mathlib.Core.Logic.{_≢_}
 use mathlib.Core.List.{List, _++_, append-assoc}
-use Prim.Native.Nat.{ℕ, zero, suc, _+_, _-_, _*_, _/_, _^_, _≤_, _<_}
-use native.Mathlib.Decide.{decLt}
+use Prim.Native.Nat.{ℕ, zero, suc, _+_, _-_, _*_, _^_, _≤_, _<_}
 use native.Mathlib.Omega.{arith}
-use lib.ListN.{length, drop, take, length-append}
-use lib.Seq.{sets, sets-eq, take-at, drop-at, length-sets}
+use lib.ListN.{length, drop, length-append}
+use lib.Seq.{sets, sets-eq, take-at, drop-at}
 use lib.Ieee.{Float}
 use Rattle.doubles.specs.Order.{Fits}
 use Rattle.words.specs.Words.{bytesOf, bytesOfDouble, wordCount, wordAt, doubleAt, putWord, putDouble}

@@ -158,7 +158,8 @@ fn refused_at(refusal: Refusal, step: u64) -> RunAnswer
 }
 
 // All steps of a job that has passed the checks. The sectors are read into a table once, a day is read from the table of days, and
-// the factor is worked out once an hour: `shaded` says that it is that of the hour which is kept.
+// the factor is worked out once an hour: `shaded` says that it is that of the hour which is kept. The totals of the day and its month
+// are stored where the day changes and at every way out.
 fn run_steps(
     site: Site,
     run: Run,

@@ -3,7 +3,7 @@ use mathlib.Core.Path.{_≡_, refl, sym, ap, ap₂, _∙_, subst}
 use mathlib.Core.Bool.{Bool, true, false, cond}
 use mathlib.Core.Logic.{_≢_}
 use mathlib.Core.List.{List, _++_}
-use Prim.Native.Nat.{ℕ, suc, _+_, _*_, _/_, _^_, _≤_, _<_}
+use Prim.Native.Nat.{ℕ, suc, _+_, _*_, _^_, _≤_, _<_}
 use native.Mathlib.Decide.{ℕ-discrete}
 use native.Mathlib.Omega.{arith}
 use native.Mathlib.Nat.{lt-trans, lt-of-le-of-lt}
@@ -11,7 +11,6 @@ use borrow.Author.Tests.{eq-eqb, ne-eqb}
 use lib.Dec.{eqb, lit<}
 use lib.ListN.{length, drop, length-append, length-drop}
 use lib.Seq.{drop-at}
-use lib.Ieee.{Float}
 use Rattle.words.specs.Words.{wordCount}
 use Rattle.calendar.specs.Calendar.{daysInYear}
 use Rattle.simulation_time.specs.declared.run.Run.{Run}
@@ -21,7 +20,7 @@ use Rattle.jobs.specs.Rows.{putRow}
 use Rattle.jobs.specs.Totals.{noTotals, withStep, dayOfStep, totalsOf, totalsCount, monthPart, inPart, totalsAtPart, totalsAt, putTotals, totalsRecords, withTotals}
 use Rattle.jobs.proofs.RowStores.{RowFits}
 use Rattle.jobs.proofs.TotalsRecords.{length-records, length-putTotals, put-again, put-swapped, put-among}
-use Rattle.jobs.proofs.TotalsLaws.{totals-few, part-next, month-from, month-to, day-to, day-in, month-in, no-other, totals-read}
+use Rattle.jobs.proofs.TotalsLaws.{totals-few, part-next, month-to, day-to, day-in, month-in, no-other, totals-read}
 use Rattle.totals.specs.declared.Parts.{Parts}
 use Rattle.totals.specs.declared.KeptTotals.{KeptTotals}
 use Rattle.totals.specs.Kept.{emptied, partsOf, keptTotals, withRowAdded, putKept}

@@ -1,4 +1,4 @@
-// Day and month totals, kept from step to step in a lent list of bytes.
+// Day and month totals: records in a lent list of bytes. Those of the day and the month that a run is in are kept by value.
 ghost use mathlib.Core.Path.{_≡_};
 ghost use Prim.Native.Nat.{_+_, _*_, _≤_, _<_};
 ghost use lib.ListN.{length};

@@ -1,9 +1,8 @@
 -- `date_of` meets its contract: month and day are read off the entry.
 use mathlib.Core.Path.{_≡_, _∙_, ap, subst, sym}
-use Prim.Native.Nat.{ℕ, _+_, _*_, _/_, _%_, _≤_, _<_}
+use Prim.Native.Nat.{ℕ, _/_, _%_, _<_}
 use native.Mathlib.Omega.{arith}
 use borrow.Author.Needs.{needs}
-use Rattle.calendar.specs.declared.Date.{Date}
 use Rattle.calendar.specs.Calendar.{dateAt, entryAt, placeOf, dateOf}
 use Rattle.calendar.proofs.Rule.{place-short, day-short}
 use Rattle.calendar.proofs.date_of.Statement.{statement}

@@ -1,9 +1,7 @@
 -- `place_of` meets its contract.
-use mathlib.Core.Bool.{true, false}
-use Prim.Native.Nat.{ℕ, _<_, _≤_}
 use native.Mathlib.Omega.{arith}
 use borrow.Author.Tests.{lt-ltb, le-ltb}
-use Rattle.calendar.specs.Calendar.{daysInYear, placeOf}
+use Rattle.calendar.specs.Calendar.{placeOf}
 use Rattle.calendar.proofs.Rule.{year-short}
 use Rattle.calendar.proofs.place_of.Statement.{statement}
 use Rattle.calendar.proofs.place_of.Tie as tie

@@ -8,9 +8,7 @@ use lib.ListN.{length}
 use lib.Seq.{sets}
 use lib.Ieee.{ofBits, div}
 use Rattle.doubles.specs.Arithmetic.{whole}
-use Rattle.calendar.specs.Calendar.{daysInYear}
 use Rattle.calendar.proofs.Rule.{year-few}
-use Rattle.jobs.specs.declared.answers.Totals.{Totals}
 use Rattle.jobs.specs.Totals.{noTotals, totalsCount, totalsRecords, putTotals}
 use Rattle.jobs.proofs.TotalsRecords.{length-putTotals, record-next, records-done, records-whole}
 use Rattle.totals.specs.Kept.{emptied}

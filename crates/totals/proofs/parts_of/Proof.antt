@@ -1,7 +1,7 @@
 -- `parts_of` meets its contract.
-use mathlib.Core.Path.{_≡_, _∙_, ap, ap₂}
+use mathlib.Core.Path.{ap}
 use native.Mathlib.Omega.{arith}
-use Prim.Native.Nat.{ℕ, _+_, _-_, _≤_, _<_}
+use Prim.Native.Nat.{_-_}
 use Rattle.calendar.specs.declared.Date.{Date}
 use Rattle.calendar.proofs.Rule.{calendar-right, year-few}
 use Rattle.jobs.specs.Totals.{monthPart}

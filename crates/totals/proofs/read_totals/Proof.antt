@@ -1,6 +1,6 @@
 -- `read_totals` meets its contract.
-use mathlib.Core.Path.{_≡_, sym, ap, _∙_, subst}
-use Prim.Native.Nat.{ℕ, _<_}
+use mathlib.Core.Path.{sym, ap, _∙_, subst}
+use Prim.Native.Nat.{_<_}
 use denote.Ref.{now}
 use Rattle.jobs.specs.Totals.{totalsAt}
 use Rattle.jobs.proofs.TotalsLaws.{day-few, month-few}

@@ -1,6 +1,4 @@
 -- `room_fine` meets its contract.
-use mathlib.Core.Path.{ap}
-use Prim.Native.Nat.{ℕ, _+_}
 use native.Mathlib.Omega.{arith}
 use Rattle.calendar.proofs.Rule.{year-few}
 use Rattle.simulation_time.proofs.Times.{count-few}

@@ -32,7 +32,6 @@ use Rattle.jobs.specs.declared.answers.RunAnswer.{RunAnswer}
 use Rattle.words.specs.Words.{wordCount}
 use Rattle.calendar.specs.Calendar.{daysInYear}
 use Rattle.sun.specs.Site.{leapYear}
-use Rattle.jobs.specs.Rows.{putRow, withRow}
 use Rattle.jobs.specs.Totals.{dayOfStep, totalsCount, withTotals}
 use Rattle.jobs.specs.Run.{ran, runFrom, rowsStored}
 use Rattle.jobs.proofs.PassedChecks.{hour-of-leap-year, day-of-year}
