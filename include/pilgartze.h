@@ -26,7 +26,7 @@
  *
  * Also proved: two jobs compared. A job is one call of the run; a shade extent is the height or width of shade that is
  * worked out for one object. Take two accepted jobs with
- * - the same site, run and surface;
+ * - the same edition, site, run and surface;
  * - series of equally many values, and the same doubles in them;
  * - equally many sectors, and those at the same place start and end at the same numbers (0.0 and -0.0 are one number);
  * - no shade extent that is NaN, in either job, at any step.
@@ -71,6 +71,10 @@
  * window, of the right fins and of the left fins. An obstacle at the window is looked at by itself, as if no distant
  * one were there, and the least factor counts: two hedges do not add up.
  *
+ * Two editions of the rule for fins, and the caller names one (the field edition of pilgartze_shading). Take edition 2:
+ * a fin shades where the sun stands on its side. In edition 1, which follows the Rust that this is a port of, right
+ * fins seldom shade; it is there for quotes that were made with it. All else is the same in both.
+ *
  * What gets past the shade is factor * direct + diffuse, not factor * total: diffuse light is never dimmed.
  *
  * DIFFERENCES.md (in docs, installed in share/doc/pilgartze) has an input for each of these, and where the standard has
@@ -104,7 +108,7 @@ extern "C" {
 
 /* The version of this header. The first part changes where a call, a record or a unit does, so that programs have to
  * change, the second where something is added, the third otherwise (docs/CHANGES.md). */
-#define PILGARTZE_VERSION_MAJOR 4
+#define PILGARTZE_VERSION_MAJOR 5
 #define PILGARTZE_VERSION_MINOR 0
 #define PILGARTZE_VERSION_PATCH 0
 #define PILGARTZE_VERSION \
@@ -122,8 +126,8 @@ uint64_t pilgartze_version(void);
 
 /* ---- Refusals ------------------------------------------------------------------------------------------------- */
 
-/* Why a call is turned down; 0 where it is not. Where several hold, the one that is tried first is given: 1 to 7 in
- * number order, over all steps, before anything is computed or stored; then 8 to 11, step by step. After the arrow
+/* Why a call is turned down; 0 where it is not. Where several hold, the one that is tried first is given: 14, then 1 to
+ * 7 in number order, over all steps, before anything is computed or stored; then 8 to 11, step by step. After the arrow
  * stands what to do. */
 enum pilgartze_refusal {
     PILGARTZE_ACCEPTED = 0,
@@ -167,18 +171,21 @@ enum pilgartze_refusal {
     PILGARTZE_REFUSED_NO_SECTOR = 10,
     /* reveal: an object at the window is a reveal (kind 4), for which there is no factor; the sun is inside the beam,
      * and a sector with it is found.
-     * -> Pass an overhang, a left fin and a right fin of its depth and distance (but see the right fin's comment). */
+     * -> Pass an overhang, a left fin and a right fin of its depth and distance, in edition 2. */
     PILGARTZE_REFUSED_REVEAL = 11,
     /* line: a line of a shade listing is malformed. The shade listing has this number; no call below gives it.
      * -> Ten values of 16 upper-case hexadecimal digits, single spaces, after the names line. */
-    PILGARTZE_REFUSED_LINE = 12
+    PILGARTZE_REFUSED_LINE = 12,
+    /* edition: neither 1 nor 2. Tried before all others, in each call that has an edition. No number is 13.
+     * -> Set shading.edition to PILGARTZE_EDITION_2. */
+    PILGARTZE_REFUSED_EDITION = 14
 };
 
 /* The word of a number: "accepted" for 0, "unknown" for a number that no call gives. */
 static inline const char *pilgartze_refusal_word(uint64_t number)
 {
-    static const char *const words[] = {"accepted", "site", "run", "surface", "object", "series", "reading",
-                                        "results", "gap", "turned", "no sector", "reveal", "line"};
+    static const char *const words[] = {"accepted", "site", "run", "surface", "object", "series", "reading", "results",
+                                        "gap", "turned", "no sector", "reveal", "line", "unknown", "edition"};
     return number < sizeof words / sizeof words[0] ? words[number] : "unknown";
 }
 
@@ -253,7 +260,8 @@ typedef struct pilgartze_sector {
 enum pilgartze_window_kind {
     PILGARTZE_OBSTACLE = 0,
     PILGARTZE_OVERHANG = 1,
-    PILGARTZE_RIGHT_FIN = 2, /* seldom shades: only where the azimuth less (180 - orientation) is below -270 */
+    PILGARTZE_RIGHT_FIN = 2, /* in edition 1 seldom shades: only where the azimuth less (180 - orientation) is below
+                                -270 */
     PILGARTZE_LEFT_FIN = 3,
     PILGARTZE_REVEAL = 4 /* refused (11) where the sun is inside the beam and a sector with it is found: pass an
                             overhang and two fins of its depth and distance */
@@ -286,8 +294,15 @@ typedef struct pilgartze_reading {
     double reflectivity; /* 0..1 */
 } pilgartze_reading;
 
-/* All that may shade the surface. */
+/* Editions of the rule for fins. */
+enum pilgartze_edition {
+    PILGARTZE_EDITION_1 = 1, /* as the Rust has it: for quotes that were made with it */
+    PILGARTZE_EDITION_2 = 2  /* fins of both sides shade: take this one */
+};
+
+/* All that may shade the surface, and by which edition. One that is zeroed names no edition and is refused (14). */
 typedef struct pilgartze_shading {
+    uint64_t edition; /* an enum pilgartze_edition */
     const pilgartze_sector *sectors;
     size_t sector_count; /* 0..36 */
     const pilgartze_window_object *window;
@@ -321,7 +336,7 @@ typedef struct pilgartze_day_values {
 
 /* The table of days: a run works each day out once, into this, and its hours read it. days[0] is 1 January; in a common
  * year days[364] is 31 December and days[365] is one day more, which is filled too. Filled before the first step, in
- * every run that is not refused 1 to 7, also in one with no steps or refused later. */
+ * every run that is not refused 14 or 1 to 7, also in one with no steps or refused later. */
 typedef struct pilgartze_day_table {
     pilgartze_day_values days[PILGARTZE_DAYS];
 } pilgartze_day_table;
@@ -349,8 +364,8 @@ typedef struct pilgartze_totals {
 /* Totals of a year: its 365 or 366 days, 1 January first, and right behind them its 12 months. So January stands at
  * PILGARTZE_DAYS_IN_YEAR(leap_year), and in a common year the last of the 378 is not touched; pilgartze_day_totals and
  * pilgartze_month_totals below find them. Emptied (0, NaN, 0) before the first step and kept from step to step, in
- * every run that is not refused 1 to 7: also in one with no steps, and where a step is refused they are those of the
- * rows before it. */
+ * every run that is not refused 14 or 1 to 7: also in one with no steps, and where a step is refused they are those of
+ * the rows before it. */
 typedef struct pilgartze_year_totals {
     pilgartze_totals totals[PILGARTZE_MOST_TOTALS];
 } pilgartze_year_totals;
@@ -401,38 +416,40 @@ PILGARTZE_SIZE(pilgartze_factor_answer, 16);
 
 /* ---- The library's functions ---------------------------------------------------------------------------------- */
 
-/* Numbers in the order of the structs above, then lists, each a pointer and a length in bytes. A series is a list of
- * doubles, sectors are records of 216 bytes (struct pilgartze_sector), window objects of 32, days and totals of 24,
- * results of 48 or 72; every word is 8 bytes, least byte first. Pointers need no alignment. A part of a double at the
- * end of a series or of results counts for nothing. */
+/* An edition first, where the call gives a factor, then numbers in the order of the structs above, then lists, each a
+ * pointer and a length in bytes. A series is a list of doubles, sectors are records of 216 bytes (struct
+ * pilgartze_sector), window objects of 32, days and totals of 24, results of 48 or 72; every word is 8 bytes, least
+ * byte first. Pointers need no alignment. A part of a double at the end of a series or of results counts for nothing.
+ */
 
 /* A run over all steps. Accepted: one row of 48 bytes for each step, in order; bytes past the last row are untouched.
- * Refused 1 to 7: nothing is stored. Refused 8 to 11 at a step: the rows of the steps before it are stored, all other
- * bytes of the results are untouched.
+ * Refused 14 or 1 to 7: nothing is stored. Refused 8 to 11 at a step: the rows of the steps before it are stored, all
+ * other bytes of the results are untouched.
  * Days is room for the table of days, PILGARTZE_DAYS_LENGTH bytes or more; where it is shorter the run is refused 7, as
- * for short results. Where the run is not refused 1 to 7 all of the table is stored, before the first step; bytes past
- * it are untouched. What was in it before does not matter.
+ * for short results. Where the run is not refused 14 or 1 to 7 all of the table is stored, before the first step; bytes
+ * past it are untouched. What was in it before does not matter.
  * Totals is room for the totals of the year, PILGARTZE_TOTALS_LENGTH(leap_year) bytes or more; where it is shorter the
- * run is refused 7. Where the run is not refused 1 to 7 all of them are emptied before the first step, and each step's
- * row is added to its day's and to its month's; bytes past them are untouched. What was in them before does not matter.
- * Where a step is refused 8 to 11 they are those of the rows that are stored, though count and sum of the answer are 0.
- */
+ * run is refused 7. Where the run is not refused 14 or 1 to 7 all of them are emptied before the first step, and each
+ * step's row is added to its day's and to its month's; bytes past them are untouched. What was in them before does not
+ * matter. Where a step is refused 8 to 11 they are those of the rows that are stored, though count and sum of the
+ * answer are 0. */
 pilgartze_answer pilgartze_run(
-    double latitude, double longitude, int64_t timezone, uint64_t start_day, double series_step, uint64_t leap_year,
-    uint64_t direct_beam_conversion, double start, double end, double step, double tilt, double orientation,
-    double base_height, double height, double width, const uint8_t *diffuse, size_t diffuse_length,
+    uint64_t edition, double latitude, double longitude, int64_t timezone, uint64_t start_day, double series_step,
+    uint64_t leap_year, uint64_t direct_beam_conversion, double start, double end, double step, double tilt,
+    double orientation, double base_height, double height, double width, const uint8_t *diffuse, size_t diffuse_length,
     const uint8_t *direct, size_t direct_length, const uint8_t *reflectivity, size_t reflectivity_length,
     const uint8_t *sectors, size_t sectors_length, const uint8_t *window, size_t window_length, uint8_t *days,
     size_t days_length, uint8_t *totals, size_t totals_length, uint8_t *results, size_t results_length);
 
 /* One step: the row that a run has at that time, with these values of the series. Time is 0..8784 with its hour in the
- * year, else it is refused 2. Gives the number: 0, or 1, 2, 3, 4, 6, 7, 8 to 11, tried in this order. Accepted: 48
+ * year, else it is refused 2. Gives the number: 0, or 14, 1, 2, 3, 4, 6, 7, 8 to 11, tried in this order. Accepted: 48
  * bytes are stored, the rest is untouched. Refused: nothing is stored. */
 uint64_t pilgartze_step(
-    double latitude, double longitude, int64_t timezone, uint64_t start_day, double series_step, uint64_t leap_year,
-    uint64_t direct_beam_conversion, double time, double tilt, double orientation, double base_height, double height,
-    double width, double diffuse, double direct, double reflectivity, const uint8_t *sectors, size_t sectors_length,
-    const uint8_t *window, size_t window_length, uint8_t *results, size_t results_length);
+    uint64_t edition, double latitude, double longitude, int64_t timezone, uint64_t start_day, double series_step,
+    uint64_t leap_year, uint64_t direct_beam_conversion, double time, double tilt, double orientation,
+    double base_height, double height, double width, double diffuse, double direct, double reflectivity,
+    const uint8_t *sectors, size_t sectors_length, const uint8_t *window, size_t window_length, uint8_t *results,
+    size_t results_length);
 
 /* The sun and the irradiance of one step, with its breakdown and without shade. Gives the number: 0, or 1, 2, 3, 6, 7,
  * tried in this order. Accepted: 72 bytes are stored, the rest is untouched. Refused: nothing is stored. */
@@ -441,11 +458,12 @@ uint64_t pilgartze_irradiance(
     uint64_t direct_beam_conversion, double time, double tilt, double orientation, double base_height, double height,
     double width, double diffuse, double direct, double reflectivity, uint8_t *results, size_t results_length);
 
-/* The factor for a sun at altitude 0..90 and azimuth -360..360. The number is 0, or 3, 4, 8 to 11, tried in this order;
- * 3 is also an altitude or azimuth out of range. Nothing is stored. */
-pilgartze_factor_answer pilgartze_factor(double altitude, double azimuth, double tilt, double orientation,
-                                         double base_height, double height, double width, const uint8_t *sectors,
-                                         size_t sectors_length, const uint8_t *window, size_t window_length);
+/* The factor for a sun at altitude 0..90 and azimuth -360..360. The number is 0, or 14, 3, 4, 8 to 11, tried in this
+ * order; 3 is also an altitude or azimuth out of range. Nothing is stored. */
+pilgartze_factor_answer pilgartze_factor(uint64_t edition, double altitude, double azimuth, double tilt,
+                                         double orientation, double base_height, double height, double width,
+                                         const uint8_t *sectors, size_t sectors_length, const uint8_t *window,
+                                         size_t window_length);
 
 /* ---- Objects -------------------------------------------------------------------------------------------------- */
 
@@ -556,7 +574,8 @@ static inline size_t pilgartze_length(size_t count, size_t size)
 
 /* pilgartze_run with structs. The rows are room for row_count results. For series of different lengths call
  * pilgartze_run itself. (Version 1 had no days, and no version before 4 had totals: declare a pilgartze_day_table and a
- * pilgartze_year_totals, and pass their addresses before the rows.) */
+ * pilgartze_year_totals, and pass their addresses before the rows. No version before 5 had editions: set
+ * shading.edition.) */
 static inline pilgartze_answer pilgartze_run_job(const pilgartze_site *site, const pilgartze_run_times *run,
                                                  const pilgartze_surface *surface, const pilgartze_weather *weather,
                                                  const pilgartze_shading *shading, pilgartze_day_table *days,
@@ -566,9 +585,9 @@ static inline pilgartze_answer pilgartze_run_job(const pilgartze_site *site, con
     uint8_t nothing = 0;
     const size_t series_length = pilgartze_length(weather->count, sizeof(double));
     return pilgartze_run(
-        site->latitude, site->longitude, site->timezone, site->start_day, site->series_step, site->leap_year,
-        site->direct_beam_conversion, run->start, run->end, run->step, surface->tilt, surface->orientation,
-        surface->base_height, surface->height, surface->width,
+        shading->edition, site->latitude, site->longitude, site->timezone, site->start_day, site->series_step,
+        site->leap_year, site->direct_beam_conversion, run->start, run->end, run->step, surface->tilt,
+        surface->orientation, surface->base_height, surface->height, surface->width,
         pilgartze_bytes(weather->diffuse, weather->count, &nothing), series_length,
         pilgartze_bytes(weather->direct, weather->count, &nothing), series_length,
         pilgartze_bytes(weather->reflectivity, weather->count, &nothing), series_length,
@@ -602,9 +621,9 @@ static inline uint64_t pilgartze_step_at(const pilgartze_site *site, double time
 {
     const uint8_t nothing = 0;
     return pilgartze_step(
-        site->latitude, site->longitude, site->timezone, site->start_day, site->series_step, site->leap_year,
-        site->direct_beam_conversion, time, surface->tilt, surface->orientation, surface->base_height, surface->height,
-        surface->width, reading->diffuse, reading->direct, reading->reflectivity,
+        shading->edition, site->latitude, site->longitude, site->timezone, site->start_day, site->series_step,
+        site->leap_year, site->direct_beam_conversion, time, surface->tilt, surface->orientation, surface->base_height,
+        surface->height, surface->width, reading->diffuse, reading->direct, reading->reflectivity,
         pilgartze_bytes(shading->sectors, shading->sector_count, &nothing),
         pilgartze_length(shading->sector_count, sizeof(pilgartze_sector)),
         pilgartze_bytes(shading->window, shading->window_count, &nothing),
@@ -629,8 +648,8 @@ static inline pilgartze_factor_answer pilgartze_factor_at(double altitude, doubl
                                                           const pilgartze_shading *shading)
 {
     const uint8_t nothing = 0;
-    return pilgartze_factor(altitude, azimuth, surface->tilt, surface->orientation, surface->base_height,
-                            surface->height, surface->width,
+    return pilgartze_factor(shading->edition, altitude, azimuth, surface->tilt, surface->orientation,
+                            surface->base_height, surface->height, surface->width,
                             pilgartze_bytes(shading->sectors, shading->sector_count, &nothing),
                             pilgartze_length(shading->sector_count, sizeof(pilgartze_sector)),
                             pilgartze_bytes(shading->window, shading->window_count, &nothing),
