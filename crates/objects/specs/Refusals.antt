@@ -16,3 +16,4 @@ numberOf refusal.Turned = 9
 numberOf refusal.NoSector = 10
 numberOf refusal.Reveal = 11
 numberOf refusal.Line = 12
+numberOf refusal.Edition = 14

@@ -15,6 +15,7 @@ pub enum Refusal {
     NoSector,
     Reveal,
     Line,
+    Edition,
 }
 
 // The factor of one step, or why there is none.
@@ -40,5 +41,6 @@ pub fn number_of(refusal: Refusal) -> u64
         Refusal::NoSector => 10,
         Refusal::Reveal => 11,
         Refusal::Line => 12,
+        Refusal::Edition => 14,
     }
 }

@@ -24,22 +24,22 @@ use Rattle.shading.specs.declared.step.SunPlace.{SunPlace}
 use Rattle.shading.specs.Factor.{sunOn, factorIn, shadingFactor}
 use Rattle.shading.specs.SunPlaces.{sunPlace, segmentThere, factorAt}
 
-module _ (surface : Surface) (altitude azimuth : Float) where
+module _ (edition : ℕ) (surface : Surface) (altitude azimuth : Float) where
   -- `at` gives the sector at a place
   module _ (sectors : List ShadingSegment) (at : ℕ → ShadingSegment) (there : (i : ℕ) → placeOf azimuth sectors ≡ place.At i → segmentOf azimuth sectors ≡ found (at i))
       (window : List WindowShadingObject) where
     by-cases : (b : Bool) (p : Place) → placeOf azimuth sectors ≡ p
-        → cond b (Factor (whole 1)) (factorIn surface (sunOn surface altitude azimuth) window (segmentThere (cond b place.NoSector p) (at (placeIndex (cond b place.NoSector p)))))
-        ≡ cond b (Factor (whole 1)) (factorIn surface (sunOn surface altitude azimuth) window (segmentOf azimuth sectors))
+        → cond b (Factor (whole 1)) (factorIn surface (sunOn edition surface altitude azimuth) window (segmentThere (cond b place.NoSector p) (at (placeIndex (cond b place.NoSector p)))))
+        ≡ cond b (Factor (whole 1)) (factorIn surface (sunOn edition surface altitude azimuth) window (segmentOf azimuth sectors))
     unfolding segmentThere placeIndex segmentOf segmentIn
     by-cases true p e = refl
-    by-cases false (place.At i) e = ap (factorIn surface (sunOn surface altitude azimuth) window) (sym (there i e))
-    by-cases false place.Gap e = ap (factorIn surface (sunOn surface altitude azimuth) window) (sym (ap (segmentIn sectors) e))
-    by-cases false place.Turned e = ap (factorIn surface (sunOn surface altitude azimuth) window) (sym (ap (segmentIn sectors) e))
-    by-cases false place.NoSector e = ap (factorIn surface (sunOn surface altitude azimuth) window) (sym (ap (segmentIn sectors) e))
+    by-cases false (place.At i) e = ap (factorIn surface (sunOn edition surface altitude azimuth) window) (sym (there i e))
+    by-cases false place.Gap e = ap (factorIn surface (sunOn edition surface altitude azimuth) window) (sym (ap (segmentIn sectors) e))
+    by-cases false place.Turned e = ap (factorIn surface (sunOn edition surface altitude azimuth) window) (sym (ap (segmentIn sectors) e))
+    by-cases false place.NoSector e = ap (factorIn surface (sunOn edition surface altitude azimuth) window) (sym (ap (segmentIn sectors) e))
 
     pub factor-by-place : (sun : SunPlace) (segment : ShadingSegment) → sun ≡ sunPlace surface altitude azimuth sectors → segment ≡ at (placeIndex (sun .place))
-        → factorAt surface altitude azimuth sun segment window ≡ shadingFactor surface altitude azimuth sectors window
+        → factorAt edition surface altitude azimuth sun segment window ≡ shadingFactor edition surface altitude azimuth sectors window
     unfolding sunPlace factorAt shadingFactor
     factor-by-place sun segment e s =
         rw (s, e) (by-cases (outsideSolarBeam (surface .tilt) (surface .orientation) altitude azimuth) (placeOf azimuth sectors) refl)
@@ -57,19 +57,19 @@ module _ (surface : Surface) (altitude azimuth : Float) where
 
     pub factor-by-table : (d : ShadingSegment) (window : List WindowShadingObject) (sun : SunPlace) (segment : ShadingSegment)
         → sun ≡ sunPlace surface altitude azimuth (take n places) → segment ≡ getD places (placeIndex (sun .place)) d
-        → factorAt surface altitude azimuth sun segment window ≡ shadingFactor surface altitude azimuth (take n places) window
+        → factorAt edition surface altitude azimuth sun segment window ≡ shadingFactor edition surface altitude azimuth (take n places) window
     factor-by-table d window = factor-by-place (take n places) (λ (i : ℕ). getD places i d) (λ i e. record-taken azimuth n i places e d) window
 
   -- ---- inside the beam, by the sector that was found
 
   module _ (sectors : List ShadingSegment) (window : List WindowShadingObject) (inside : outsideSolarBeam (surface .tilt) (surface .orientation) altitude azimuth ≡ false) where
     pub factor-by-found : (r : FoundSegment) → r ≡ segmentFound azimuth sectors
-        → factorAt surface altitude azimuth (record { outside = false; place = r .place }) (r .segment) window ≡ shadingFactor surface altitude azimuth sectors window
+        → factorAt edition surface altitude azimuth (record { outside = false; place = r .place }) (r .segment) window ≡ shadingFactor edition surface altitude azimuth sectors window
     unfolding segmentFound sunPlace
     factor-by-found r e =
         factor-by-place sectors (λ (i : ℕ). getD sectors i noSegment) (λ i h. place-record azimuth sectors i noSegment h) window _ (r .segment)
         (rw (inside, e) refl) (rw e refl)
 
-    pub no-sector-at-all : sectors ≡ [] → Refused NoSector ≡ shadingFactor surface altitude azimuth sectors window
+    pub no-sector-at-all : sectors ≡ [] → Refused NoSector ≡ shadingFactor edition surface altitude azimuth sectors window
     unfolding shadingFactor factorIn segmentOf segmentIn placeOf
     no-sector-at-all e = rw (e, inside) refl

@@ -1,6 +1,7 @@
 -- The direct shading reduction factor at one step (ISO 52016-1 Annex F), in the Rust's order of operations.
 use mathlib.Core.Bool.{Bool, false, cond, _||_}
 use mathlib.Core.List.{List, [], _∷_, _++_}
+use Prim.Native.Nat.{ℕ}
 use lib.Ieee.{Float}
 use Rattle.doubles.specs.Arithmetic.{_⊕_, _⊖_, _⊗_, _⊘_, whole}
 use Rattle.doubles.specs.Functions.{minOf2, maxOf2, floatMin, floatMax, largestOf, toRadians}
@@ -17,7 +18,8 @@ use Rattle.objects.specs.Objects.{ofKind, isObstacle, isOverhang, counted}
 use Rattle.shading.specs.declared.sun_on_surface.SunOnSurface.{SunOnSurface}
 use Rattle.orientation.specs.Orientation.{orientation180}
 use Rattle.beam.specs.Beam.{outsideSolarBeam}
-use Rattle.extents.specs.Extents.{obstacleHeight, overhangHeight, windowOverhangHeight, rightFinWidth, leftFinWidth}
+use Rattle.extents.specs.Extents.{obstacleHeight, overhangHeight, windowOverhangHeight}
+use Rattle.fins.specs.Fins.{finWidth, finsOf}
 use Rattle.segments.specs.Segments.{Segment, found, gap, turned, noSector, segmentOf}
 
 -- ---- the shade extents of a list of objects
@@ -27,15 +29,14 @@ unfoldable pub extents : {Object : Type 0} → (Object → Bool) → (Object →
 extents kind extent [] = []
 extents kind extent (o ∷ rest) = let later = extents kind extent rest in cond (kind o) (extent o ∷ later) later
 
--- the sun as the extents need it; its azimuth less the surface's orientation from south is not wrapped
-unfoldable pub sunOn : Surface → Float → Float → SunOnSurface
-sunOn surface altitude azimuth =
+-- the sun as the extents need it, with the fins of an edition; its azimuth less the surface's orientation from south is not wrapped here
+unfoldable pub sunOn : ℕ → Surface → Float → Float → SunOnSurface
+sunOn edition surface altitude azimuth =
     let difference = azimuth ⊖ orientation180 (surface .orientation) in
     record {
       «tan_altitude» = tangent (toRadians altitude);
-      difference = difference;
       «cos_difference» = cosine (toRadians difference);
-      «tan_difference» = tangent (toRadians difference);
+      fins = finsOf edition difference;
     }
 
 unfoldable pub obstacleExtents : Surface → SunOnSurface → List ShadingObject → List Float
@@ -53,12 +54,12 @@ windowOverhangExtents sun =
     extents (ofKind Overhang) (λ o. windowOverhangHeight (o .size) (o .distance) (sun .«tan_altitude») (sun .«cos_difference»))
 
 unfoldable pub rightFinExtents : SunOnSurface → List WindowShadingObject → List Float
-unfolding extents ofKind rightFinWidth
-rightFinExtents sun = extents (ofKind SideFinRight) (λ o. rightFinWidth (o .size) (o .distance) (sun .difference) (sun .«tan_difference»))
+unfolding extents ofKind finWidth
+rightFinExtents sun = extents (ofKind SideFinRight) (λ o. finWidth (sun .fins .right) (o .size) (o .distance))
 
 unfoldable pub leftFinExtents : SunOnSurface → List WindowShadingObject → List Float
-unfolding extents ofKind leftFinWidth
-leftFinExtents sun = extents (ofKind SideFinLeft) (λ o. leftFinWidth (o .size) (o .distance) (sun .difference) (sun .«tan_difference»))
+unfolding extents ofKind finWidth
+leftFinExtents sun = extents (ofKind SideFinLeft) (λ o. finWidth (sun .fins .left) (o .size) (o .distance))
 
 -- ---- what is left in the sun
 
@@ -137,8 +138,8 @@ factorIn surface sun window turned = Refused refusal.Turned
 factorIn surface sun window noSector = Refused refusal.NoSector
 
 -- outside the beam the answer is 1 and nothing else is looked at
-unfoldable pub shadingFactor : Surface → Float → Float → List ShadingSegment → List WindowShadingObject → FactorAnswer
+unfoldable pub shadingFactor : ℕ → Surface → Float → Float → List ShadingSegment → List WindowShadingObject → FactorAnswer
 unfolding whole
-shadingFactor surface altitude azimuth sectors window =
+shadingFactor edition surface altitude azimuth sectors window =
     cond (outsideSolarBeam (surface .tilt) (surface .orientation) altitude azimuth) (Factor (whole 1))
-    (factorIn surface (sunOn surface altitude azimuth) window (segmentOf azimuth sectors))
+    (factorIn surface (sunOn edition surface altitude azimuth) window (segmentOf azimuth sectors))

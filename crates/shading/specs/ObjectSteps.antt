@@ -8,7 +8,8 @@ use Rattle.shading.specs.declared.sun_on_surface.SunOnSurface.{SunOnSurf
 use Rattle.shading.specs.declared.distant.DistantShades.{DistantShades}
 use Rattle.objects.specs.declared.window.WindowShadingObject.{WindowShadingObject}
 use Rattle.shading.specs.declared.window.WindowShades.{WindowShades}
-use Rattle.extents.specs.Extents.{obstacleHeight, overhangHeight, windowOverhangHeight, rightFinWidth, leftFinWidth}
+use Rattle.extents.specs.Extents.{obstacleHeight, overhangHeight, windowOverhangHeight}
+use Rattle.fins.specs.Fins.{finWidth}
 use Rattle.objects.specs.declared.window.WindowShadingType.the-variants.{Overhang, SideFinRight, SideFinLeft, Reveal}
 use Rattle.objects.specs.Objects.{isObstacle, isOverhang, ofKind}
 
@@ -47,11 +48,11 @@ windowStep sun shades o = record {
       (shades .overhang);
   right =
       cond (ofKind SideFinRight o)
-      (maxOf2 (shades .right) (rightFinWidth (o .size) (o .distance) (sun .difference) (sun .«tan_difference»)))
+      (maxOf2 (shades .right) (finWidth (sun .fins .right) (o .size) (o .distance)))
       (shades .right);
   left =
       cond (ofKind SideFinLeft o)
-      (maxOf2 (shades .left) (leftFinWidth (o .size) (o .distance) (sun .difference) (sun .«tan_difference»)))
+      (maxOf2 (shades .left) (finWidth (sun .fins .left) (o .size) (o .distance)))
       (shades .left);
   reveal = cond (ofKind Reveal o) true (shades .reveal);
 }

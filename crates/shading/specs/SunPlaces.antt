@@ -2,6 +2,7 @@
 -- proofs/SunPlaces puts it together again.
 use mathlib.Core.Bool.{cond}
 use mathlib.Core.List.{List}
+use Prim.Native.Nat.{ℕ}
 use lib.Ieee.{Float}
 use Rattle.doubles.specs.Arithmetic.{whole}
 use Rattle.objects.specs.declared.surface.Surface.{Surface}
@@ -29,7 +30,7 @@ segmentThere place.Gap s = gap
 segmentThere place.Turned s = turned
 segmentThere place.NoSector s = noSector
 
-unfoldable pub factorAt : Surface → Float → Float → SunPlace → ShadingSegment → List WindowShadingObject → FactorAnswer
+unfoldable pub factorAt : ℕ → Surface → Float → Float → SunPlace → ShadingSegment → List WindowShadingObject → FactorAnswer
 unfolding segmentThere whole
-factorAt surface altitude azimuth sun segment window =
-    cond (sun .outside) (Factor (whole 1)) (factorIn surface (sunOn surface altitude azimuth) window (segmentThere (sun .place) segment))
+factorAt edition surface altitude azimuth sun segment window =
+    cond (sun .outside) (Factor (whole 1)) (factorIn surface (sunOn edition surface altitude azimuth) window (segmentThere (sun .place) segment))

@@ -54,6 +54,7 @@ pub fn sun_place(
 
 // The factor where the sun stands, the sector there being given, or why there is none.
 pub fn factor_at(
+    edition: u64,
     surface: Surface,
     altitude: f64,
     azimuth: f64,
@@ -61,7 +62,7 @@ pub fn factor_at(
     segment: ShadingSegment,
     window: WindowShading,
 ) -> FactorAnswer
-    ensures { λ r. ⌜ r ≡ factorAt surface altitude azimuth sun segment (placed window) ⌝ }
+    ensures { λ r. ⌜ r ≡ factorAt edition surface altitude azimuth sun segment (placed window) ⌝ }
 {
     if sun.outside {
         return FactorAnswer::Factor(1.0);
@@ -69,7 +70,7 @@ pub fn factor_at(
     let place = sun.place;
     match place {
         Place::At(_i) => {
-            let sun = sun_on_surface::sun_on(surface, altitude, azimuth);
+            let sun = sun_on_surface::sun_on(edition, surface, altitude, azimuth);
             factor::factor_in(surface, sun, segment, window)
         }
         Place::Gap => FactorAnswer::Refused(Refusal::Gap),
@@ -81,6 +82,7 @@ pub fn factor_at(
 // The direct shading reduction factor of one sun, or why there is none, by lists that have passed their checks. A list without a
 // sector is turned down before the walk: the compiler then sees that the table is always filled, and makes no copy of it.
 pub fn direct_shading_reduction_factor(
+    edition: u64,
     surface: Surface,
     altitude: f64,
     azimuth: f64,
@@ -89,7 +91,7 @@ pub fn direct_shading_reduction_factor(
 ) -> FactorAnswer
     requires { ⌜ sectorsFine (now sectors) ≡ true ⌝ }
     requires { ⌜ windowFine (now window) ≡ true ⌝ }
-    ensures { λ r. ⌜ r ≡ shadingFactor surface altitude azimuth (sectorsOf (now (sectors .entry))) (windowObjectsOf (now (window .entry))) ⌝ }
+    ensures { λ r. ⌜ r ≡ shadingFactor edition surface altitude azimuth (sectorsOf (now (sectors .entry))) (windowObjectsOf (now (window .entry))) ⌝ }
 {
     if outside_solar_beam(surface.tilt, surface.orientation, altitude, azimuth) {
         return FactorAnswer::Factor(1.0);
@@ -105,7 +107,7 @@ pub fn direct_shading_reduction_factor(
         place: place,
     };
     let objects = window_of(window);
-    factor_at(surface, altitude, azimuth, sun, segment, objects)
+    factor_at(edition, surface, altitude, azimuth, sun, segment, objects)
 }
 
 fn sun_fine(altitude: f64, azimuth: f64) -> bool
@@ -114,19 +116,23 @@ fn sun_fine(altitude: f64, azimuth: f64) -> bool
     (0.0 <= altitude) & (altitude <= 90.0) & ((-360.0 <= azimuth) & (azimuth <= 360.0))
 }
 
-// The factor for any sun, surface and lists, each checked here. Altitude and azimuth, from south, are in degrees.
+// The factor for any edition, sun, surface and lists, each checked here. Altitude and azimuth, from south, are in degrees.
 pub fn factor_call(
+    edition: u64,
     altitude: f64,
     azimuth: f64,
     surface: Surface,
     sectors: &[u8],
     window: &[u8],
 ) -> FactorAnswer
-    ensures { λ r. ⌜ r ≡ factorCall altitude azimuth surface (now (sectors .entry)) (now (window .entry)) ⌝ }
+    ensures { λ r. ⌜ r ≡ factorCall edition altitude azimuth surface (now (sectors .entry)) (now (window .entry)) ⌝ }
 {
+    if !fins::edition_fine(edition) {
+        return FactorAnswer::Refused(Refusal::Edition);
+    }
     if sun_fine(altitude, azimuth) & objects::surface::surface_fine(surface) {
         if object_checks::sectors_fine(sectors) & object_checks::window_fine(window) {
-            return direct_shading_reduction_factor(surface, altitude, azimuth, sectors, window);
+            return direct_shading_reduction_factor(edition, surface, altitude, azimuth, sectors, window);
         }
         return FactorAnswer::Refused(Refusal::Object);
     }

@@ -56,6 +56,9 @@ fn with_object(shades: WindowShades, sun: SunOnSurface, object: WindowShadingObj
 {
     let size = object.size;
     let away = object.distance;
+    let fins = sun.fins;
+    let right = fins.right;
+    let left = fins.left;
     let object_type = object.object_type;
     match object_type {
         WindowShadingType::Obstacle => shades,
@@ -65,11 +68,11 @@ fn with_object(shades: WindowShades, sun: SunOnSurface, object: WindowShadingObj
         ),
         WindowShadingType::SideFinRight => with_right_fin(
             shades,
-            extents::right_fin_width(size, away, sun.difference, sun.tan_difference),
+            fins::fin_width(right, size, away),
         ),
         WindowShadingType::SideFinLeft => with_left_fin(
             shades,
-            extents::left_fin_width(size, away, sun.difference, sun.tan_difference),
+            fins::fin_width(left, size, away),
         ),
         WindowShadingType::Reveal => WindowShades {
             overhang: shades.overhang,

@@ -41,6 +41,9 @@ enum-told-11 c = search needs
 enum-told-12 : tie.Need-enum-told-12
 enum-told-12 c = search needs
 
+enum-told-13 : tie.Need-enum-told-13
+enum-told-13 c = search needs
+
 returns : tie.Need-returns
 unfolding numberOf
 returns c = sym (ap numberOf (c .enum-told .given .1))
@@ -89,6 +92,10 @@ returns-12 : tie.Need-returns-12
 unfolding numberOf
 returns-12 c = sym (ap numberOf (c .enum-told12 .given .1))
 
+returns-13 : tie.Need-returns-13
+unfolding numberOf
+returns-13 c = sym (ap numberOf (c .enum-told13 .given .1))
+
 pub number-of-spec : {M : Type 1} → statement M
 number-of-spec =
     tie.close
@@ -105,6 +112,7 @@ number-of-spec =
     enum-told-10
     enum-told-11
     enum-told-12
+    enum-told-13
     returns
     returns-2
     returns-3
@@ -116,4 +124,5 @@ number-of-spec =
     returns-9
     returns-10
     returns-11
-    returns-12)
+    returns-12
+    returns-13)

@@ -29,7 +29,7 @@ unfolding sectorsOf recordsFrom
 returns-2 c =
     let a = c .before .before .before .before .before .before .args in
     let none : sectorsOf (a .sectors .now) ≡ [] = ap (recordsFrom (segmentAt (a .sectors .now)) 0) (sym (c .before .sector-count .ensures) ∙ c .if2 .taken) in
-    no-sector-at-all (a .surface) (a .altitude) (a .azimuth) _ _ (sym (c .before .before .before .outside-solar-beam .ensures) ∙ c .before .before .if1 .left) none
+    no-sector-at-all (a .edition) (a .surface) (a .altitude) (a .azimuth) _ _ (sym (c .before .before .before .outside-solar-beam .ensures) ∙ c .before .before .if1 .left) none
 
 find-segment-requires : tie.Need-find-segment-requires
 find-segment-requires c κs = let s = c .before .before .before .before .before .before in readable (now (s .args .sectors)) (subst T (sym (s .pre .0)) tt)
@@ -47,10 +47,10 @@ returns-3 c =
     let a = s .args in
     let objects = ap placed (c .before .window-of .ensures) ∙ window-places (now (a .window)) (subst T (sym (s .pre .1)) tt) in
     c .factor-at .ensures
-    ∙ factor-by-found (a .surface) (a .altitude) (a .azimuth) (sectorsOf (a .sectors .now)) _
+    ∙ factor-by-found (a .edition) (a .surface) (a .altitude) (a .azimuth) (sectorsOf (a .sectors .now)) _
     (sym (c .before .before .before .before .before .before .before .outside-solar-beam .ensures) ∙ c .before .before .before .before .before .before .if1 .left) _
     (c .before .before .before .find-segment .ensures)
-    ∙ ap (shadingFactor (a .surface) (a .altitude) (a .azimuth) (sectorsOf (a .sectors .now))) objects
+    ∙ ap (shadingFactor (a .edition) (a .surface) (a .altitude) (a .azimuth) (sectorsOf (a .sectors .now))) objects
 
 pub direct-shading-reduction-factor-spec : {M : Type 1} → statement M
 direct-shading-reduction-factor-spec =

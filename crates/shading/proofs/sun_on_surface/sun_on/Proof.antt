@@ -18,11 +18,24 @@ to-radians-requires-2 c κs = tt
 tan-requires : tie.Need-tan-requires
 tan-requires c κs = tt
 
-returns : tie.Need-returns
-unfolding sunOn tangent
-returns c =
+-- the quotient is the difference's tangent
+fins-of-requires : tie.Need-fins-of-requires
+unfolding tangent
+fins-of-requires c κs =
     let both = c .before .before .before .sin-cos .ensures in
-    rw (c .before .tan .ensures, c .before .before .to-radians2 .ensures, both .0, both .1, c .before .before .before .before .to-radians .ensures, c .before .before .before .before .before .transform-to-180 .ensures)
+    rw (both .0, both .1, c .before .before .before .before .to-radians .ensures)
+
+returns : tie.Need-returns
+unfolding sunOn
+returns c =
+    rw (
+      c .before .before .tan .ensures,
+      c .before .before .before .to-radians2 .ensures,
+      c .before .before .before .before .sin-cos .ensures .1,
+      c .fins-of .ensures,
+      c .before .before .before .before .before .to-radians .ensures,
+      c .before .before .before .before .before .before .transform-to-180 .ensures,
+    )
 
 pub sun-on-spec : {M : Type 1} → statement M
 sun-on-spec =
@@ -33,4 +46,5 @@ sun-on-spec =
     sin-cos-requires
     to-radians-requires-2
     tan-requires
+    fins-of-requires
     returns)

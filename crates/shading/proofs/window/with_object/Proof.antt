@@ -18,8 +18,8 @@ with-overhang-requires c κs = search needs
 enum-told-3 : tie.Need-enum-told-3
 enum-told-3 c = search needs
 
-right-fin-width-requires : tie.Need-right-fin-width-requires
-right-fin-width-requires c κs = search needs
+fin-width-requires : tie.Need-fin-width-requires
+fin-width-requires c κs = search needs
 
 with-right-fin-requires : tie.Need-with-right-fin-requires
 with-right-fin-requires c κs = search needs
@@ -27,8 +27,8 @@ with-right-fin-requires c κs = search needs
 enum-told-4 : tie.Need-enum-told-4
 enum-told-4 c = search needs
 
-left-fin-width-requires : tie.Need-left-fin-width-requires
-left-fin-width-requires c κs = search needs
+fin-width-requires-2 : tie.Need-fin-width-requires-2
+fin-width-requires-2 c κs = search needs
 
 with-left-fin-requires : tie.Need-with-left-fin-requires
 with-left-fin-requires c κs = search needs
@@ -46,11 +46,11 @@ returns-2 c = rw (c .before .before .enum-told2 .given .1, c .with-overhang .ens
 
 returns-3 : tie.Need-returns-3
 unfolding windowStep withRightFin
-returns-3 c = rw (c .before .before .enum-told3 .given .1, c .with-right-fin .ensures, c .before .right-fin-width .ensures)
+returns-3 c = rw (c .before .before .enum-told3 .given .1, c .with-right-fin .ensures, c .before .fin-width .ensures)
 
 returns-4 : tie.Need-returns-4
 unfolding windowStep withLeftFin
-returns-4 c = rw (c .before .before .enum-told4 .given .1, c .with-left-fin .ensures, c .before .left-fin-width .ensures)
+returns-4 c = rw (c .before .before .enum-told4 .given .1, c .with-left-fin .ensures, c .before .fin-width2 .ensures)
 
 returns-5 : tie.Need-returns-5
 unfolding windowStep
@@ -65,10 +65,10 @@ with-object-spec =
     window-overhang-height-requires
     with-overhang-requires
     enum-told-3
-    right-fin-width-requires
+    fin-width-requires
     with-right-fin-requires
     enum-told-4
-    left-fin-width-requires
+    fin-width-requires-2
     with-left-fin-requires
     enum-told-5
     returns
