@@ -26,6 +26,7 @@ use Rattle.simulation_time.proofs.Times.{times-length, times-at}
 use Rattle.simulation_time.proofs.Accepted.{StepLength, step-length}
 use Rattle.objects.specs.declared.answers.Refusal.{Refusal}
 use Rattle.objects.specs.declared.answers.Refusal.the-variants as refusal
+use Rattle.fins.specs.Fins.{editionFine}
 use Rattle.objects.specs.Surface.{surfaceFine}
 use Rattle.object_checks.specs.Checks.{sectorsFine, windowFine}
 use Rattle.objects.specs.Records.{windowObjectsOf}
@@ -74,7 +75,8 @@ pub record Passed (job : Job) (room : Bool) : Type 0 where
 pub passed : (job : Job) (room : Bool) (n : ℕ) → checked job room ≡ Steps n → Passed job room × (n ≡ stepCount (job .run))
 unfolding checked stepsIn indicesFine readingsFine readingAt indexAt
 passed job room n e =
-    let p1 = passed-test (siteFine (job .site)) refusal.Site _ n e in
+    let p0 = passed-test (editionFine (job .edition)) refusal.Edition _ n e in
+    let p1 = passed-test (siteFine (job .site)) refusal.Site _ n (p0 .1) in
     let p2 = passed-test (runAccepted (hoursInYear (job .site)) (job .run)) refusal.Run _ n (p1 .1) in
     let p3 = passed-test (surfaceFine (job .surface)) refusal.Surface _ n (p2 .1) in
     let p4 = passed-test (sectorsFine (job .sectors) && windowFine (job .window)) refusal.Object _ n (p3 .1) in

@@ -212,6 +212,7 @@ number-above refusal.Turned = omega arith
 number-above refusal.NoSector = omega arith
 number-above refusal.Reveal = omega arith
 number-above refusal.Line = omega arith
+number-above refusal.Edition = omega arith
 
 -- its steps all have rows, and it comes to this
 unfoldable pub done : Job → List ℕ → Ran

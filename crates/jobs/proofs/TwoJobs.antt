@@ -1,6 +1,6 @@
 -- Two jobs compared: the claim, proved. The laws at one step (`Answers` of `shading_laws`) go through the rows that an accepted run leaves
 -- to the factors in its results list, and by the order of sums to its sum. Assumes nothing.
-use mathlib.Core.Path.{_≡_, refl, sym, ap, ap₂, _∙_, subst, subst₂, subst₃}
+use mathlib.Core.Path.{_≡_, refl, sym, ap, ap₂, _∙_, subst, subst₂}
 use mathlib.Core.Bool.{Bool, true}
 use mathlib.Core.List.{List, []}
 use Prim.Native.Nat.{ℕ, zero, suc, _+_, _*_, _<_}
@@ -94,7 +94,7 @@ module _ {job : Job} {lists : Lent} (a : AcceptedRun job lists) where
 
   -- its factor is the answer of the lists' records
   factor-answer : (i : ℕ) → i < stepCount (job .run)
-      → shadingFactor (job .surface) (sunAt (job .site) (timeAt (job .run) i) .altitude) (sunAt (job .site) (timeAt (job .run) i) .azimuth) (sectorsOf (job .sectors)) (windowObjectsOf (job .window))
+      → shadingFactor (job .edition) (job .surface) (sunAt (job .site) (timeAt (job .run) i) .altitude) (sunAt (job .site) (timeAt (job .run) i) .azimuth) (sectorsOf (job .sectors)) (windowObjectsOf (job .window))
       ≡ Factor (rowAt job i .factor)
   unfolding shadingAt
   factor-answer i h = row-of i h .factor
@@ -111,10 +111,10 @@ module _ {job : Job} {lists : Lent} (a : AcceptedRun job lists) (d : Doubles (jo
   one : NoObjects job → (i : ℕ) → i < stepCount (job .run) → rowAt job i .factor ≡ whole 1
   one o i h =
       let sun = sunAt (job .site) (timeAt (job .run) i) in
-      answer-no-objects (sun .altitude) (sun .azimuth) (sectorsOf (job .sectors)) (surface-accepted (a .checks) d)
+      answer-no-objects (job .edition) (sun .altitude) (sun .azimuth) (sectorsOf (job .sectors)) (surface-accepted (a .checks) d)
       (found-has (λ (s : ShadingSegment). counted s ≡ []) (sun .azimuth) (sectorsOf (job .sectors)) (none-counted (job .sectors) (o .in-sectors)))
       (rowAt job i .factor)
-      (subst (λ (ws : List WindowShadingObject). shadingFactor (job .surface) (sun .altitude) (sun .azimuth) (sectorsOf (job .sectors)) ws ≡ Factor (rowAt job i .factor))
+      (subst (λ (ws : List WindowShadingObject). shadingFactor (job .edition) (job .surface) (sun .altitude) (sun .azimuth) (sectorsOf (job .sectors)) ws ≡ Factor (rowAt job i .factor))
       (no-window (job .window) (o .at-window)) (factor-answer a i h))
 
   -- its direct value is finite and not negative
@@ -203,21 +203,13 @@ module _ {j k : Job} {r s : Lent} (l : Alike j k) (a : AcceptedRun j r) (b : Acc
   -- the second job's answer and extents, at the first one's site, times and surface
   module _ (d : Doubles (j .surface)) (n : NoNan j) (m : NoNan k) (c : BoundedAlike (j .sectors) (k .sectors)) where
     second-answer : (i : ℕ) → i < stepCount (j .run)
-        → shadingFactor (j .surface) (sunAt (j .site) (timeAt (j .run) i) .altitude) (sunAt (j .site) (timeAt (j .run) i) .azimuth) (sectorsOf (k .sectors)) (windowObjectsOf (k .window))
+        → shadingFactor (j .edition) (j .surface) (sunAt (j .site) (timeAt (j .run) i) .altitude) (sunAt (j .site) (timeAt (j .run) i) .azimuth) (sectorsOf (k .sectors)) (windowObjectsOf (k .window))
         ≡ Factor (rowAt k i .factor)
-    second-answer i h =
-        subst₃
-        (λ (site : Site) (run : Run) (surface : Surface).
-        shadingFactor surface (sunAt site (timeAt run i) .altitude) (sunAt site (timeAt run i) .azimuth) (sectorsOf (k .sectors)) (windowObjectsOf (k .window)) ≡ Factor (rowAt k i .factor))
-        (sym (l .sites)) (sym (l .runs)) (sym (l .surfaces)) (factor-answer b i (rw (← counts-alike) h))
+    second-answer i h = rw (l .editions, l .sites, l .runs, l .surfaces) (factor-answer b i (rw (← counts-alike) h))
 
     second-extents : (i : ℕ) → i < stepCount (j .run)
-        → NoNanAt (j .surface) (sunAt (j .site) (timeAt (j .run) i) .altitude) (sunAt (j .site) (timeAt (j .run) i) .azimuth) (sectorsOf (k .sectors)) (windowObjectsOf (k .window))
-    second-extents i h =
-        subst₃
-        (λ (site : Site) (run : Run) (surface : Surface).
-        NoNanAt surface (sunAt site (timeAt run i) .altitude) (sunAt site (timeAt run i) .azimuth) (sectorsOf (k .sectors)) (windowObjectsOf (k .window)))
-        (sym (l .sites)) (sym (l .runs)) (sym (l .surfaces)) (m .at-step i (rw (← counts-alike) h))
+        → NoNanAt (j .edition) (j .surface) (sunAt (j .site) (timeAt (j .run) i) .altitude) (sunAt (j .site) (timeAt (j .run) i) .azimuth) (sectorsOf (k .sectors)) (windowObjectsOf (k .window))
+    second-extents i h = rw (l .editions, l .sites, l .runs, l .surfaces) (m .at-step i (rw (← counts-alike) h))
 
     factors-more : HoldsAll k j → (i : ℕ) → i < stepCount (j .run) → rowAt k i .factor ≼ rowAt j i .factor
     factors-more o i h =
@@ -271,6 +263,7 @@ series-back e = record { lengths = sym (e .lengths); values = λ i. sym (e .valu
 
 alike-back : {j k : Job} → Alike j k → Alike k j
 alike-back l = record {
+  editions = sym (l .editions);
   sites = sym (l .sites);
   runs = sym (l .runs);
   surfaces = sym (l .surfaces);

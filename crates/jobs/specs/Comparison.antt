@@ -50,8 +50,9 @@ pub record SameSeries (l m : List ℕ) : Type 0 where
   pub lengths : wordCount l ≡ wordCount m
   pub values : (i : ℕ) → doubleAt l i ≡ doubleAt m i
 
--- alike in all but their shading objects: site, run, surface and series are the same
+-- alike in all but their shading objects: edition, site, run, surface and series are the same
 pub record Alike (j k : Job) : Type 0 where
+  pub editions : j .edition ≡ k .edition
   pub sites : j .site ≡ k .site
   pub runs : j .run ≡ k .run
   pub surfaces : j .surface ≡ k .surface
@@ -97,7 +98,7 @@ pub record NoObjects (job : Job) : Type 0 where
 pub record NoNan (job : Job) : Type 0 where
   pub at-step : (i : ℕ) → i < stepCount (job .run)
       → let sun = sunAt (job .site) (timeAt (job .run) i) in
-      NoNanAt (job .surface) (sun .altitude) (sun .azimuth) (sectorsOf (job .sectors)) (windowObjectsOf (job .window))
+      NoNanAt (job .edition) (job .surface) (sun .altitude) (sun .azimuth) (sectorsOf (job .sectors)) (windowObjectsOf (job .window))
 
 -- The surface's height and width are doubles. `pilgartze_run` ensures this of every surface that it is passed, so that nobody has to see
 -- to it; it stands here because the type `Float` has other values too, which no double is.

@@ -10,6 +10,7 @@ use Rattle.weather.specs.declared.Reading.{Reading}
 use Rattle.weather.specs.Weather.{readSeries}
 
 pub record Job : Type 0 where
+  pub edition : ℕ
   pub site : Site
   pub run : Run
   pub surface : Surface
@@ -19,8 +20,9 @@ pub record Job : Type 0 where
   pub sectors : List ℕ
   pub window : List ℕ
 
-abbrev pub jobOf : Site → Run → Surface → List ℕ → List ℕ → List ℕ → List ℕ → List ℕ → Job
-jobOf site run surface diffuse direct reflectivity sectors window = record {
+abbrev pub jobOf : ℕ → Site → Run → Surface → List ℕ → List ℕ → List ℕ → List ℕ → List ℕ → Job
+jobOf edition site run surface diffuse direct reflectivity sectors window = record {
+  edition = edition;
   site = site;
   run = run;
   surface = surface;

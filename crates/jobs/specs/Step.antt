@@ -42,9 +42,9 @@ unfoldable pub irradianceAt : Site → Surface → Float → Reading → Irradia
 unfolding irradianceByDay
 irradianceAt site surface time reading = irradianceByDay site surface (dayOf (currentHour time / 24 + 1)) (sunAt site time) reading
 
--- the factor of lists of bytes
-unfoldable pub shadingAt : Surface → Hour → List ℕ → List ℕ → FactorAnswer
-shadingAt surface sun sectors window = shadingFactor surface (sun .altitude) (sun .azimuth) (sectorsOf sectors) (windowObjectsOf window)
+-- the factor by an edition, of lists of bytes
+unfoldable pub shadingAt : ℕ → Surface → Hour → List ℕ → List ℕ → FactorAnswer
+shadingAt edition surface sun sectors window = shadingFactor edition surface (sun .altitude) (sun .azimuth) (sectorsOf sectors) (windowObjectsOf window)
 
 -- a step has a row where it has a factor
 unfoldable pub rowWith : Hour → Irradiance → FactorAnswer → StepAnswer
@@ -59,10 +59,10 @@ rowWith sun parts (factor.Factor f) = step.Row (record {
 rowWith sun parts (factor.Refused r) = step.Refused r
 
 -- the step at a time, the values of its series being given
-unfoldable pub stepWith : Site → Surface → List ℕ → List ℕ → Float → Reading → StepAnswer
-stepWith site surface sectors window time reading =
-    rowWith (sunAt site time) (irradianceAt site surface time reading) (shadingAt surface (sunAt site time) sectors window)
+unfoldable pub stepWith : ℕ → Site → Surface → List ℕ → List ℕ → Float → Reading → StepAnswer
+stepWith edition site surface sectors window time reading =
+    rowWith (sunAt site time) (irradianceAt site surface time reading) (shadingAt edition surface (sunAt site time) sectors window)
 
 -- a job's step at a time
 unfoldable pub stepAt : Job → Float → StepAnswer
-stepAt job time = stepWith (job .site) (job .surface) (job .sectors) (job .window) time (readingAt job time)
+stepAt job time = stepWith (job .edition) (job .site) (job .surface) (job .sectors) (job .window) time (readingAt job time)

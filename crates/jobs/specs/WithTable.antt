@@ -42,7 +42,7 @@ unfoldable pub stepByTable : List ℕ → Job → Float → StepAnswer
 stepByTable days job time =
     let day = dayAt days (currentHour time / 24) in
     let sun = sunByDay (job .site) day (currentHour time) in
-    rowWith sun (irradianceByDay (job .site) (job .surface) day sun (readingAt job time)) (shadingAt (job .surface) sun (job .sectors) (job .window))
+    rowWith sun (irradianceByDay (job .site) (job .surface) day sun (readingAt job time)) (shadingAt (job .edition) (job .surface) sun (job .sectors) (job .window))
 
 -- n steps like that, from the i-th on: as `runFrom`, but for the table
 unfoldable pub runByTable : ℕ → List ℕ → Job → ℕ → Float → Float → List ℕ → Ran

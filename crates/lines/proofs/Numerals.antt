@@ -25,6 +25,7 @@ below-hundred refusal.Turned = omega arith
 below-hundred refusal.NoSector = omega arith
 below-hundred refusal.Reveal = omega arith
 below-hundred refusal.Line = omega arith
+below-hundred refusal.Edition = omega arith
 
 module _ (n : ℕ) where
   pub one-digit : n < 10 → (48 + n) ∷ 32 ∷ 45 ∷ 10 ∷ [] ≡ numeral n ++ ascii " -\n"

@@ -66,7 +66,7 @@ lineAnswer l =
       height = valueAt l 3;
       width = valueAt l 4;
     } in
-    cond (lineFine l) (factorCall (valueAt l 0) (valueAt l 1) surface wholeHorizon (oneObstacle (valueAt l 7) (valueAt l 8) (valueAt l 9)))
+    cond (lineFine l) (factorCall 1 (valueAt l 0) (valueAt l 1) surface wholeHorizon (oneObstacle (valueAt l 7) (valueAt l 8) (valueAt l 9)))
     (Refused refusal.Line)
 
 -- ---- what is printed

@@ -87,7 +87,7 @@ pub fn one_obstacle(height: f64, distance: f64, transparency: f64) -> [u8; 32]
     window
 }
 
-// The factor call that a line stands for.
+// The factor call that a line stands for, in edition 1.
 pub fn listed_factor(
     altitude: f64,
     azimuth: f64,
@@ -96,11 +96,11 @@ pub fn listed_factor(
     distance: f64,
     transparency: f64,
 ) -> FactorAnswer
-    ensures { λ r. ⌜ r ≡ factorCall altitude azimuth surface wholeHorizon (oneObstacle shade distance transparency) ⌝ }
+    ensures { λ r. ⌜ r ≡ factorCall 1 altitude azimuth surface wholeHorizon (oneObstacle shade distance transparency) ⌝ }
 {
     let sectors = whole_horizon();
     let window = one_obstacle(shade, distance, transparency);
-    shading::step::factor_call(altitude, azimuth, surface, &sectors, &window)
+    shading::step::factor_call(1, altitude, azimuth, surface, &sectors, &window)
 }
 
 // The answer to a line without its line feed.

@@ -101,18 +101,19 @@ fn surface_of(tilt: f64, orientation: f64, base_height: f64, height: f64, width:
     }
 }
 
-// The version of the library that is linked: 4.0.0, as the header's PILGARTZE_VERSION.
+// The version of the library that is linked: 5.0.0, as the header's PILGARTZE_VERSION.
 #[no_mangle]
 pub extern "C" fn pilgartze_version() -> u64
     ensures { λ r. ⌜ r ≡ version ⌝ }
 {
-    4000000
+    5000000
 }
 
 // A run: the table of days, the totals of each day and month, a row of six doubles for each step, and the sum of factor times direct
 // times step. That height and width are doubles is what the claim on two jobs compared asks of them (`Comparison` of `jobs`).
 #[no_mangle]
 pub extern "C" fn pilgartze_run(
+    edition: u64,
     latitude: f64,
     longitude: f64,
     timezone: i64,
@@ -138,7 +139,7 @@ pub extern "C" fn pilgartze_run(
     results: &mut [u8],
 ) -> Answer
     ensures { λ r. ⌜ (r, now (days .exit), now (totals .exit), now (results .exit)) ≡ runLeaves (runOf
-        (jobOf (siteOf latitude longitude timezone «start_day» «series_step» «leap_year» «direct_beam_conversion»)
+        (jobOf edition (siteOf latitude longitude timezone «start_day» «series_step» «leap_year» «direct_beam_conversion»)
         (timesOf start end step) (surfaceOf tilt orientation «base_height» height width)
         (now (diffuse .entry)) (now (direct .entry)) (now (reflectivity .entry)) (now (sectors .entry)) (now (window .entry)))
         (lent (now (days .entry)) (now (totals .entry)) (now (results .entry)))) ⌝ }
@@ -160,6 +161,7 @@ pub extern "C" fn pilgartze_run(
     };
     let surface = surface_of(tilt, orientation, base_height, height, width);
     answer_for(runs::run::run_job(
+        edition,
         site,
         times,
         surface,
@@ -177,6 +179,7 @@ pub extern "C" fn pilgartze_run(
 // One step: the row that a run has at that time, in the first six words of the results. Answers 0, or the refusal's number.
 #[no_mangle]
 pub extern "C" fn pilgartze_step(
+    edition: u64,
     latitude: f64,
     longitude: f64,
     timezone: i64,
@@ -197,7 +200,7 @@ pub extern "C" fn pilgartze_step(
     window: &[u8],
     results: &mut [u8],
 ) -> u64
-    ensures { λ r. ⌜ (r, now (results .exit)) ≡ callLeaves (stepCall
+    ensures { λ r. ⌜ (r, now (results .exit)) ≡ callLeaves (stepCall edition
         (siteOf latitude longitude timezone «start_day» «series_step» «leap_year» «direct_beam_conversion») time
         (surfaceOf tilt orientation «base_height» height width) (readingOf diffuse direct reflectivity)
         (now (sectors .entry)) (now (window .entry)) (now (results .entry))) ⌝ }
@@ -218,6 +221,7 @@ pub extern "C" fn pilgartze_step(
         reflectivity: reflectivity,
     };
     single_steps::single_number(single_steps::step_call(
+        edition,
         site,
         time,
         surface,
@@ -281,6 +285,7 @@ pub extern "C" fn pilgartze_irradiance(
 // The direct shading factor of one step.
 #[no_mangle]
 pub extern "C" fn pilgartze_factor(
+    edition: u64,
     altitude: f64,
     azimuth: f64,
     tilt: f64,
@@ -291,9 +296,9 @@ pub extern "C" fn pilgartze_factor(
     sectors: &[u8],
     window: &[u8],
 ) -> ShadingFactor
-    ensures { λ r. ⌜ r ≡ factorFor (factorCall altitude azimuth (surfaceOf tilt orientation «base_height» height width)
+    ensures { λ r. ⌜ r ≡ factorFor (factorCall edition altitude azimuth (surfaceOf tilt orientation «base_height» height width)
         (now (sectors .entry)) (now (window .entry))) ⌝ }
 {
     let surface = surface_of(tilt, orientation, base_height, height, width);
-    factor_for(shading::step::factor_call(altitude, azimuth, surface, sectors, window))
+    factor_for(shading::step::factor_call(edition, altitude, azimuth, surface, sectors, window))
 }

@@ -16,6 +16,7 @@ use Rattle.simulation_time.specs.declared.run.Run.{Run}
 use Rattle.simulation_time.specs.Steps.{stepCount, times}
 use Rattle.simulation_time.specs.RunChecks.{runAccepted}
 use Rattle.objects.specs.declared.answers.Refusal.the-variants as refusal
+use Rattle.fins.specs.Fins.{editionFine}
 use Rattle.objects.specs.Surface.{surfaceFine}
 use Rattle.object_checks.specs.Checks.{sectorsFine, windowFine}
 use Rattle.jobs.specs.declared.answers.Checked.{Checked}
@@ -50,29 +51,34 @@ module _ (day : ℕ) (step : Float) (run : Run) (diffuse direct reflectivity : L
   series-passed e f h = rw (e, f, h) refl
 
 module _ (job : Job) (room : Bool) where
-  pub site-refused : siteFine (job .site) ≡ false → Refused refusal.Site ≡ checked job room
+  pub edition-refused : editionFine (job .edition) ≡ false → Refused refusal.Edition ≡ checked job room
   unfolding checked tried
-  site-refused e = rw e refl
+  edition-refused e = rw e refl
 
-  module _ (site : siteFine (job .site) ≡ true) where
-    pub run-refused : runAccepted (hoursInYear (job .site)) (job .run) ≡ false → Refused refusal.Run ≡ checked job room
+  module _ (edition : editionFine (job .edition) ≡ true) where
+    pub site-refused : siteFine (job .site) ≡ false → Refused refusal.Site ≡ checked job room
     unfolding checked tried
-    run-refused e = rw (site, e) refl
+    site-refused e = rw (edition, e) refl
 
-    module _ (steps : runAccepted (hoursInYear (job .site)) (job .run) ≡ true) where
-      pub surface-refused : surfaceFine (job .surface) ≡ false → Refused refusal.Surface ≡ checked job room
+    module _ (site : siteFine (job .site) ≡ true) where
+      pub run-refused : runAccepted (hoursInYear (job .site)) (job .run) ≡ false → Refused refusal.Run ≡ checked job room
       unfolding checked tried
-      surface-refused e = rw (site, steps, e) refl
+      run-refused e = rw (edition, site, e) refl
 
-      module _ (surface : surfaceFine (job .surface) ≡ true) where
-        pub object-refused : sectorsFine (job .sectors) && windowFine (job .window) ≡ false → Refused refusal.Object ≡ checked job room
+      module _ (steps : runAccepted (hoursInYear (job .site)) (job .run) ≡ true) where
+        pub surface-refused : surfaceFine (job .surface) ≡ false → Refused refusal.Surface ≡ checked job room
         unfolding checked tried
-        object-refused e = rw (site, steps, surface, e) refl
+        surface-refused e = rw (edition, site, steps, e) refl
 
-        pub first-passed : sectorsFine (job .sectors) && windowFine (job .window) ≡ true
-            → seriesChecked (job .site .«start_day») (job .site .«time_series_step») (job .run) (job .diffuse) (job .direct) (job .reflectivity) room ≡ checked job room
-        unfolding checked tried
-        first-passed e = rw (site, steps, surface, e) refl
+        module _ (surface : surfaceFine (job .surface) ≡ true) where
+          pub object-refused : sectorsFine (job .sectors) && windowFine (job .window) ≡ false → Refused refusal.Object ≡ checked job room
+          unfolding checked tried
+          object-refused e = rw (edition, site, steps, surface, e) refl
+
+          pub first-passed : sectorsFine (job .sectors) && windowFine (job .window) ≡ true
+              → seriesChecked (job .site .«start_day») (job .site .«time_series_step») (job .run) (job .diffuse) (job .direct) (job .reflectivity) room ≡ checked job room
+          unfolding checked tried
+          first-passed e = rw (edition, site, steps, surface, e) refl
 
 -- the start day of an accepted site
 fourth : (a b c d e f g : Bool) → T (a && b && c && d && e && f && g) → T d

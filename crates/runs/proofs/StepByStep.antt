@@ -32,7 +32,7 @@ use Rattle.totals.specs.declared.KeptTotals.{KeptTotals}
 use Rattle.totals.specs.Kept.{emptied, partsOf, keptTotals, withRowAdded, HasRecords, putKept}
 use Rattle.totals.proofs.Kept.{few-added, kept-over, kept-stored, kept-added, row-added, over-emptied}
 
-pub job-step : (job : Job) (time : Float) (answer : StepAnswer) → answer ≡ stepWith (job .site) (job .surface) (job .sectors) (job .window) time (readingAt job time)
+pub job-step : (job : Job) (time : Float) (answer : StepAnswer) → answer ≡ stepWith (job .edition) (job .site) (job .surface) (job .sectors) (job .window) time (readingAt job time)
     → answer ≡ stepAt job time
 unfolding stepAt
 job-step job time answer e = e

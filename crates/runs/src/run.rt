@@ -19,6 +19,7 @@ ghost use Rattle.totals.specs.Kept.{emptied};
 use crate::series::series_fine;
 use calendar::days_in_year;
 use days::table::fill_days;
+use fins::edition_fine;
 use jobs::answers::Checked;
 use jobs::answers::RunAnswer;
 use jobs::answers::StepAnswer;
@@ -102,8 +103,9 @@ fn check_series(
     Checked::Steps(count)
 }
 
-// Refusals 1 to 7 in number order, or how many steps the job has.
+// Refusal 14, then 1 to 7 in number order, or how many steps the job has.
 fn check_job(
+    edition: u64,
     site: Site,
     run: Run,
     surface: Surface,
@@ -117,9 +119,12 @@ fn check_job(
     results: &[u8],
 ) -> Checked
     ensures { λ r. ⌜ r ≡ checked
-        (jobOf site run surface (now (diffuse .entry)) (now (direct .entry)) (now (reflectivity .entry)) (now (sectors .entry)) (now (window .entry)))
+        (jobOf edition site run surface (now (diffuse .entry)) (now (direct .entry)) (now (reflectivity .entry)) (now (sectors .entry)) (now (window .entry)))
         (roomFine (leapYear site) run (lent (now (days .entry)) (now (totals .entry)) (now (results .entry)))) ⌝ }
 {
+    if !edition_fine(edition) {
+        return Checked::Refused(Refusal::Edition);
+    }
     if !site_fine(site) {
         return Checked::Refused(Refusal::Site);
     }
@@ -161,6 +166,7 @@ fn refused_at(refusal: Refusal, step: u64) -> RunAnswer
 // the factor is worked out once an hour: `shaded` says that it is that of the hour which is kept. The totals of the day and its month
 // are stored where the day changes and at every way out.
 fn run_steps(
+    edition: u64,
     site: Site,
     run: Run,
     count: u64,
@@ -184,7 +190,7 @@ fn run_steps(
     requires { ⌜ 24 * totalsCount (leapYear site) ≤ length (now totals) ⌝ }
     requires { ⌜ 6 * count ≤ wordCount (now results) ⌝ }
     ensures { λ r. ⌜ ran r (now (results .exit)) ≡ runFrom count
-        (jobOf site run surface (now (diffuse .entry)) (now (direct .entry)) (now (reflectivity .entry)) (now (sectors .entry)) (now (window .entry)))
+        (jobOf edition site run surface (now (diffuse .entry)) (now (direct .entry)) (now (reflectivity .entry)) (now (sectors .entry)) (now (window .entry)))
         0 (run .start) (whole 0) (now (results .entry)) ⌝ }
     ensures { λ r. ⌜ now (totals .exit) ≡ withTotals (leapYear site) run (now (results .exit)) (rowsStored r) (now (totals .entry)) ⌝ }
 {
@@ -217,6 +223,7 @@ fn run_steps(
             let place = sun.place;
             let segment = places[place_index(place)];
             factor = factor_at(
+                edition,
                 surface,
                 kept.sun.altitude,
                 kept.sun.azimuth,
@@ -259,6 +266,7 @@ fn run_steps(
 
 // One call of the run: the answer, the table of days, the totals of days and months, and in the results a row for each step.
 pub fn run_job(
+    edition: u64,
     site: Site,
     run: Run,
     surface: Surface,
@@ -272,10 +280,11 @@ pub fn run_job(
     results: &mut [u8],
 ) -> RunAnswer
     ensures { λ r. ⌜ left r (now (days .exit)) (now (totals .exit)) (now (results .exit)) ≡ runOf
-        (jobOf site run surface (now (diffuse .entry)) (now (direct .entry)) (now (reflectivity .entry)) (now (sectors .entry)) (now (window .entry)))
+        (jobOf edition site run surface (now (diffuse .entry)) (now (direct .entry)) (now (reflectivity .entry)) (now (sectors .entry)) (now (window .entry)))
         (lent (now (days .entry)) (now (totals .entry)) (now (results .entry))) ⌝ }
 {
     let answer = check_job(
+        edition,
         site,
         run,
         surface,
@@ -294,6 +303,7 @@ pub fn run_job(
             fill_days(days);
             empty_totals(totals, site.leap_year == 1);
             run_steps(
+                edition,
                 site,
                 run,
                 count,

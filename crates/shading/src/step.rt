@@ -132,7 +132,14 @@ pub fn factor_call(
     }
     if sun_fine(altitude, azimuth) & objects::surface::surface_fine(surface) {
         if object_checks::sectors_fine(sectors) & object_checks::window_fine(window) {
-            return direct_shading_reduction_factor(edition, surface, altitude, azimuth, sectors, window);
+            return direct_shading_reduction_factor(
+                edition,
+                surface,
+                altitude,
+                azimuth,
+                sectors,
+                window,
+            );
         }
         return FactorAnswer::Refused(Refusal::Object);
     }

@@ -70,10 +70,7 @@ fn with_object(shades: WindowShades, sun: SunOnSurface, object: WindowShadingObj
             shades,
             fins::fin_width(right, size, away),
         ),
-        WindowShadingType::SideFinLeft => with_left_fin(
-            shades,
-            fins::fin_width(left, size, away),
-        ),
+        WindowShadingType::SideFinLeft => with_left_fin(shades, fins::fin_width(left, size, away)),
         WindowShadingType::Reveal => WindowShades {
             overhang: shades.overhang,
             right: shades.right,

@@ -3,6 +3,7 @@
 use mathlib.Core.Path.{_≡_, refl, ap, sym, subst}
 use mathlib.Core.Bool.{Bool, true, false, cond}
 use mathlib.Core.List.{List, []}
+use Prim.Native.Nat.{ℕ}
 use lib.Dec.{T}
 use lib.Ieee.{Float, lt, fits}
 use Rattle.doubles.specs.Arithmetic.{whole}
@@ -50,10 +51,10 @@ same-factor e = ap valueOf e
 
 -- ---- what holds of 1 and of the found sector's factor holds of the answer
 
-module _ (surface : Surface) (altitude azimuth : Float) (ss : List ShadingSegment) (ws : List WindowShadingObject) (P : Float → Type 0) (one : P (whole 1)) where
+module _ (edition : ℕ) (surface : Surface) (altitude azimuth : Float) (ss : List ShadingSegment) (ws : List WindowShadingObject) (P : Float → Type 0) (one : P (whole 1)) where
   pub answer-has : (outsideSolarBeam (surface .tilt) (surface .orientation) altitude azimuth ≡ false
-      → (s : ShadingSegment) → segmentOf azimuth ss ≡ found s → P (reductionFactor surface (sunOn surface altitude azimuth) (counted s) ws))
-      → (x : Float) → shadingFactor surface altitude azimuth ss ws ≡ Factor x → P x
+      → (s : ShadingSegment) → segmentOf azimuth ss ≡ found s → P (reductionFactor surface (sunOn edition surface altitude azimuth) (counted s) ws))
+      → (x : Float) → shadingFactor edition surface altitude azimuth ss ws ≡ Factor x → P x
   unfolding shadingFactor factorIn
   answer-has inside x e = go (outsideSolarBeam (surface .tilt) (surface .orientation) altitude azimuth) refl e
     where
@@ -61,31 +62,31 @@ module _ (surface : Surface) (altitude azimuth : Float) (ss : List ShadingSegmen
       by-reveal true f p e = not-refused e
       by-reveal false f p e = subst P (same-factor e) p
 
-      walked : ((s : ShadingSegment) → segmentOf azimuth ss ≡ found s → P (reductionFactor surface (sunOn surface altitude azimuth) (counted s) ws))
-          → (w : Segment) → segmentOf azimuth ss ≡ w → factorIn surface (sunOn surface altitude azimuth) ws w ≡ Factor x → P x
+      walked : ((s : ShadingSegment) → segmentOf azimuth ss ≡ found s → P (reductionFactor surface (sunOn edition surface altitude azimuth) (counted s) ws))
+          → (w : Segment) → segmentOf azimuth ss ≡ w → factorIn surface (sunOn edition surface altitude azimuth) ws w ≡ Factor x → P x
       walked h gap k e = not-refused e
       walked h turned k e = not-refused e
       walked h noSector k e = not-refused e
-      walked h (found s) k e = by-reveal (hasReveal ws) (reductionFactor surface (sunOn surface altitude azimuth) (counted s) ws) (h s k) e
+      walked h (found s) k e = by-reveal (hasReveal ws) (reductionFactor surface (sunOn edition surface altitude azimuth) (counted s) ws) (h s k) e
 
       go : (b : Bool) → outsideSolarBeam (surface .tilt) (surface .orientation) altitude azimuth ≡ b
-          → cond b (Factor (whole 1)) (factorIn surface (sunOn surface altitude azimuth) ws (segmentOf azimuth ss)) ≡ Factor x → P x
+          → cond b (Factor (whole 1)) (factorIn surface (sunOn edition surface altitude azimuth) ws (segmentOf azimuth ss)) ≡ Factor x → P x
       go true k e = subst P (same-factor e) one
       go false k e = walked (inside k) (segmentOf azimuth ss) refl e
 
 -- ---- and what holds of the two sectors' factors, of two lists bounded alike, holds of the two answers
 
 module _ (R : ShadingSegment → ShadingSegment → Type 0) (bounds : (s t : ShadingSegment) → R s t → SameBounds s t)
-    (surface : Surface) (altitude azimuth : Float) (ss ts : List ShadingSegment) (ws vs : List WindowShadingObject)
+    (edition : ℕ) (surface : Surface) (altitude azimuth : Float) (ss ts : List ShadingSegment) (ws vs : List WindowShadingObject)
     (P : Float → Float → Type 0) (one : P (whole 1) (whole 1)) where
   -- the two sectors that are found, inside the beam
   abbrev pub Inside : Type 0
   Inside = outsideSolarBeam (surface .tilt) (surface .orientation) altitude azimuth ≡ false → (s t : ShadingSegment) → R s t
       → segmentOf azimuth ss ≡ found s → segmentOf azimuth ts ≡ found t
-      → P (reductionFactor surface (sunOn surface altitude azimuth) (counted s) ws) (reductionFactor surface (sunOn surface altitude azimuth) (counted t) vs)
+      → P (reductionFactor surface (sunOn edition surface altitude azimuth) (counted s) ws) (reductionFactor surface (sunOn edition surface altitude azimuth) (counted t) vs)
 
   pub answers-have : PlaceByPlace R ss ts → Inside
-      → (x y : Float) → shadingFactor surface altitude azimuth ss ws ≡ Factor x → shadingFactor surface altitude azimuth ts vs ≡ Factor y → P x y
+      → (x y : Float) → shadingFactor edition surface altitude azimuth ss ws ≡ Factor x → shadingFactor edition surface altitude azimuth ts vs ≡ Factor y → P x y
   unfolding shadingFactor factorIn
   answers-have p inside x y e f = go (outsideSolarBeam (surface .tilt) (surface .orientation) altitude azimuth) refl e f
     where
@@ -98,19 +99,19 @@ module _ (R : ShadingSegment → ShadingSegment → Type 0) (bounds : (s t : Sha
       by-reveal false false u v q e f = pair q e f
 
       walked : ((s t : ShadingSegment) → R s t → segmentOf azimuth ss ≡ found s → segmentOf azimuth ts ≡ found t
-          → P (reductionFactor surface (sunOn surface altitude azimuth) (counted s) ws) (reductionFactor surface (sunOn surface altitude azimuth) (counted t) vs))
+          → P (reductionFactor surface (sunOn edition surface altitude azimuth) (counted s) ws) (reductionFactor surface (sunOn edition surface altitude azimuth) (counted t) vs))
           → {w z : Segment} → SameWalk R w z → segmentOf azimuth ss ≡ w → segmentOf azimuth ts ≡ z
-          → factorIn surface (sunOn surface altitude azimuth) ws w ≡ Factor x → factorIn surface (sunOn surface altitude azimuth) vs z ≡ Factor y → P x y
+          → factorIn surface (sunOn edition surface altitude azimuth) ws w ≡ Factor x → factorIn surface (sunOn edition surface altitude azimuth) vs z ≡ Factor y → P x y
       walked h both-gap j k e f = not-refused e
       walked h both-turned j k e f = not-refused e
       walked h both-none j k e f = not-refused e
       walked h (both-found {s} {t} r) j k e f =
-          by-reveal (hasReveal ws) (hasReveal vs) (reductionFactor surface (sunOn surface altitude azimuth) (counted s) ws)
-          (reductionFactor surface (sunOn surface altitude azimuth) (counted t) vs) (h s t r j k) e f
+          by-reveal (hasReveal ws) (hasReveal vs) (reductionFactor surface (sunOn edition surface altitude azimuth) (counted s) ws)
+          (reductionFactor surface (sunOn edition surface altitude azimuth) (counted t) vs) (h s t r j k) e f
 
       go : (b : Bool) → outsideSolarBeam (surface .tilt) (surface .orientation) altitude azimuth ≡ b
-          → cond b (Factor (whole 1)) (factorIn surface (sunOn surface altitude azimuth) ws (segmentOf azimuth ss)) ≡ Factor x
-          → cond b (Factor (whole 1)) (factorIn surface (sunOn surface altitude azimuth) vs (segmentOf azimuth ts)) ≡ Factor y → P x y
+          → cond b (Factor (whole 1)) (factorIn surface (sunOn edition surface altitude azimuth) ws (segmentOf azimuth ss)) ≡ Factor x
+          → cond b (Factor (whole 1)) (factorIn surface (sunOn edition surface altitude azimuth) vs (segmentOf azimuth ts)) ≡ Factor y → P x y
       go true k e f = pair one e f
       go false k e f = walked (inside k) (segment-alike R bounds azimuth p) refl refl e f
 
@@ -124,46 +125,46 @@ one-fits : Fits (whole 1)
 unfolding whole fits
 one-fits = record { holds = tt }
 
-module _ {surface : Surface} {altitude azimuth : Float} {ss : List ShadingSegment} {ws : List WindowShadingObject}
-    (a : AcceptedSurface surface) (n : NoNanAt surface altitude azimuth ss ws) (b : AcceptedNear ws) (x : Float)
-    (e : shadingFactor surface altitude azimuth ss ws ≡ Factor x) where
+module _ {edition : ℕ} {surface : Surface} {altitude azimuth : Float} {ss : List ShadingSegment} {ws : List WindowShadingObject}
+    (a : AcceptedSurface surface) (n : NoNanAt edition surface altitude azimuth ss ws) (b : AcceptedNear ws) (x : Float)
+    (e : shadingFactor edition surface altitude azimuth ss ws ≡ Factor x) where
   -- every factor lies from 0 to 1
   pub answer-nonneg : whole 0 ≼ x
-  answer-nonneg = answer-has surface altitude azimuth ss ws (λ (z : Float). whole 0 ≼ z) zero-le-one (λ k s m. factor-nonneg a (n .at-found k s m) b) x e
+  answer-nonneg = answer-has edition surface altitude azimuth ss ws (λ (z : Float). whole 0 ≼ z) zero-le-one (λ k s m. factor-nonneg a (n .at-found k s m) b) x e
 
   pub answer-le-one : x ≼ whole 1
-  answer-le-one = answer-has surface altitude azimuth ss ws (λ (z : Float). z ≼ whole 1) (le-refl one-number) (λ k s m. factor-le-one a (n .at-found k s m) b) x e
+  answer-le-one = answer-has edition surface altitude azimuth ss ws (λ (z : Float). z ≼ whole 1) (le-refl one-number) (λ k s m. factor-le-one a (n .at-found k s m) b) x e
 
   -- and is never −0.0
   pub answer-unsigned : Unsigned x
-  answer-unsigned = answer-has surface altitude azimuth ss ws Unsigned (positive-unsigned zero-lt-one) (λ k s m. factor-unsigned a (n .at-found k s m) b) x e
+  answer-unsigned = answer-has edition surface altitude azimuth ss ws Unsigned (positive-unsigned zero-lt-one) (λ k s m. factor-unsigned a (n .at-found k s m) b) x e
 
 -- every factor is a double, whatever goes in
-pub answer-fits : (surface : Surface) (altitude azimuth : Float) (ss : List ShadingSegment) (ws : List WindowShadingObject) (x : Float)
-    → shadingFactor surface altitude azimuth ss ws ≡ Factor x → Fits x
-answer-fits surface altitude azimuth ss ws =
-    answer-has surface altitude azimuth ss ws Fits one-fits (λ k s m. factor-fits surface (sunOn surface altitude azimuth) (counted s) ws)
+pub answer-fits : (edition : ℕ) (surface : Surface) (altitude azimuth : Float) (ss : List ShadingSegment) (ws : List WindowShadingObject) (x : Float)
+    → shadingFactor edition surface altitude azimuth ss ws ≡ Factor x → Fits x
+answer-fits edition surface altitude azimuth ss ws =
+    answer-has edition surface altitude azimuth ss ws Fits one-fits (λ k s m. factor-fits surface (sunOn edition surface altitude azimuth) (counted s) ws)
 
 -- with no object in the sector that is found, and none at the window, it is exactly 1
-pub answer-no-objects : {surface : Surface} (altitude azimuth : Float) (ss : List ShadingSegment) → AcceptedSurface surface
+pub answer-no-objects : (edition : ℕ) {surface : Surface} (altitude azimuth : Float) (ss : List ShadingSegment) → AcceptedSurface surface
     → ((s : ShadingSegment) → segmentOf azimuth ss ≡ found s → counted s ≡ [])
-    → (x : Float) → shadingFactor surface altitude azimuth ss [] ≡ Factor x → x ≡ whole 1
-answer-no-objects {surface} altitude azimuth ss a none x e =
-    answer-has surface altitude azimuth ss [] (λ (z : Float). z ≡ whole 1) refl
-    (λ k s m. rw (none s m) (factor-no-objects surface a (sunOn surface altitude azimuth))) x e
+    → (x : Float) → shadingFactor edition surface altitude azimuth ss [] ≡ Factor x → x ≡ whole 1
+answer-no-objects edition {surface} altitude azimuth ss a none x e =
+    answer-has edition surface altitude azimuth ss [] (λ (z : Float). z ≡ whole 1) refl
+    (λ k s m. rw (none s m) (factor-no-objects surface a (sunOn edition surface altitude azimuth))) x e
 
-module _ {surface : Surface} {altitude azimuth : Float} {ss ts : List ShadingSegment} {ws vs : List WindowShadingObject}
-    (a : AcceptedSurface surface) (n : NoNanAt surface altitude azimuth ss ws) (m : NoNanAt surface altitude azimuth ts vs)
+module _ {edition : ℕ} {surface : Surface} {altitude azimuth : Float} {ss ts : List ShadingSegment} {ws vs : List WindowShadingObject}
+    (a : AcceptedSurface surface) (n : NoNanAt edition surface altitude azimuth ss ws) (m : NoNanAt edition surface altitude azimuth ts vs)
     (b : AcceptedNear ws) (c : AcceptedNear vs) (x y : Float)
-    (e : shadingFactor surface altitude azimuth ss ws ≡ Factor x) (f : shadingFactor surface altitude azimuth ts vs ≡ Factor y) where
+    (e : shadingFactor edition surface altitude azimuth ss ws ≡ Factor x) (f : shadingFactor edition surface altitude azimuth ts vs ≡ Factor y) where
   -- more objects never a larger factor
   pub answers-more-objects : PlaceByPlace MoreInSector ss ts → Holds vs ws → y ≼ x
   answers-more-objects p h =
-      answers-have MoreInSector (λ s t r. r .bounds) surface altitude azimuth ss ts ws vs (λ (u v : Float). v ≼ u) (le-refl one-number) p
+      answers-have MoreInSector (λ s t r. r .bounds) edition surface altitude azimuth ss ts ws vs (λ (u v : Float). v ≼ u) (le-refl one-number) p
       (λ k s t r i j. factor-more-objects a (n .at-found k s i) (m .at-found k t j) (r .holds) h b c) x y e f
 
   -- the same objects, the same factor, bit for bit
   pub answers-same-objects : PlaceByPlace SameInSector ss ts → Holds vs ws → Holds ws vs → x ≡ y
   answers-same-objects p h k =
-      answers-have SameInSector (λ s t r. r .bounds) surface altitude azimuth ss ts ws vs (λ (u v : Float). u ≡ v) refl p
+      answers-have SameInSector (λ s t r. r .bounds) edition surface altitude azimuth ss ts ws vs (λ (u v : Float). u ≡ v) refl p
       (λ o s t r i j. factor-same-objects a (n .at-found o s i) (m .at-found o t j) b c (r .holds) (r .held) h k) x y e f

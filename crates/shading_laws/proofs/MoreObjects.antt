@@ -14,7 +14,8 @@ use Rattle.doubles.proofs.MinMax.{min-mono}
 use Rattle.objects.specs.declared.surface.Surface.{Surface}
 use Rattle.objects.specs.declared.sectors.ShadingObject.{ShadingObject}
 use Rattle.objects.specs.declared.window.WindowShadingObject.{WindowShadingObject}
-use Rattle.extents.specs.Extents.{obstacleHeight, overhangHeight, windowOverhangHeight, rightFinWidth, leftFinWidth}
+use Rattle.extents.specs.Extents.{obstacleHeight, overhangHeight, windowOverhangHeight}
+use Rattle.fins.specs.Fins.{finWidth}
 use Rattle.objects.specs.declared.window.WindowShadingType.the-variants.{Obstacle, Overhang, SideFinRight, SideFinLeft}
 use Rattle.objects.specs.Objects.{ofKind, isObstacle, isOverhang}
 use Rattle.shading.specs.declared.sun_on_surface.SunOnSurface.{SunOnSurface}
@@ -46,12 +47,12 @@ module _ (sun : SunOnSurface) {xs ys : List WindowShadingObject} (h : Holds ys x
   pub right-fins-within : Within (rightFinExtents sun xs) (rightFinExtents sun ys)
   unfolding rightFinExtents
   right-fins-within =
-      extents-within (ofKind SideFinRight) (λ (o : WindowShadingObject). rightFinWidth (o .size) (o .distance) (sun .difference) (sun .«tan_difference»)) xs ys h
+      extents-within (ofKind SideFinRight) (λ (o : WindowShadingObject). finWidth (sun .fins .right) (o .size) (o .distance)) xs ys h
 
   pub left-fins-within : Within (leftFinExtents sun xs) (leftFinExtents sun ys)
   unfolding leftFinExtents
   left-fins-within =
-      extents-within (ofKind SideFinLeft) (λ (o : WindowShadingObject). leftFinWidth (o .size) (o .distance) (sun .difference) (sun .«tan_difference»)) xs ys h
+      extents-within (ofKind SideFinLeft) (λ (o : WindowShadingObject). finWidth (sun .fins .left) (o .size) (o .distance)) xs ys h
 
 -- ---- from fewer objects (xs, ws) to more (ys, vs)
 

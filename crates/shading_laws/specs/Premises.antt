@@ -3,6 +3,7 @@
 use mathlib.Core.Path.{_≡_}
 use mathlib.Core.Bool.{false}
 use mathlib.Core.List.{List, List·Memᴰ}
+use Prim.Native.Nat.{ℕ}
 use lib.Dec.{T}
 use lib.Ieee.{Float}
 use Rattle.doubles.specs.Arithmetic.{whole, decimal}
@@ -42,10 +43,10 @@ pub record NoNanExtent (surface : Surface) (sun : SunOnSurface) (distants : List
   pub near-obstacles : (o : WindowShadingObject) → List·Memᴰ o window → T (ofKind Obstacle o) → Number (nearObstacleHeight surface sun o)
 
 -- no shade extent at a step is NaN: those are computed inside the beam, of the sector that is found
-pub record NoNanAt (surface : Surface) (altitude azimuth : Float) (sectors : List ShadingSegment) (window : List WindowShadingObject) : Type 0 where
+pub record NoNanAt (edition : ℕ) (surface : Surface) (altitude azimuth : Float) (sectors : List ShadingSegment) (window : List WindowShadingObject) : Type 0 where
   pub at-found : outsideSolarBeam (surface .tilt) (surface .orientation) altitude azimuth ≡ false
       → (s : ShadingSegment) → segmentOf azimuth sectors ≡ found s
-      → NoNanExtent surface (sunOn surface altitude azimuth) (counted s) window
+      → NoNanExtent surface (sunOn edition surface altitude azimuth) (counted s) window
 
 -- every near obstacle's transparency is from 0 to 1; −0.0 is in
 pub record AcceptedNear (window : List WindowShadingObject) : Type 0 where

@@ -14,6 +14,7 @@ use Rattle.sun.specs.Site.{siteFine}
 use Rattle.objects.specs.declared.surface.Surface.{Surface}
 use Rattle.objects.specs.declared.answers.Refusal.{Refusal}
 use Rattle.objects.specs.declared.answers.Refusal.the-variants as refusal
+use Rattle.fins.specs.Fins.{editionFine}
 use Rattle.objects.specs.Surface.{surfaceFine}
 use Rattle.object_checks.specs.Checks.{sectorsFine, windowFine}
 use Rattle.weather.specs.declared.Reading.{Reading}
@@ -44,17 +45,19 @@ passes true r next e = refl
 passes false r next e = absurd (subst T (sym (ap isAccepted e)) tt)
 
 -- the lists are fine
-pub lists-passed : (site : Site) (time : Float) (surface : Surface) (reading : Reading) (sectors window results : List ℕ)
-    → stepChecked site time surface reading sectors window results ≡ Accepted → (sectorsFine sectors ≡ true) × (windowFine window ≡ true)
+pub lists-passed : (edition : ℕ) (site : Site) (time : Float) (surface : Surface) (reading : Reading) (sectors window results : List ℕ)
+    → stepChecked edition site time surface reading sectors window results ≡ Accepted → (sectorsFine sectors ≡ true) × (windowFine window ≡ true)
 unfolding stepChecked
-lists-passed site time surface reading sectors window results e =
+lists-passed edition site time surface reading sectors window results e =
     let read : Single = tried Refused (readingFine reading) refusal.Reading (tried Refused (leb 6 (wordCount results)) refusal.Results Accepted) in
     let shaded : Single = tried Refused (sectorsFine sectors && windowFine window) refusal.Object read in
     let faced : Single = tried Refused (surfaceFine surface) refusal.Surface shaded in
     let timed : Single = tried Refused (timeFine site time) refusal.Run faced in
+    let sited : Single = tried Refused (siteFine site) refusal.Site timed in
     let both =
     passes (sectorsFine sectors && windowFine window) refusal.Object read
-    (after (surfaceFine surface) refusal.Surface shaded (after (timeFine site time) refusal.Run faced (after (siteFine site) refusal.Site timed e)))
+    (after (surfaceFine surface) refusal.Surface shaded (after (timeFine site time) refusal.Run faced
+    (after (siteFine site) refusal.Site timed (after (editionFine edition) refusal.Edition sited e))))
     in
     let t : T (sectorsFine sectors && windowFine window) = subst T (sym both) tt in
     (is-true (sectorsFine sectors) (and-l (sectorsFine sectors) (windowFine window) t), is-true (windowFine window) (and-r (sectorsFine sectors) (windowFine window) t))
@@ -62,11 +65,11 @@ lists-passed site time surface reading sectors window results e =
 -- A single-step call that is given what a run reads at a step, and passes its checks, stores the row that the run holds there.
 pub record RunsRow (job : Job) (r : Lent) (s : List ℕ) (i : ℕ) : Type 0 where
   pub held : Holding (runOf job r .ran .results) i (rowAt job i)
-  pub stored : stepCall (job .site) (timeAt (job .run) i) (job .surface) (readingAt job (timeAt (job .run) i)) (job .sectors) (job .window) s
+  pub stored : stepCall (job .edition) (job .site) (timeAt (job .run) i) (job .surface) (readingAt job (timeAt (job .run) i)) (job .sectors) (job .window) s
       ≡ called Accepted (putRow s 0 (rowAt job i))
 
 pub runs-row : (job : Job) (r : Lent) (s : List ℕ) (i : ℕ) → i < rowsStored (runOf job r .ran .answer)
-    → stepChecked (job .site) (timeAt (job .run) i) (job .surface) (readingAt job (timeAt (job .run) i)) (job .sectors) (job .window) s ≡ Accepted
+    → stepChecked (job .edition) (job .site) (timeAt (job .run) i) (job .surface) (readingAt job (timeAt (job .run) i)) (job .sectors) (job .window) s ≡ Accepted
     → RunsRow job r s i
 unfolding stepCall unlessRefused storedStep stepAt
 runs-row job r s i h e = let p = run-rows job r i h in record { held = p .held; stored = rw (e, p .has-row) refl }

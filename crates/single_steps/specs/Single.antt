@@ -14,6 +14,7 @@ use Rattle.irradiance.specs.declared.parts.Irradiance.{Irradiance}
 use Rattle.simulation_time.specs.Timestep.{currentHour}
 use Rattle.objects.specs.declared.surface.Surface.{Surface}
 use Rattle.objects.specs.declared.answers.Refusal.the-variants as refusal
+use Rattle.fins.specs.Fins.{editionFine}
 use Rattle.objects.specs.Surface.{surfaceFine}
 use Rattle.object_checks.specs.Checks.{sectorsFine, windowFine}
 use Rattle.objects.specs.Refusals.{numberOf}
@@ -39,17 +40,18 @@ unfoldable pub timeFine : Site → Float → Bool
 unfolding within whole
 timeFine site time = within (whole 0) (whole 8784) time && ltb (currentHour time) (hoursInYear site)
 
--- 1, 2, 3, 4, 6, 7: six words for a row
-unfoldable pub stepChecked : Site → Float → Surface → Reading → List ℕ → List ℕ → List ℕ → Single
+-- 14, 1, 2, 3, 4, 6, 7: six words for a row
+unfoldable pub stepChecked : ℕ → Site → Float → Surface → Reading → List ℕ → List ℕ → List ℕ → Single
 unfolding tried
-stepChecked site time surface reading sectors window results =
-    tried Refused (siteFine site) refusal.Site
+stepChecked edition site time surface reading sectors window results =
+    tried Refused (editionFine edition) refusal.Edition
+    (tried Refused (siteFine site) refusal.Site
     (tried Refused (timeFine site time) refusal.Run
     (tried Refused (surfaceFine surface) refusal.Surface
     (tried Refused (sectorsFine sectors && windowFine window) refusal.Object
     (tried Refused (readingFine reading) refusal.Reading
     (tried Refused (leb 6 (wordCount results)) refusal.Results
-    Accepted)))))
+    Accepted))))))
 
 -- 1, 2, 3, 6, 7: nine words for the breakdown
 unfoldable pub irradianceChecked : Site → Float → Surface → Reading → List ℕ → Single
@@ -83,10 +85,10 @@ unlessRefused Accepted results next = next
 unlessRefused (Refused r) results next = called (Refused r) results
 
 -- the step is the run's at that time
-unfoldable pub stepCall : Site → Float → Surface → Reading → List ℕ → List ℕ → List ℕ → Called
-stepCall site time surface reading sectors window results =
-    unlessRefused (stepChecked site time surface reading sectors window results) results
-    (storedStep (stepWith site surface sectors window time reading) results)
+unfoldable pub stepCall : ℕ → Site → Float → Surface → Reading → List ℕ → List ℕ → List ℕ → Called
+stepCall edition site time surface reading sectors window results =
+    unlessRefused (stepChecked edition site time surface reading sectors window results) results
+    (storedStep (stepWith edition site surface sectors window time reading) results)
 
 -- altitude, azimuth, direct, diffuse, total, then the breakdown: sky, circumsolar, horizontal, ground reflection
 unfoldable pub putBreakdown : List ℕ → Hour → Irradiance → List ℕ

@@ -7,6 +7,7 @@ ghost use Rattle.jobs.specs.Step.{sunAt, irradianceAt, stepWith};
 ghost use Rattle.single_steps.specs.declared.Single.the-variants.{Refused};
 ghost use Rattle.single_steps.specs.Single.{singleNumber, timeFine, stepChecked, irradianceChecked, called, storedStep};
 ghost use Rattle.single_steps.specs.Single.{stepCall, putBreakdown, irradianceCall};
+use fins::edition_fine;
 use irradiance::parts::Irradiance;
 use jobs::answers::StepAnswer;
 use object_checks::sectors_fine;
@@ -66,6 +67,7 @@ fn first(fine: bool, refusal: Refusal, next: Single) -> Single
 }
 
 fn check_step(
+    edition: u64,
     site: Site,
     time: f64,
     surface: Surface,
@@ -74,7 +76,7 @@ fn check_step(
     window: &[u8],
     results: &[u8],
 ) -> Single
-    ensures { λ r. ⌜ r ≡ stepChecked site time surface reading (now (sectors .entry)) (now (window .entry)) (now (results .entry)) ⌝ }
+    ensures { λ r. ⌜ r ≡ stepChecked edition site time surface reading (now (sectors .entry)) (now (window .entry)) (now (results .entry)) ⌝ }
 {
     let room = first(6 <= word_count(results), Refusal::Results, Single::Accepted);
     let read = first(reading_fine(reading), Refusal::Reading, room);
@@ -82,7 +84,8 @@ fn check_step(
     let shaded = first(objects_fine, Refusal::Object, read);
     let faced = first(surface_fine(surface), Refusal::Surface, shaded);
     let timed = first(time_fine(site, time), Refusal::Run, faced);
-    first(site_fine(site), Refusal::Site, timed)
+    let sited = first(site_fine(site), Refusal::Site, timed);
+    first(edition_fine(edition), Refusal::Edition, sited)
 }
 
 fn check_irradiance(
@@ -103,6 +106,7 @@ fn check_irradiance(
 
 // The step at a time, from lists that are checked.
 fn step_with(
+    edition: u64,
     site: Site,
     time: f64,
     surface: Surface,
@@ -112,13 +116,14 @@ fn step_with(
 ) -> StepAnswer
     requires { ⌜ sectorsFine (now sectors) ≡ true ⌝ }
     requires { ⌜ windowFine (now window) ≡ true ⌝ }
-    ensures { λ r. ⌜ r ≡ stepWith site surface (now (sectors .entry)) (now (window .entry)) time reading ⌝ }
+    ensures { λ r. ⌜ r ≡ stepWith edition site surface (now (sectors .entry)) (now (window .entry)) time reading ⌝ }
 {
     let fixed = fixed_of(site, surface);
     let hour = current_hour(time);
     let day = kept_day(hour / 24);
     let kept = kept_hour(site, surface, fixed, day, hour);
     let factor = direct_shading_reduction_factor(
+        edition,
         surface,
         kept.sun.altitude,
         kept.sun.azimuth,
@@ -142,6 +147,7 @@ fn store_step(answer: StepAnswer, results: &mut [u8]) -> Single
 
 // The row of one step, in the first six words of the results.
 pub fn step_call(
+    edition: u64,
     site: Site,
     time: f64,
     surface: Surface,
@@ -151,13 +157,22 @@ pub fn step_call(
     results: &mut [u8],
 ) -> Single
     ensures { λ r. ⌜ called r (now (results .exit))
-        ≡ stepCall site time surface reading (now (sectors .entry)) (now (window .entry)) (now (results .entry)) ⌝ }
+        ≡ stepCall edition site time surface reading (now (sectors .entry)) (now (window .entry)) (now (results .entry)) ⌝ }
 {
-    let tested = check_step(site, time, surface, reading, sectors, window, results);
+    let tested = check_step(
+        edition,
+        site,
+        time,
+        surface,
+        reading,
+        sectors,
+        window,
+        results,
+    );
     match tested {
         Single::Refused(refusal) => Single::Refused(refusal),
         Single::Accepted => store_step(
-            step_with(site, time, surface, reading, sectors, window),
+            step_with(edition, site, time, surface, reading, sectors, window),
             results,
         ),
     }

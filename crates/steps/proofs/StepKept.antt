@@ -20,15 +20,15 @@ use Rattle.steps.specs.declared.kept.KeptDay.{KeptDay}
 use Rattle.steps.specs.declared.kept.KeptHour.{KeptHour}
 use Rattle.steps.specs.Kept.{fixedOf, keptDay, keptHour, irradianceKept, stepKept}
 
-module _ (site : Site) (surface : Surface) (sectors window : List ℕ) (time : Float) (reading : Reading) where
-  kept-step : stepKept site (fixedOf site surface) (keptHour site surface (currentHour time)) (shadingAt surface (sunAt site time) sectors window) reading
-      ≡ stepWith site surface sectors window time reading
+module _ (edition : ℕ) (site : Site) (surface : Surface) (sectors window : List ℕ) (time : Float) (reading : Reading) where
+  kept-step : stepKept site (fixedOf site surface) (keptHour site surface (currentHour time)) (shadingAt edition surface (sunAt site time) sectors window) reading
+      ≡ stepWith edition site surface sectors window time reading
   unfolding stepKept irradianceKept keptHour keptDay fixedOf stepWith sunAt irradianceAt
   kept-step = refl
 
   pub by-kept : (fixed : Fixed) (kept : KeptHour) (factor : FactorAnswer) (answer : StepAnswer) → fixed ≡ fixedOf site surface
-      → kept ≡ keptHour site surface (currentHour time) → factor ≡ shadingAt surface (hourOf site (currentHour time)) sectors window
-      → answer ≡ stepKept site fixed kept factor reading → answer ≡ stepWith site surface sectors window time reading
+      → kept ≡ keptHour site surface (currentHour time) → factor ≡ shadingAt edition surface (hourOf site (currentHour time)) sectors window
+      → answer ≡ stepKept site fixed kept factor reading → answer ≡ stepWith edition site surface sectors window time reading
   unfolding sunAt
   by-kept fixed kept factor answer f k s e = e ∙ rw (f, k, s) kept-step
 
@@ -38,11 +38,11 @@ module _ (site : Site) (surface : Surface) (hour : ℕ) (kept : KeptHour) (k : k
   kept-sun = ap (λ (x : KeptHour). x .sun) k
 
   -- the factor for the kept sun is the hour's
-  pub kept-factor : (sectors window : List ℕ) (ss : List ShadingSegment) (ws : List WindowShadingObject) (factor : FactorAnswer) → ss ≡ sectorsOf sectors
-      → ws ≡ windowObjectsOf window → factor ≡ shadingFactor surface (kept .sun .altitude) (kept .sun .azimuth) ss ws
-      → factor ≡ shadingAt surface (hourOf site hour) sectors window
+  pub kept-factor : (edition : ℕ) (sectors window : List ℕ) (ss : List ShadingSegment) (ws : List WindowShadingObject) (factor : FactorAnswer) → ss ≡ sectorsOf sectors
+      → ws ≡ windowObjectsOf window → factor ≡ shadingFactor edition surface (kept .sun .altitude) (kept .sun .azimuth) ss ws
+      → factor ≡ shadingAt edition surface (hourOf site hour) sectors window
   unfolding shadingAt
-  kept-factor sectors window ss ws factor s w f = f ∙ rw (kept-sun, s, w)
+  kept-factor edition sectors window ss ws factor s w f = f ∙ rw (kept-sun, s, w)
 
 module _ (site : Site) (surface : Surface) (time : Float) (kept : KeptHour) (k : kept ≡ keptHour site surface (currentHour time)) where
   pub sun-by-kept : kept .sun ≡ sunAt site time

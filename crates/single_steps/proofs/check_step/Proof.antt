@@ -44,9 +44,15 @@ site-fine-requires c κs = search needs
 first-requires-6 : tie.Need-first-requires-6
 first-requires-6 c κs = search needs
 
+edition-fine-requires : tie.Need-edition-fine-requires
+edition-fine-requires c κs = search needs
+
+first-requires-7 : tie.Need-first-requires-7
+first-requires-7 c κs = search needs
+
 returns : tie.Need-returns
 unfolding stepChecked
-returns c = rw (c .first6 .ensures, c .before .site-fine .ensures, c .before .before .first5 .ensures, c .before .before .before .time-fine .ensures, c .before .before .before .before .first4 .ensures, c .before .before .before .before .before .surface-fine .ensures, c .before .before .before .before .before .before .first3 .ensures, c .before .before .before .before .before .before .before .window-fine .ensures, c .before .before .before .before .before .before .before .before .sectors-fine .ensures, c .before .before .before .before .before .before .before .before .before .first2 .ensures, c .before .before .before .before .before .before .before .before .before .before .reading-fine .ensures, c .before .before .before .before .before .before .before .before .before .before .before .first .ensures, c .before .before .before .before .before .before .before .before .before .before .before .before .word-count .ensures) refl
+returns c = rw (c .first7 .ensures, c .before .edition-fine .ensures, c .before .before .first6 .ensures, c .before .before .before .site-fine .ensures, c .before .before .before .before .first5 .ensures, c .before .before .before .before .before .time-fine .ensures, c .before .before .before .before .before .before .first4 .ensures, c .before .before .before .before .before .before .before .surface-fine .ensures, c .before .before .before .before .before .before .before .before .first3 .ensures, c .before .before .before .before .before .before .before .before .before .window-fine .ensures, c .before .before .before .before .before .before .before .before .before .before .sectors-fine .ensures, c .before .before .before .before .before .before .before .before .before .before .before .first2 .ensures, c .before .before .before .before .before .before .before .before .before .before .before .before .reading-fine .ensures, c .before .before .before .before .before .before .before .before .before .before .before .before .before .first .ensures, c .before .before .before .before .before .before .before .before .before .before .before .before .before .before .word-count .ensures) refl
 
 pub check-step-spec : {M : Type 1} → statement M
 check-step-spec =
@@ -65,4 +71,6 @@ check-step-spec =
     first-requires-5
     site-fine-requires
     first-requires-6
+    edition-fine-requires
+    first-requires-7
     returns)

@@ -17,7 +17,7 @@ enum-told : tie.Need-enum-told
 enum-told c = search needs
 
 step-with-requires : tie.Need-step-with-requires
-step-with-requires c κs = let a = c .before .before .before .before .before .before .before .args in lists-passed (a .site) (a .time) (a .surface) (a .reading) (now (a .sectors)) (now (a .window)) (now (a .results)) (sym (c .before .before .check-step .ensures) ∙ c .enum-told .given .1)
+step-with-requires c κs = let a = c .before .before .before .before .before .before .before .args in lists-passed (a .edition) (a .site) (a .time) (a .surface) (a .reading) (now (a .sectors)) (now (a .window)) (now (a .results)) (sym (c .before .before .check-step .ensures) ∙ c .enum-told .given .1)
 
 store-step-requires : tie.Need-store-step-requires
 store-step-requires c κs = search needs

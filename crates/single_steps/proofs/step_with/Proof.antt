@@ -30,8 +30,8 @@ returns c =
     let s = c .before .before .before .before .before .before .before .before in
     let a = s .args in
     let kept = c .before .before .kept-hour .ensures ∙ ap (keptHour (a .site) (a .surface)) (c .before .before .before .before .current-hour .ensures) in
-    let factor = kept-factor (a .site) (a .surface) _ _ kept (now (a .sectors)) (now (a .window)) _ _ _ refl refl (c .before .direct-shading-reduction-factor .ensures) in
-    by-kept (a .site) (a .surface) (now (a .sectors)) (now (a .window)) (a .time) (a .reading) _ _ _ _ (c .before .before .before .before .before .fixed-of .ensures) kept factor (c .step-row .ensures)
+    let factor = kept-factor (a .site) (a .surface) _ _ kept (a .edition) (now (a .sectors)) (now (a .window)) _ _ _ refl refl (c .before .direct-shading-reduction-factor .ensures) in
+    by-kept (a .edition) (a .site) (a .surface) (now (a .sectors)) (now (a .window)) (a .time) (a .reading) _ _ _ _ (c .before .before .before .before .before .fixed-of .ensures) kept factor (c .step-row .ensures)
 
 pub step-with-spec : {M : Type 1} → statement M
 step-with-spec =

@@ -25,7 +25,7 @@ use Rattle.runs.proofs.run.run_job.Tie as tie
 abbrev job : tie.Start → Job
 job c =
     let a = c .args in
-    jobOf (a .site) (a .run) (a .surface) (now (a .diffuse)) (now (a .direct)) (now (a .reflectivity)) (now (a .sectors)) (now (a .window))
+    jobOf (a .edition) (a .site) (a .run) (a .surface) (now (a .diffuse)) (now (a .direct)) (now (a .reflectivity)) (now (a .sectors)) (now (a .window))
 
 abbrev lists : tie.Start → Lent
 lists c = lent (now (c .args .days)) (now (c .args .totals)) (now (c .args .results))

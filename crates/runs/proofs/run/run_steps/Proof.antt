@@ -46,7 +46,7 @@ use Rattle.runs.proofs.run.run_steps.Statement.{statement}
 use Rattle.runs.proofs.run.run_steps.Tie as tie
 
 abbrev Inv-loop : tie.InvT-loop
-Inv-loop site run count surface diffuse direct reflectivity sectors window days totals₀ results₀ leap objects n places fixed day₀ kept-totals₀ kept₀ factor₀ shaded₀ time₀ sum₀ i₀ totals results day kept-totals kept factor shaded time sum i =
+Inv-loop edition site run count surface diffuse direct reflectivity sectors window days totals₀ results₀ leap objects n places fixed day₀ kept-totals₀ kept₀ factor₀ shaded₀ time₀ sum₀ i₀ totals results day kept-totals kept factor shaded time sum i =
     (i ≤ count)
     × (length results ≡ length results₀)
     × (fixed ≡ fixedOf site surface)
@@ -55,17 +55,17 @@ Inv-loop site run count surface diffuse direct reflectivity sectors window days 
     × (take n places ≡ sectorsOf sectors)
     × (day ≡ keptDay (kept .hour / 24))
     × (kept ≡ keptHour site surface (kept .hour))
-    × (shaded ≡ true → factor ≡ shadingAt surface (hourOf site (kept .hour)) sectors window)
+    × (shaded ≡ true → factor ≡ shadingAt edition surface (hourOf site (kept .hour)) sectors window)
     × (time ≡ timeAt run i)
-    × (runFrom (count - i) (jobOf site run surface diffuse direct reflectivity sectors window) i time sum results
-    ≡ runFrom count (jobOf site run surface diffuse direct reflectivity sectors window) 0 (run .start) (whole 0) results₀)
+    × (runFrom (count - i) (jobOf edition site run surface diffuse direct reflectivity sectors window) i time sum results
+    ≡ runFrom count (jobOf edition site run surface diffuse direct reflectivity sectors window) 0 (run .start) (whole 0) results₀)
     × (length totals ≡ length totals₀)
     × (putKept totals kept-totals ≡ withTotals (leapYear site) run results i totals₀)
     × (kept-totals ≡ keptTotals (leapYear site) (kept .hour / 24) (withTotals (leapYear site) run results i totals₀))
     × (kept .hour / 24 < daysInYear (leapYear site))
 
 abbrev μ-loop : tie.MeasureT-loop
-μ-loop site run count surface diffuse direct reflectivity sectors window days totals₀ results₀ leap objects n places fixed day₀ kept-totals₀ kept₀ factor₀ shaded₀ time₀ sum₀ i₀ totals results day kept-totals kept factor shaded time sum i = count - i
+μ-loop edition site run count surface diffuse direct reflectivity sectors window days totals₀ results₀ leap objects n places fixed day₀ kept-totals₀ kept₀ factor₀ shaded₀ time₀ sum₀ i₀ totals results day kept-totals kept factor shaded time sum i = count - i
 
 few-sectors : (c : tie.Start Inv-loop μ-loop) (n : ℕ) → n ≡ sectorCount (now (c .args .sectors)) → n ≤ 36
 few-sectors c n e = subst (λ (m : ℕ). m ≤ 36) (sym e) (sector-count (now (c .args .sectors)) (subst T (sym (c .pre .1 .1 .1 .0)) tt))
@@ -76,7 +76,7 @@ few-steps c = subst (λ (n : ℕ). n ≤ 35137) (sym (c .pre .1 .1 .0)) (count-f
 abbrev job : tie.Start Inv-loop μ-loop → Job
 job c =
     let a = c .args in
-    jobOf (a .site) (a .run) (a .surface) (now (a .diffuse)) (now (a .direct)) (now (a .reflectivity)) (now (a .sectors)) (now (a .window))
+    jobOf (a .edition) (a .site) (a .run) (a .surface) (now (a .diffuse)) (now (a .direct)) (now (a .reflectivity)) (now (a .sectors)) (now (a .window))
 
 window-of-requires : tie.Need-window-of-requires Inv-loop μ-loop
 window-of-requires c κs = let s = c .before .before .before .before .before .before .before .before .before in window-count (now (s .args .window)) (subst T (sym (s .pre .1 .1 .1 .1 .0)) tt)
@@ -189,7 +189,7 @@ kept-now : (c : tie.Joined1 Inv-loop μ-loop)
     let s = l .before .before .before .before .before .before .before .before .before .before .before .before .before .before .before .before .before .before in
     (c .if1 .day ≡ keptDay (currentHour (l .loop .time) / 24))
     × (c .if1 .kept ≡ keptHour (s .args .site) (s .args .surface) (currentHour (l .loop .time)))
-    × (c .if1 .shaded ≡ true → l .loop .factor ≡ shadingAt (s .args .surface) (hourOf (s .args .site) (currentHour (l .loop .time))) (now (s .args .sectors)) (now (s .args .window)))
+    × (c .if1 .shaded ≡ true → l .loop .factor ≡ shadingAt (s .args .edition) (s .args .surface) (hourOf (s .args .site) (currentHour (l .loop .time))) (now (s .args .sectors)) (now (s .args .window)))
     × (putKept (c .if1 .totals) (c .if1 .kept-totals) ≡ withTotals (leapYear (s .args .site)) (s .args .run) (l .loop .results) (l .loop .i) (now (s .args .totals)))
     × (c .if1 .kept-totals ≡ keptTotals (leapYear (s .args .site)) (currentHour (l .loop .time) / 24) (withTotals (leapYear (s .args .site)) (s .args .run) (l .loop .results) (l .loop .i) (now (s .args .totals))))
     × (length (c .if1 .totals) ≡ length (now (s .args .totals)))
@@ -202,7 +202,7 @@ kept-now c =
     let hour = keptHour (a .site) (a .surface) in
     let leap = leapYear (a .site) in
     let so-far = withTotals leap (a .run) (l .loop .results) (l .loop .i) (now (a .totals)) in
-    let shade : ℕ → FactorAnswer = λ (h : ℕ). shadingAt (a .surface) (hourOf (a .site) h) (now (a .sectors)) (now (a .window)) in
+    let shade : ℕ → FactorAnswer = λ (h : ℕ). shadingAt (a .edition) (a .surface) (hourOf (a .site) h) (now (a .sectors)) (now (a .window)) in
     let on = c .before .before .before .loop-test .taken in
     let there : currentHour (l .loop .time) / 24 < daysInYear leap = subst (λ (t : Float). currentHour t / 24 < daysInYear leap) (sym (q .9)) (day-of s (l .loop .i) on) in
     ⊎-elim
@@ -258,7 +258,7 @@ there : (c : tie.After-place-index Inv-loop μ-loop) → c .place-index .result 
 there c =
     let l = c .before .before .before .before .before .before .before in
     let a = l .before .before .before .before .before .before .before .before .before .before .before .before .before .before .before .before .before .before .args in
-    subst (λ (i : ℕ). i < 36) (sym (c .place-index .ensures)) (index-fits (a .surface) _ _ _ _ (l .loop .inv .4) _ (c .before .sun-place .ensures))
+    subst (λ (i : ℕ). i < 36) (sym (c .place-index .ensures)) (index-fits (a .edition) (a .surface) _ _ _ _ (l .loop .inv .4) _ (c .before .sun-place .ensures))
 
 mul-segment : tie.Need-mul-segment Inv-loop μ-loop
 mul-segment c = omega (arith, there c)
@@ -277,7 +277,7 @@ holds false e = sym e
 factor-now : (c : tie.Joined3 Inv-loop μ-loop)
     → let l = c .before .before .before .before .before in
     let s = l .before .before .before .before .before .before .before .before .before .before .before .before .before .before .before .before .before .before in
-    c .if3 .factor ≡ shadingAt (s .args .surface) (hourOf (s .args .site) (currentHour (l .loop .time))) (now (s .args .sectors)) (now (s .args .window))
+    c .if3 .factor ≡ shadingAt (s .args .edition) (s .args .surface) (hourOf (s .args .site) (currentHour (l .loop .time))) (now (s .args .sectors)) (now (s .args .window))
 factor-now c =
     let l = c .before .before .before .before .before in
     let s = l .before .before .before .before .before .before .before .before .before .before .before .before .before .before .before .before .before .before in
@@ -286,9 +286,9 @@ factor-now c =
     let kept = kept-now (c .before) in
     ⊎-elim
     (λ w.
-    kept-factor (a .site) (a .surface) _ _ (kept .1) (now (a .sectors)) (now (a .window)) _ _ _ (q .5) (q .3)
+    kept-factor (a .site) (a .surface) _ _ (kept .1) (a .edition) (now (a .sectors)) (now (a .window)) _ _ _ (q .5) (q .3)
     (w .5 ∙ w .4 .ensures
-    ∙ factor-by-table (a .surface) _ _ _ _ (q .4) _ _ _ _ (w .1 .ensures) (ap (λ (i : ℕ). getD (l .before .before .before .before .before .before .sectors-of .result) i _) (w .2 .ensures))))
+    ∙ factor-by-table (a .edition) (a .surface) _ _ _ _ (q .4) _ _ _ _ (w .1 .ensures) (ap (λ (i : ℕ). getD (l .before .before .before .before .before .before .sectors-of .result) i _) (w .2 .ensures))))
     (λ w. w .1 ∙ kept .2 (holds _ (w .0 .left)))
     (c .if3 .came)
 
@@ -314,7 +314,7 @@ returns c =
     let l = j .before .before .before .before .before in
     let s = l .before .before .before .before .before .before .before .before .before .before .before .before .before .before .before .before .before .before in
     let q = l .loop in
-    let e = job-step (job s) (q .time) _ (by-kept (s .args .site) (s .args .surface) (now (s .args .sectors)) (now (s .args .window)) (q .time) (readingAt (job s) (q .time)) _ _ _ _ (q .inv .2) (kept-now (j .before) .1) (factor-now j) (c .before .before .before .before .before .before .before .before .step-at .ensures)) in
+    let e = job-step (job s) (q .time) _ (by-kept (s .args .edition) (s .args .site) (s .args .surface) (now (s .args .sectors)) (now (s .args .window)) (q .time) (readingAt (job s) (q .time)) _ _ _ _ (q .inv .2) (kept-now (j .before) .1) (factor-now j) (c .before .before .before .before .before .before .before .before .step-at .ensures)) in
     let below : q .i < s .args .count = omega (arith, j .before .before .before .before .loop-test .taken) in (
       ap (λ (r : RunAnswer). ran r (q .results)) (c .refused-at .ensures)
           ∙ refused-here (job s) (s .args .count) (q .i) (q .time) (q .sum) (q .results) _ (sym e ∙ c .before .before .before .before .before .before .answer .given .1) below
@@ -372,8 +372,8 @@ loop-again c =
     let row = c .before .before .before .before .before .before .before .before .answer2 .given .0 .0 in
     let kept = kept-now (j .before) in
     let hour = its-hour (a .site) (a .surface) _ _ (kept .1) in
-    let shade : ℕ → FactorAnswer = λ (h : ℕ). shadingAt (a .surface) (hourOf (a .site) h) (now (a .sectors)) (now (a .window)) in
-    let e = job-step (job s) (q .time) _ (by-kept (a .site) (a .surface) (now (a .sectors)) (now (a .window)) (q .time) (readingAt (job s) (q .time)) _ _ _ _ (q .inv .2) (kept .1) (factor-now j) (c .before .before .before .before .before .before .before .before .before .before .step-at .ensures)) in
+    let shade : ℕ → FactorAnswer = λ (h : ℕ). shadingAt (a .edition) (a .surface) (hourOf (a .site) h) (now (a .sectors)) (now (a .window)) in
+    let e = job-step (job s) (q .time) _ (by-kept (a .edition) (a .site) (a .surface) (now (a .sectors)) (now (a .window)) (q .time) (readingAt (job s) (q .time)) _ _ _ _ (q .inv .2) (kept .1) (factor-now j) (c .before .before .before .before .before .before .before .before .before .before .step-at .ensures)) in
     let on = j .before .before .before .before .loop-test .taken in
     let stored = c .before .before .before .before .before .store-row .ensures in
     let added = c .before .with-row .ensures in
