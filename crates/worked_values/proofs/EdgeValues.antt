@@ -62,11 +62,11 @@ isFactor x (Refused r) = false
 
 -- the factor at altitude 0, the sun in the south
 unfoldable pub inside : List ShadingObject → List WindowShadingObject → FactorAnswer
-inside objects window = shadingFactor surface (whole 0) (whole 0) (horizon objects) window
+inside objects window = shadingFactor 1 surface (whole 0) (whole 0) (horizon objects) window
 
 -- and the sun in the north
 unfoldable pub outside : List ShadingObject → List WindowShadingObject → FactorAnswer
-outside objects window = shadingFactor surface (whole 0) (whole 180) (horizon objects) window
+outside objects window = shadingFactor 1 surface (whole 0) (whole 180) (horizon objects) window
 
 unfoldable pub edgeValues : Bool
 edgeValues =

@@ -38,6 +38,7 @@ use Rattle.object_checks.specs.Checks.{recordsFine, windowValuesFine, windowRec
 use Rattle.objects.specs.Records.{recordsFrom, distantKind, objectAt, objectsFrom, segmentAt, sectorCount, sectorsOf, windowKind, windowObjectAt, windowCount, windowObjectsOf}
 use Rattle.beam.specs.Beam.{within90, outsideSolarBeam}
 use Rattle.extents.specs.Extents.{obstacleHeight, overhangHeight, windowOverhangHeight}
+use Rattle.fins.specs.Fins.{editionFine, finWidth, rightFin1, leftFin1, rightFin2, leftFin2, finsOf}
 use Rattle.segments.specs.Segments.{found, betweenEnds, holdsAzimuth, visit, placeFrom, placeOf, sectorAt, segmentIn, segmentOf}
 use Rattle.objects.specs.declared.window.WindowShadingType.the-variants.{Obstacle}
 use Rattle.objects.specs.Objects.{isObstacle, isOverhang, kindNumber, ofKind, counted}
@@ -93,7 +94,7 @@ round = replicate 5 0 ++ 0x80 ∷ 0x76 ∷ 0x40 ∷ []
 minus-zero : List ℕ
 minus-zero = double 0x80 0
 
--- an obstacle a metre high a metre away, an overhang two metres up a metre away, and one at the window, two metres deep
+-- an obstacle a metre high a metre away, an overhang two metres up a metre away, one at the window, two metres deep, and a right fin
 wall : List ℕ
 wall = zeros 1 ++ metre ++ metre
 
@@ -103,9 +104,13 @@ eaves = word 1 ++ two ++ metre
 awning : List ℕ
 awning = word 1 ++ two ++ quarter ++ zeros 1
 
--- a rooflight, in two steps of an hour and a half
+fin : List ℕ
+fin = word 2 ++ quarter ++ zeros 2
+
+-- a rooflight, in two steps of an hour and a half, in edition 2
 jobWith : List ℕ → List ℕ → Job
 jobWith sectors window = record {
+  edition = 2;
   site = record {
     latitude = whole 51;
     longitude = whole 0;
@@ -129,10 +134,10 @@ bare : Job
 bare = jobWith (zeros 1 ++ round ++ zeros 25) []
 
 built : Job
-built = jobWith (zeros 1 ++ round ++ word 2 ++ wall ++ eaves ++ zeros 18) awning
+built = jobWith (zeros 1 ++ round ++ word 2 ++ wall ++ eaves ++ zeros 18) (awning ++ fin)
 
 mixed : Job
-mixed = jobWith (minus-zero ++ round ++ word 3 ++ eaves ++ wall ++ eaves ++ zeros 15) (awning ++ awning)
+mixed = jobWith (minus-zero ++ round ++ word 3 ++ eaves ++ wall ++ eaves ++ zeros 15) (fin ++ awning ++ awning)
 
 room : Lent
 room = lent (zeros 1098) (zeros 1134) (zeros 12)
@@ -140,7 +145,7 @@ room = lent (zeros 1098) (zeros 1134) (zeros 12)
 -- ---- all that the values are computed from: to unfold these names unfolds them
 
 lists : ℕ
-unfolding word double zeros quarter metre two hundred round minus-zero wall eaves awning jobWith bare built mixed room number wordCount wordAt doubleAt ofBits sectorCount triple
+unfolding word double zeros quarter metre two hundred round minus-zero wall eaves awning fin jobWith bare built mixed room number wordCount wordAt doubleAt ofBits sectorCount triple
     sectorObjects windowObject windowObjects recordsFrom distantKind objectAt objectsFrom segmentAt sectorsOf windowKind windowObjectAt windowCount windowObjectsOf
 lists = 0
 
@@ -149,7 +154,7 @@ unfolding add sub mul div lt le neg eq ne isNan toUnsigned bits whole decimal of
 doubles = 0
 
 checks : ℕ
-unfolding lists doubles checked tried siteFine hoursInYear atAll indicesFine readingsFine readingFine daysFine daysInYear totalsCount totalsFine resultsFine roomFine runAccepted runFine hoursFine hourFine times timesFrom
+unfolding lists doubles checked tried editionFine siteFine hoursInYear atAll indicesFine readingsFine readingFine daysFine daysInYear totalsCount totalsFine resultsFine roomFine runAccepted runFine hoursFine hourFine times timesFrom
     stepCount stepsFrom goesOn currentHour seriesIndex inSeries readSeries within aboveZero surfaceFine firstFine recordsFine windowValuesFine windowRecordFine windowFine
     objectValuesFine objectFine objectUnused tripleFine boundsFine sectorRecordFine sectorsFine
 checks = 0
@@ -161,7 +166,7 @@ unfolding lists doubles sine cosine tangent isAngle quarterTurns quadrant remain
 sun = 0
 
 shade : ℕ
-unfolding sun within90 outsideSolarBeam obstacleHeight overhangHeight windowOverhangHeight betweenEnds holdsAzimuth visit placeFrom placeOf sectorAt segmentIn segmentOf extents isObstacle isOverhang
+unfolding sun within90 outsideSolarBeam obstacleHeight overhangHeight windowOverhangHeight finWidth rightFin1 leftFin1 rightFin2 leftFin2 finsOf betweenEnds holdsAzimuth visit placeFrom placeOf sectorAt segmentIn segmentOf extents isObstacle isOverhang
     kindNumber ofKind sunOn obstacleExtents overhangExtents windowOverhangExtents rightFinExtents leftFinExtents overhangShade sunlitBetween sunlitHeight sunlitWidth sunlitPart leastOf
     reductionFactor hasReveal counted factorIn shadingFactor shadingAt
 shade = 0
@@ -178,7 +183,7 @@ isFactor (factor.Refused r) = false
 
 -- a step's factor
 answered : Job → Float → FactorAnswer
-answered job time = shadingAt (job .surface) (sunAt (job .site) time) (job .sectors) (job .window)
+answered job time = shadingAt (job .edition) (job .surface) (sunAt (job .site) time) (job .sectors) (job .window)
 
 two-steps : (job : Job) → checked job (roomFor job room) ≡ check.Steps 2 → T (isFactor (answered job (job .run .start)))
     → T (isFactor (answered job (job .run .start ⊕ job .run .step))) → IsAccepted (runOf job room .ran)
@@ -225,7 +230,12 @@ all-numbers (y ∷ xs) t x m =
 
 -- the sun on the surface at a step
 sunThen : Job → ℕ → SunOnSurface
-sunThen job i = let hour = sunAt (job .site) (timeAt (job .run) i) in sunOn (job .surface) (hour .altitude) (hour .azimuth)
+sunThen job i = let hour = sunAt (job .site) (timeAt (job .run) i) in sunOn (job .edition) (job .surface) (hour .altitude) (hour .azimuth)
+
+-- the fin does shade, at the second step
+fin-shades : T (lt (whole 0) (finWidth (sunThen built 1 .fins .right) (decimal 25 2) (whole 0)))
+unfolding shade sunThen
+fin-shades = tt
 
 -- of the first sector and the window, at a step
 abbrev FineAt : Job → ℕ → Type 0
@@ -293,6 +303,7 @@ module _ (s t v w : List ℕ) where
   alike : Alike (jobWith s v) (jobWith t w)
   unfolding jobWith
   alike = record {
+    editions = refl;
     sites = refl;
     runs = refl;
     surfaces = refl;
@@ -364,12 +375,12 @@ unfolding lists
 same = record {
   there = record {
     in-sectors = λ i h. let z : i ≡ 0 = omega arith in rw z (and-held (List·Memᴰ·tail (List·Memᴰ·head refl)) (and-held (List·Memᴰ·head refl) holds-none));
-    at-window = and-held (List·Memᴰ·head refl) holds-none;
+    at-window = and-held (List·Memᴰ·tail (List·Memᴰ·head refl)) (and-held (List·Memᴰ·head refl) holds-none);
   };
   back = record {
     in-sectors = λ i h. let z : i ≡ 0 = omega arith in
         rw z (and-held (List·Memᴰ·tail (List·Memᴰ·head refl)) (and-held (List·Memᴰ·head refl) (and-held (List·Memᴰ·tail (List·Memᴰ·head refl)) holds-none)));
-    at-window = and-held (List·Memᴰ·head refl) (and-held (List·Memᴰ·head refl) holds-none);
+    at-window = and-held (List·Memᴰ·tail (List·Memᴰ·head refl)) (and-held (List·Memᴰ·head refl) (and-held (List·Memᴰ·head refl) holds-none));
   };
 }
 

@@ -1,5 +1,6 @@
--- `EdgeValues` has the specification's values at the edges, `TotalsValues` dates and totals, `Instances` three jobs that the claim on
--- two jobs compared speaks of.
+-- `EdgeValues` has the specification's values at the edges, `FinValues` fins in both editions, `TotalsValues` dates and totals,
+-- `Instances` three jobs that the claim on two jobs compared speaks of.
 pub mod EdgeValues
+pub mod FinValues
 pub mod TotalsValues
 pub mod Instances
