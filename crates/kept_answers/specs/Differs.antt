@@ -31,7 +31,7 @@ leafDiffers l = not (eqb (toBits binary64 (leafOf (wordAt l 2) (doubleAt l 3) (d
 -- ---- factor calls
 
 unfoldable pub isFactor : List ℕ → ℕ → Float → Bool
-isFactor l number factor = eqb (wordAt l 11) number && eqb (wordAt l 12) (toBits binary64 factor)
+isFactor l number factor = eqb (wordAt l 12) number && eqb (wordAt l 13) (toBits binary64 factor)
 
 -- the factor is 0 where refused
 unfoldable pub factorKept : List ℕ → FactorAnswer → Bool
@@ -40,9 +40,9 @@ factorKept l (Refused refusal) = isFactor l (numberOf refusal) (whole 0)
 
 unfoldable pub factorDiffers : List ℕ → Bool
 factorDiffers l =
-    let a = listEnd l 104 (wordAt l 9) in
-    let b = listEnd l a (wordAt l 10) in
-    ltb (length l) 104 || not (factorKept l (factorCall (doubleAt l 2) (doubleAt l 3) (surfaceAt l 4) (part l 104 a) (part l a b)))
+    let a = listEnd l 112 (wordAt l 10) in
+    let b = listEnd l a (wordAt l 11) in
+    ltb (length l) 112 || not (factorKept l (factorCall (wordAt l 2) (doubleAt l 3) (doubleAt l 4) (surfaceAt l 5) (part l 112 a) (part l a b)))
 
 -- ---- shade listings: as much of the lines as a block can hold
 
@@ -63,27 +63,27 @@ wholeOf x = cond (le (neg (whole (2 ^ 63))) x) (cond (lt x (whole (2 ^ 63))) (to
 
 unfoldable pub siteOf : List ℕ → Site
 siteOf l = record {
-  latitude = doubleAt l 2;
-  longitude = doubleAt l 3;
-  timezone = wholeOf (doubleAt l 4);
-  «start_day» = wordAt l 5;
-  «time_series_step» = doubleAt l 6;
-  «leap_year» = wordAt l 7;
-  «direct_beam_conversion» = wordAt l 8;
+  latitude = doubleAt l 3;
+  longitude = doubleAt l 4;
+  timezone = wholeOf (doubleAt l 5);
+  «start_day» = wordAt l 6;
+  «time_series_step» = doubleAt l 7;
+  «leap_year» = wordAt l 8;
+  «direct_beam_conversion» = wordAt l 9;
 }
 
 unfoldable pub runAt : List ℕ → Run
-runAt l = record { start = doubleAt l 9; end = doubleAt l 10; step = doubleAt l 11 }
+runAt l = record { start = doubleAt l 10; end = doubleAt l 11; step = doubleAt l 12 }
 
 -- the record's job with these lists
 abbrev pub keptJob : List ℕ → List ℕ → List ℕ → List ℕ → List ℕ → List ℕ → Job
 keptJob l diffuse direct reflectivity sectors window =
-    jobOf (siteOf l) (runAt l) (surfaceAt l 12) diffuse direct reflectivity sectors window
+    jobOf (wordAt l 2) (siteOf l) (runAt l) (surfaceAt l 13) diffuse direct reflectivity sectors window
 
 -- number, step, count and sum are the record's
 unfoldable pub isRun : List ℕ → ℕ → ℕ → ℕ → Float → Bool
 isRun l number step count sum =
-    eqb (wordAt l 24) number && eqb (wordAt l 25) step && (eqb (wordAt l 26) count && eqb (wordAt l 27) (toBits binary64 sum))
+    eqb (wordAt l 25) number && eqb (wordAt l 26) step && (eqb (wordAt l 27) count && eqb (wordAt l 28) (toBits binary64 sum))
 
 unfoldable pub answerKept : List ℕ → RunAnswer → Bool
 answerKept l answer = isRun l (numberFor answer) (stepFor answer) (countFor answer) (sumFor answer)
@@ -101,24 +101,24 @@ runKept l results totals left =
 -- results as there are afterwards, at most 20,000
 unfoldable pub listsFor : List ℕ → List ℕ → Lent
 listsFor l results =
-    lent (replicate 8784 0xA5) (take (wordAt l 28) (replicate 9080 0xA5)) (take (length results) (replicate 20000 0xA5))
+    lent (replicate 8784 0xA5) (take (wordAt l 29) (replicate 9080 0xA5)) (take (length results) (replicate 20000 0xA5))
 
 -- with the first three lists, behind which the other four follow from place `at` on
 unfoldable pub seriesKept : List ℕ → ℕ → List ℕ → List ℕ → List ℕ → Bool
 seriesKept l at diffuse direct reflectivity =
-    let a = listEnd l at (wordAt l 20) in
-    let b = listEnd l a (wordAt l 21) in
-    let c = listEnd l b (wordAt l 22) in
+    let a = listEnd l at (wordAt l 21) in
+    let b = listEnd l a (wordAt l 22) in
+    let c = listEnd l b (wordAt l 23) in
     let results = part l b c in
-    let totals = part l c (listEnd l c (wordAt l 23)) in
+    let totals = part l c (listEnd l c (wordAt l 24)) in
     runKept l results totals (runOf (keptJob l diffuse direct reflectivity (part l at a) (part l a b)) (listsFor l results))
 
 unfoldable pub runDiffers : List ℕ → Bool
 runDiffers l =
-    let a = listEnd l 232 (wordAt l 17) in
-    let b = listEnd l a (wordAt l 18) in
-    let c = listEnd l b (wordAt l 19) in
-    ltb (length l) 232 || not (seriesKept l c (part l 232 a) (part l a b) (part l b c))
+    let a = listEnd l 240 (wordAt l 18) in
+    let b = listEnd l a (wordAt l 19) in
+    let c = listEnd l b (wordAt l 20) in
+    ltb (length l) 240 || not (seriesKept l c (part l 240 a) (part l a b) (part l b c))
 
 -- ---- the table of days
 

@@ -1,4 +1,4 @@
-// Factor calls: 13 words, then both lists.
+// Factor calls: 14 words, then both lists.
 ghost use mathlib.Core.Path.{_≡_};
 ghost use Rattle.kept_answers.specs.Differs.{isFactor, factorKept, factorDiffers};
 use crate::parts::list_end;
@@ -13,7 +13,7 @@ use words::word_at;
 fn is_answer(kept: &[u8], number: u64, factor: f64) -> bool
     ensures { λ r. ⌜ r ≡ isFactor (now (kept .entry)) number factor ⌝ }
 {
-    (word_at(kept, 11) == number) & (word_at(kept, 12) == bits_of_double(factor))
+    (word_at(kept, 12) == number) & (word_at(kept, 13) == bits_of_double(factor))
 }
 
 fn answers(kept: &[u8], answer: FactorAnswer) -> bool
@@ -29,16 +29,17 @@ fn answers(kept: &[u8], answer: FactorAnswer) -> bool
 pub fn differs(kept: &[u8]) -> bool
     ensures { λ r. ⌜ r ≡ factorDiffers (now (kept .entry)) ⌝ }
 {
-    if kept.len() < 104 {
+    if kept.len() < 112 {
         return true;
     }
-    let a = list_end(kept, 104, word_at(kept, 9));
-    let b = list_end(kept, a, word_at(kept, 10));
+    let a = list_end(kept, 112, word_at(kept, 10));
+    let b = list_end(kept, a, word_at(kept, 11));
     let answer = factor_call(
-        double_at(kept, 2),
+        word_at(kept, 2),
         double_at(kept, 3),
-        surface_at(kept, 4),
-        &kept[104..a],
+        double_at(kept, 4),
+        surface_at(kept, 5),
+        &kept[112..a],
         &kept[a..b],
     );
     !answers(kept, answer)

@@ -1,4 +1,4 @@
-// Runs: 29 words, then the seven lists, the results and the totals as they are afterwards.
+// Runs: 30 words, then the seven lists, the results and the totals as they are afterwards.
 ghost use mathlib.Core.Path.{_≡_};
 ghost use Prim.Native.Nat.{_≤_};
 ghost use lib.ListN.{length};
@@ -33,13 +33,13 @@ fn site_of(kept: &[u8]) -> Site
     ensures { λ r. ⌜ r ≡ siteOf (now (kept .entry)) ⌝ }
 {
     Site {
-        latitude: double_at(kept, 2),
-        longitude: double_at(kept, 3),
-        timezone: whole_of(double_at(kept, 4)),
-        start_day: word_at(kept, 5),
-        time_series_step: double_at(kept, 6),
-        leap_year: word_at(kept, 7),
-        direct_beam_conversion: word_at(kept, 8),
+        latitude: double_at(kept, 3),
+        longitude: double_at(kept, 4),
+        timezone: whole_of(double_at(kept, 5)),
+        start_day: word_at(kept, 6),
+        time_series_step: double_at(kept, 7),
+        leap_year: word_at(kept, 8),
+        direct_beam_conversion: word_at(kept, 9),
     }
 }
 
@@ -47,9 +47,9 @@ fn run_of(kept: &[u8]) -> Run
     ensures { λ r. ⌜ r ≡ runAt (now (kept .entry)) ⌝ }
 {
     Run {
-        start: double_at(kept, 9),
-        end: double_at(kept, 10),
-        step: double_at(kept, 11),
+        start: double_at(kept, 10),
+        end: double_at(kept, 11),
+        step: double_at(kept, 12),
     }
 }
 
@@ -57,8 +57,8 @@ fn run_of(kept: &[u8]) -> Run
 fn is_answer(kept: &[u8], number: u64, step: u64, count: u64, sum: f64) -> bool
     ensures { λ r. ⌜ r ≡ isRun (now (kept .entry)) number step count sum ⌝ }
 {
-    let numbers = (word_at(kept, 24) == number) & (word_at(kept, 25) == step);
-    let sums = (word_at(kept, 26) == count) & (word_at(kept, 27) == bits_of_double(sum));
+    let numbers = (word_at(kept, 25) == number) & (word_at(kept, 26) == step);
+    let sums = (word_at(kept, 27) == count) & (word_at(kept, 28) == bits_of_double(sum));
     numbers & sums
 }
 
@@ -99,9 +99,10 @@ fn is_answered(
         (now (sectors .entry)) (now (window .entry))) (lent (now (days .entry)) (now (totals .entry)) (now (results .entry)))) ⌝ }
 {
     let answer = run_job(
+        word_at(kept, 2),
         site_of(kept),
         run_of(kept),
-        surface_at(kept, 12),
+        surface_at(kept, 13),
         diffuse,
         direct,
         reflectivity,
@@ -133,7 +134,7 @@ fn with_lists(
     let mut days = [0xA5u8; 8784];
     let mut totals = [0xA5u8; 9080];
     let mut results = [0xA5u8; 20000];
-    let m = least(word_at(kept, 28) as usize, 9080);
+    let m = least(word_at(kept, 29) as usize, 9080);
     let n = least(results_left.len(), 20000);
     is_answered(
         kept,
@@ -155,10 +156,10 @@ fn with_series(bytes: &[u8], at: usize, diffuse: &[u8], direct: &[u8], reflectiv
     requires { ⌜ at ≤ length (now bytes) ⌝ }
     ensures { λ r. ⌜ r ≡ seriesKept (now (bytes .entry)) at (now (diffuse .entry)) (now (direct .entry)) (now (reflectivity .entry)) ⌝ }
 {
-    let a = list_end(bytes, at, word_at(bytes, 20));
-    let b = list_end(bytes, a, word_at(bytes, 21));
-    let c = list_end(bytes, b, word_at(bytes, 22));
-    let d = list_end(bytes, c, word_at(bytes, 23));
+    let a = list_end(bytes, at, word_at(bytes, 21));
+    let b = list_end(bytes, a, word_at(bytes, 22));
+    let c = list_end(bytes, b, word_at(bytes, 23));
+    let d = list_end(bytes, c, word_at(bytes, 24));
     with_lists(
         bytes,
         diffuse,
@@ -175,11 +176,11 @@ fn with_series(bytes: &[u8], at: usize, diffuse: &[u8], direct: &[u8], reflectiv
 pub fn differs(kept: &[u8]) -> bool
     ensures { λ r. ⌜ r ≡ runDiffers (now (kept .entry)) ⌝ }
 {
-    if kept.len() < 232 {
+    if kept.len() < 240 {
         return true;
     }
-    let a = list_end(kept, 232, word_at(kept, 17));
-    let b = list_end(kept, a, word_at(kept, 18));
-    let c = list_end(kept, b, word_at(kept, 19));
-    !with_series(kept, c, &kept[232..a], &kept[a..b], &kept[b..c])
+    let a = list_end(kept, 240, word_at(kept, 18));
+    let b = list_end(kept, a, word_at(kept, 19));
+    let c = list_end(kept, b, word_at(kept, 20));
+    !with_series(kept, c, &kept[240..a], &kept[a..b], &kept[b..c])
 }

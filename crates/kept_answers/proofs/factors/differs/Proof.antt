@@ -21,6 +21,9 @@ word-at-requires-2 c κs = tt
 list-end-requires-2 : tie.Need-list-end-requires-2
 list-end-requires-2 c κs = omega (arith, c .before .list-end .ensures)
 
+word-at-requires-3 : tie.Need-word-at-requires-3
+word-at-requires-3 c κs = tt
+
 double-at-requires : tie.Need-double-at-requires
 double-at-requires c κs = tt
 
@@ -31,22 +34,22 @@ surface-at-requires : tie.Need-surface-at-requires
 surface-at-requires c κs = omega arith
 
 sub-factor-call : tie.Need-sub-factor-call
-sub-factor-call c = omega (arith, c .before .before .before .before .before .list-end .ensures)
+sub-factor-call c = omega (arith, c .before .before .before .before .before .before .list-end .ensures)
 
 part-factor-call-start : tie.Need-part-factor-call-start
-part-factor-call-start c = omega (arith, c .before .before .before .before .before .list-end .ensures)
+part-factor-call-start c = omega (arith, c .before .before .before .before .before .before .list-end .ensures)
 
 part-factor-call-end : tie.Need-part-factor-call-end
-part-factor-call-end c = omega (arith, c .before .before .before .before .before .list-end .ensures)
+part-factor-call-end c = omega (arith, c .before .before .before .before .before .before .list-end .ensures)
 
 sub-factor-call-2 : tie.Need-sub-factor-call-2
-sub-factor-call-2 c = omega (arith, c .before .before .before .before .list-end2 .ensures, c .before .before .before .before .before .before .list-end .ensures)
+sub-factor-call-2 c = omega (arith, c .before .before .before .before .before .list-end2 .ensures, c .before .before .before .before .before .before .before .list-end .ensures)
 
 part-factor-call-start-2 : tie.Need-part-factor-call-start-2
-part-factor-call-start-2 c = omega (arith, c .before .before .before .before .list-end2 .ensures, c .before .before .before .before .before .before .list-end .ensures)
+part-factor-call-start-2 c = omega (arith, c .before .before .before .before .before .list-end2 .ensures, c .before .before .before .before .before .before .before .list-end .ensures)
 
 part-factor-call-end-2 : tie.Need-part-factor-call-end-2
-part-factor-call-end-2 c = omega (arith, c .before .before .before .before .list-end2 .ensures, c .before .before .before .before .before .before .list-end .ensures)
+part-factor-call-end-2 c = omega (arith, c .before .before .before .before .before .list-end2 .ensures, c .before .before .before .before .before .before .before .list-end .ensures)
 
 factor-call-requires : tie.Need-factor-call-requires
 factor-call-requires c κs = tt
@@ -56,7 +59,7 @@ answers-requires c κs = tt
 
 returns-2 : tie.Need-returns-2
 unfolding factorDiffers
-returns-2 c = rw (le-ltb _ _ (c .before .before .before .before .before .before .before .before .before .before .before .if1 .left), c .answers .ensures, c .before .factor-call .ensures, c .before .before .before .before .surface-at .ensures, c .before .before .before .before .before .double-at2 .ensures, c .before .before .before .before .before .before .double-at .ensures, c .before .before .before .before .before .before .before .list-end2 .ensures, c .before .before .before .before .before .before .before .before .word-at2 .ensures, c .before .before .before .before .before .before .before .before .before .list-end .ensures, c .before .before .before .before .before .before .before .before .before .before .word-at .ensures)
+returns-2 c = rw (le-ltb _ _ (c .before .before .before .before .before .before .before .before .before .before .before .before .if1 .left), c .answers .ensures, c .before .factor-call .ensures, c .before .before .before .before .surface-at .ensures, c .before .before .before .before .before .double-at2 .ensures, c .before .before .before .before .before .before .double-at .ensures, c .before .before .before .before .before .before .before .word-at3 .ensures, c .before .before .before .before .before .before .before .before .list-end2 .ensures, c .before .before .before .before .before .before .before .before .before .word-at2 .ensures, c .before .before .before .before .before .before .before .before .before .before .list-end .ensures, c .before .before .before .before .before .before .before .before .before .before .before .word-at .ensures)
 
 pub differs-spec : {M : Type 1} → statement M
 differs-spec =
@@ -67,6 +70,7 @@ differs-spec =
     list-end-requires
     word-at-requires-2
     list-end-requires-2
+    word-at-requires-3
     double-at-requires
     double-at-requires-2
     surface-at-requires

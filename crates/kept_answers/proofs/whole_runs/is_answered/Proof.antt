@@ -7,6 +7,9 @@ use borrow.Author.Needs.{needs}
 use Rattle.kept_answers.proofs.whole_runs.is_answered.Statement.{statement}
 use Rattle.kept_answers.proofs.whole_runs.is_answered.Tie as tie
 
+word-at-requires : tie.Need-word-at-requires
+word-at-requires c κs = tt
+
 site-of-requires : tie.Need-site-of-requires
 site-of-requires c κs = tt
 
@@ -40,14 +43,15 @@ same-length-3 c = search needs
 returns : tie.Need-returns
 unfolding runKept
 returns c =
-    let a = c .before .before .before .before .before .before .before .before .before .before .before .before .before .before .before .before .before .before .before .before .before .before .before .before .before .before .before .before .before .args in
-    let e = rw (c .before .before .before .before .before .before .before .before .before .before .before .before .before .before .before .before .before .site-of .ensures, c .before .before .before .before .before .before .before .before .before .before .before .before .before .before .before .before .run-of .ensures, c .before .before .before .before .before .before .before .before .before .before .before .before .before .before .before .surface-at .ensures) at (c .before .before .before .before .before .before .before .before .before .before .before .run-job .ensures) in
+    let a = c .before .before .before .before .before .before .before .before .before .before .before .before .before .before .before .before .before .before .before .before .before .before .before .before .before .before .before .before .before .before .args in
+    let e = rw (c .before .before .before .before .before .before .before .before .before .before .before .before .before .before .before .before .before .site-of .ensures, c .before .before .before .before .before .before .before .before .before .before .before .before .before .before .before .before .run-of .ensures, c .before .before .before .before .before .before .before .before .before .before .before .before .before .before .before .surface-at .ensures, c .before .before .before .before .before .before .before .before .before .before .before .before .before .before .before .before .before .before .word-at .ensures) at (c .before .before .before .before .before .before .before .before .before .before .before .run-job .ensures) in
     rw (c .before .before .before .same-text .ensures, c .before .totals-kept .ensures, c .answers .ensures) (ap (runKept (now (a .kept)) (now (a .results-left)) (now (a .totals-left))) e)
 
 pub is-answered-spec : {M : Type 1} → statement M
 is-answered-spec =
     tie.close
     (tie.spec
+    word-at-requires
     site-of-requires
     run-of-requires
     surface-at-requires
