@@ -18,8 +18,8 @@ unfoldable pub southWall : Surface
 southWall = record { tilt = whole 90; orientation = whole 180; «base_height» = whole 0; height = whole 2; width = whole 1 }
 
 -- at altitude 0
-unfoldable pub factorAt : Float → List ℕ → List ℕ → FactorAnswer
-factorAt azimuth sectors window = factorCall (whole 0) azimuth southWall sectors window
+unfoldable pub factorAt : ℕ → Float → List ℕ → List ℕ → FactorAnswer
+factorAt edition azimuth sectors window = factorCall edition (whole 0) azimuth southWall sectors window
 
 -- one sector, all around, with one object, 10 m away
 unfoldable pub horizonWith : ℕ → Float → List ℕ
@@ -36,14 +36,15 @@ nearObstacle = oneObstacle (whole 1) (whole 3) (decimal 5 1)
 unfoldable pub windowWith : Bool → List ℕ
 windowWith near = cond near nearObstacle []
 
--- depth 0.25 m, distance 0.125 m
-unfoldable pub oneReveal : List ℕ
-oneReveal = putDouble (putDouble (putWord (replicate 32 0) 0 4) 1 (decimal 25 2)) 2 (decimal 125 3)
+-- an overhang (kind 1), a fin (2 right, 3 left) or a reveal (4), right at the window
+unfoldable pub onePart : ℕ → Float → List ℕ
+onePart kind depth = putDouble (putWord (replicate 32 0) 0 kind) 1 depth
 
 -- start 0, end 3, step 1, with zeros for the series
 unfoldable pub threeHours : Job
 threeHours =
     jobOf
+    1
     (record {
       latitude = whole 51;
       longitude = whole 0;

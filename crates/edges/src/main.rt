@@ -170,8 +170,45 @@ fn overhangs() {
 fn reveals() {
     compare_factor(
         b"a reveal outside the beam gives 1",
-        shades::reveal_factor(180.0),
+        shades::part_factor(1, 4, 0.25, 180.0),
         accepted(0x3FF0_0000_0000_0000),
+    );
+}
+
+// A fin 0.5 m deep, and the sun 30 degrees to its side.
+fn fins() {
+    compare_factor(
+        b"right fin, difference -30: edition 1 gives 1",
+        shades::part_factor(1, 2, 0.5, -30.0),
+        accepted(0x3FF0_0000_0000_0000),
+    );
+    compare_factor(
+        b"right fin, difference -30: edition 2 gives 0.7113248654051871",
+        shades::part_factor(2, 2, 0.5, -30.0),
+        accepted(0x3FE6_C32C_5D37_E672),
+    );
+    compare_factor(
+        b"left fin, difference 30: edition 1 gives 0.7113248654051871",
+        shades::part_factor(1, 3, 0.5, 30.0),
+        accepted(0x3FE6_C32C_5D37_E672),
+    );
+    compare_factor(
+        b"left fin, difference 30: edition 2 gives 0.7113248654051871",
+        shades::part_factor(2, 3, 0.5, 30.0),
+        accepted(0x3FE6_C32C_5D37_E672),
+    );
+}
+
+fn editions() {
+    compare_factor(
+        b"edition 0 refused 14",
+        shades::part_factor(0, 2, 0.5, -30.0),
+        refused(14),
+    );
+    compare_factor(
+        b"edition 3 and azimuth 400 refused 14",
+        shades::part_factor(3, 2, 0.5, 400.0),
+        refused(14),
     );
 }
 
@@ -257,6 +294,8 @@ fn main() {
     obstacles();
     overhangs();
     reveals();
+    fins();
+    editions();
     sectors();
     steps();
     step_counts();

@@ -1,4 +1,4 @@
-// The calls of the examples on shading and on runs. The sun has altitude 0; the surface faces south, upright, with base 0, height 2
+// The calls of the examples on shading and on runs, in edition 1 where none is named. The sun has altitude 0; the surface faces south, upright, with base 0, height 2
 // and width 1.
 ghost use mathlib.Core.Path.{_≡_};
 ghost use mathlib.Core.List.{[]};
@@ -6,7 +6,7 @@ ghost use lib.ListN.{replicate};
 ghost use Rattle.doubles.specs.Arithmetic.{whole};
 ghost use Rattle.jobs.specs.Run.{lent, runOf};
 ghost use Rattle.lines.specs.Line.{wholeHorizon};
-ghost use Rattle.edges.specs.Shades.{southWall, factorAt, horizonWith, twoSectors, nearObstacle, windowWith, oneReveal, threeHours};
+ghost use Rattle.edges.specs.Shades.{southWall, factorAt, horizonWith, twoSectors, nearObstacle, windowWith, onePart, threeHours};
 use jobs::answers::RunAnswer;
 use lines::line::listed_factor;
 use lines::line::one_obstacle;
@@ -28,33 +28,33 @@ fn south_wall() -> Surface
     }
 }
 
-fn factor_at(azimuth: f64, sectors: &[u8], window: &[u8]) -> FactorAnswer
-    ensures { λ r. ⌜ r ≡ factorAt azimuth (now (sectors .entry)) (now (window .entry)) ⌝ }
+fn factor_at(edition: u64, azimuth: f64, sectors: &[u8], window: &[u8]) -> FactorAnswer
+    ensures { λ r. ⌜ r ≡ factorAt edition azimuth (now (sectors .entry)) (now (window .entry)) ⌝ }
 {
-    shading::step::factor_call(0.0, azimuth, south_wall(), sectors, window)
+    shading::step::factor_call(edition, 0.0, azimuth, south_wall(), sectors, window)
 }
 
 // The sun in the south, and a near obstacle of 1 m and transparency 0.5 or nothing at the window.
 fn factor_near(sectors: &[u8], near: bool) -> FactorAnswer
-    ensures { λ r. ⌜ r ≡ factorAt (whole 0) (now (sectors .entry)) (windowWith near) ⌝ }
+    ensures { λ r. ⌜ r ≡ factorAt 1 (whole 0) (now (sectors .entry)) (windowWith near) ⌝ }
 {
     if near {
         let window = one_obstacle(1.0, 3.0, 0.5);
-        return factor_at(0.0, sectors, &window);
+        return factor_at(1, 0.0, sectors, &window);
     }
-    factor_at(0.0, sectors, b"")
+    factor_at(1, 0.0, sectors, b"")
 }
 
 // The near obstacle and no distant object: what a line of the shade listing stands for.
 pub fn near_factor() -> FactorAnswer
-    ensures { λ r. ⌜ r ≡ factorAt (whole 0) wholeHorizon nearObstacle ⌝ }
+    ensures { λ r. ⌜ r ≡ factorAt 1 (whole 0) wholeHorizon nearObstacle ⌝ }
 {
     listed_factor(0.0, 0.0, south_wall(), 1.0, 3.0, 0.5)
 }
 
 // One distant object: 0 obstacle, 1 overhang.
 pub fn distant_factor(kind: u64, height: f64, near: bool) -> FactorAnswer
-    ensures { λ r. ⌜ r ≡ factorAt (whole 0) (horizonWith kind height) (windowWith near) ⌝ }
+    ensures { λ r. ⌜ r ≡ factorAt 1 (whole 0) (horizonWith kind height) (windowWith near) ⌝ }
 {
     let mut sectors = whole_horizon();
     words::store_word(&mut sectors, 2, 1);
@@ -64,27 +64,26 @@ pub fn distant_factor(kind: u64, height: f64, near: bool) -> FactorAnswer
     factor_near(&sectors, near)
 }
 
-// A reveal at the window.
-pub fn reveal_factor(azimuth: f64) -> FactorAnswer
-    ensures { λ r. ⌜ r ≡ factorAt azimuth wholeHorizon oneReveal ⌝ }
+// One object right at the window: 1 overhang, 2 right fin, 3 left fin, 4 reveal.
+pub fn part_factor(edition: u64, kind: u64, depth: f64, azimuth: f64) -> FactorAnswer
+    ensures { λ r. ⌜ r ≡ factorAt edition azimuth wholeHorizon (onePart kind depth) ⌝ }
 {
     let sectors = whole_horizon();
     let mut window = [0u8; 32];
-    words::store_word(&mut window, 0, 4);
-    words::store_double(&mut window, 1, 0.25);
-    words::store_double(&mut window, 2, 0.125);
-    factor_at(azimuth, &sectors, &window)
+    words::store_word(&mut window, 0, kind);
+    words::store_double(&mut window, 1, depth);
+    factor_at(edition, azimuth, &sectors, &window)
 }
 
 // Sectors 0..180 and start..360, without objects.
 pub fn two_sectors_factor(start: f64, azimuth: f64) -> FactorAnswer
-    ensures { λ r. ⌜ r ≡ factorAt azimuth (twoSectors start) [] ⌝ }
+    ensures { λ r. ⌜ r ≡ factorAt 1 azimuth (twoSectors start) [] ⌝ }
 {
     let mut sectors = [0u8; 432];
     words::store_double(&mut sectors, 1, 180.0);
     words::store_double(&mut sectors, 27, start);
     words::store_double(&mut sectors, 28, 360.0);
-    factor_at(azimuth, &sectors, b"")
+    factor_at(1, azimuth, &sectors, b"")
 }
 
 // A run from 0 to 3 by steps of 1.
@@ -111,6 +110,7 @@ pub fn three_hours() -> RunAnswer
     let mut totals = [0u8; 9048];
     let mut results = [0u8; 144];
     runs::run::run_job(
+        1,
         site,
         run,
         south_wall(),

@@ -41,7 +41,7 @@ unfolding twoSectors ofBits whole
 returns c =
     let a = c .before .before .before .before .before .before .before .before .before .before .before .before .args in
     c .factor-at .ensures
-    ∙ ap (λ l. factorAt (a .azimuth) l [])
+    ∙ ap (λ l. factorAt 1 (a .azimuth) l [])
     (c .before .before .before .before .store-double3 .ensures
     ∙ ap (λ l. putDouble l 28 (whole 360)) (c .before .before .before .before .before .before .before .store-double2 .ensures ∙ ap (λ l. putDouble l 27 (a .start)) (c .before .before .before .before .before .before .before .before .before .before .store-double .ensures)))
 
