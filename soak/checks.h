@@ -51,6 +51,7 @@ typedef struct soak {
     uint64_t pairs_apart[2];   /* of these, with another sum, by edition */
     uint64_t with_window;      /* sound jobs with objects at the window */
     uint64_t with_both_fins;   /* of these, with fins on both sides */
+    uint64_t beyond;           /* of these, with the factor's sun at a difference beyond 180 */
     uint64_t editions_apart;   /* factors that are another in the other edition */
     uint64_t beyond_apart;     /* of these, with a difference beyond 180 */
     uint64_t fins_apart[2][2]; /* factors that are another without the fins of one side: by edition, right and left */
@@ -100,12 +101,13 @@ void try_other_objects(soak *in, source *from, const job *of);
 const char *wrong_edition(uint64_t edition, uint64_t number);
 /* The job with an edition that there is not. */
 void try_no_edition(soak *in, source *from, const job *of);
-/* The job in both editions, or without some of its fins. */
-void try_editions(soak *in, source *from, const job *of);
+/* The job in both editions, or without some of its fins, by its run or by its factor. */
+void try_editions(soak *in, source *from, const job *of, enum call call);
 /* Fins and nothing else, by factor calls. */
 void try_fins(soak *in, source *from);
-/* Whether there are fins on both sides of the window. */
+/* Whether there are fins on both sides of the window; whether the factor's sun is at a difference beyond 180. */
 int has_both_fins(const job *of);
+int is_beyond(const job *of);
 /* Two threads at once, with the same lists. */
 void try_threads(soak *in, source *from, const job *of);
 /* One list lent for all three series. */

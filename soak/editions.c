@@ -41,6 +41,11 @@ static double difference_of(const pilgartze_surface *surface, double azimuth)
     return azimuth - (180.0 - surface->orientation);
 }
 
+int is_beyond(const job *of)
+{
+    return fabs(difference_of(&of->surface, of->azimuth)) > 180.0;
+}
+
 /* Brought into -180..180 by one shift. */
 static double wrapped(double difference)
 {
@@ -192,13 +197,12 @@ static void compare_pair(soak *in, const pair *of, enum call call)
     }
 }
 
-void try_editions(soak *in, source *from, const job *of)
+void try_editions(soak *in, source *from, const job *of, enum call call)
 {
     const pair made = some_pair(from, of);
     lay_out(&in->first, &made.first, 0, 0, 1);
     lay_out(&in->second, &made.second, 0, 0, 1);
-    compare_pair(in, &made, RUN);
-    compare_pair(in, &made, FACTOR);
+    compare_pair(in, &made, call);
 }
 
 /* ---- Fins alone ----------------------------------------------------------------------------------------------- */
@@ -290,7 +294,7 @@ static void try_side(soak *in, source *from, const bare_fins *fins, double expec
     if (fabs(made->azimuth) == 180.0) {
         return; /* it is in no sector */
     }
-    beyond = fabs(difference_of(&made->surface, made->azimuth)) > 180.0;
+    beyond = is_beyond(made);
     answer.sum = factor_of_fins(in, made);
     if (bits_of(answer.sum) != bits_of(expected)) {
         failed(in, words[left][beyond], FACTOR, made, &answer);

@@ -50,6 +50,7 @@ static void count_sound(soak *in, const job *made)
     in->square += square ? 1 : 0;
     in->with_window += made->lengths[WINDOW] > 0 ? 1 : 0;
     in->with_both_fins += has_both_fins(made) ? 1 : 0;
+    in->beyond += has_both_fins(made) && is_beyond(made) ? 1 : 0;
 }
 
 static void one_turn(soak *in, job *made)
@@ -78,9 +79,10 @@ static void one_turn(soak *in, job *made)
     if (one_in(&from, 8)) {
         try_other_objects(in, &from, made);
     }
-    if (one_in(&from, 3)) {
-        try_editions(in, &from, made);
+    if (one_in(&from, 4)) {
+        try_editions(in, &from, made, RUN);
     }
+    try_editions(in, &from, made, FACTOR);
     try_fins(in, &from);
     try_walk(in, &from);
 }
@@ -164,11 +166,11 @@ static void tell_totals(const soak *in)
 /* Each two counts are those of right fins and of left ones. */
 static void tell_editions(const soak *in)
 {
-    printf("editions: %llu sound jobs with objects at the window, %llu of them with fins on both sides; %llu factors "
-           "that are another in the other edition, %llu of them with a difference beyond 180; without the fins of one "
-           "side %llu and %llu that are another in edition 1, %llu and %llu in edition 2; of fins alone %llu and %llu "
-           "that are not 0 nor 1, beyond 180 %llu and %llu\n",
-           (unsigned long long)in->with_window, (unsigned long long)in->with_both_fins,
+    printf("editions: %llu sound jobs with objects at the window, %llu of them with fins on both sides, of these %llu "
+           "with the factor's sun at a difference beyond 180; %llu factors that are another in the other edition, %llu "
+           "of them with such a difference; without the fins of one side %llu and %llu that are another in edition 1, "
+           "%llu and %llu in edition 2; of fins alone %llu and %llu that are not 0 nor 1, beyond 180 %llu and %llu\n",
+           (unsigned long long)in->with_window, (unsigned long long)in->with_both_fins, (unsigned long long)in->beyond,
            (unsigned long long)in->editions_apart, (unsigned long long)in->beyond_apart,
            (unsigned long long)in->fins_apart[0][0], (unsigned long long)in->fins_apart[0][1],
            (unsigned long long)in->fins_apart[1][0], (unsigned long long)in->fins_apart[1][1],
@@ -217,18 +219,21 @@ static int too_few_totals(const soak *in)
     return 0;
 }
 
-/* Fins of both sides on many windows, and shade of each side's in each edition. */
+/* Fins on both sides of many windows, many with the sun beyond 180, and shade of each side's in each edition. On the
+ * heap there are too few jobs for that in each of them. */
 static int too_few_fins(const soak *in)
 {
-    int seldom = 3 * in->with_both_fins < in->with_window || in->editions_apart == 0 || in->beyond_apart == 0;
+    int seldom = 2 * in->with_both_fins < in->with_window || 4 * in->beyond < in->with_window;
     int i;
     for (i = 0; i < 4; i++) {
-        seldom = seldom || in->fins_apart[i / 2][i % 2] == 0 || in->fins_alone[i / 2][i % 2] == 0;
+        seldom = seldom || (in->fins_apart[i / 2][i % 2] == 0 && !in->on_the_heap) ||
+                 in->fins_alone[i / 2][i % 2] == 0;
     }
-    if (seldom) {
+    if (seldom || in->editions_apart == 0 || in->beyond_apart == 0) {
         printf("soak: fins have shaded too seldom\n");
+        return 1;
     }
-    return seldom;
+    return 0;
 }
 
 /* A third of the sound jobs must have been aimed well, and the sun overhead must have been shaded and refused. */

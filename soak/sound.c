@@ -301,18 +301,14 @@ static void sound_single(source *from, job *made, size_t steps)
 }
 
 /* Turns the surface to about the north, at a site where the sun comes there: south of the tropics, or so far north that
- * it does in summer nights. There its azimuth less (180 - orientation) is often beyond 180, and so for every other
- * factor. */
+ * it does in summer nights. There its azimuth less (180 - orientation) is often beyond 180, and for the factor it is. */
 static void turn_to_the_north(source *from, job *made)
 {
     const double aside = one_in(from, 2) ? 0.0 : uniform(from, 0.0, 60.0);
     const int to_the_east = one_in(from, 2);
     made->site.latitude = one_in(from, 4) ? uniform(from, 66.0, 89.0) : uniform(from, -70.0, -24.0);
     made->surface.orientation = to_the_east ? aside : 360.0 - aside;
-    if (one_in(from, 2)) {
-        const double azimuth = uniform(from, 90.0, 180.0);
-        made->azimuth = to_the_east ? -azimuth : azimuth;
-    }
+    made->azimuth = to_the_east ? uniform(from, -180.0, -90.0) : uniform(from, 90.0, 180.0);
 }
 
 void sound_job(source *from, job *made, int years)

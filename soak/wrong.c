@@ -352,13 +352,55 @@ static size_t walked(int first, int last, size_t length)
 static size_t looked_at(size_t length)
 {
     const size_t objects = length / sizeof(pilgartze_window_object);
-    if (objects > PILGARTZE_MOST_WINDOW_OBJECTS) {
-        return flaw("hundreds_of_objects_accepted") && objects < 1000 ? 0 : length;
+    const int too_many = objects > PILGARTZE_MOST_WINDOW_OBJECTS;
+    return flaw("hundreds_of_objects_accepted") && too_many && objects < 1000 ? 0 : length;
+}
+
+static int has_obstacle(const pilgartze_sector *sector)
+{
+    size_t i;
+    for (i = 0; i < sector->count; i++) {
+        if (sector->objects[i].kind == PILGARTZE_DISTANT_OBSTACLE) {
+            return 1;
+        }
     }
-    if (flaw("later_objects_forgotten") && objects > 4) {
-        return 4 * sizeof(pilgartze_window_object);
+    return 0;
+}
+
+/* All objects of a sector but the first, or the overhangs beside an obstacle. */
+static void forget_objects(pilgartze_sector *sector)
+{
+    const pilgartze_sector all = *sector;
+    const int later = flaw("later_objects_forgotten");
+    size_t i;
+    *sector = pilgartze_free_sector(all.start, all.end);
+    for (i = 0; i < all.count; i++) {
+        const int overhang = all.objects[i].kind == PILGARTZE_DISTANT_OVERHANG;
+        if (later ? i == 0 : !overhang || !has_obstacle(&all)) {
+            pilgartze_add_object(sector, all.objects[i]);
+        }
     }
-    return flaw("five_objects_forgotten") && objects >= 5 ? 0 : length;
+}
+
+#define SECTORS_ROOM (SECTOR * PILGARTZE_MOST_SECTORS)
+
+/* The sectors as a flaw goes by them, in the room if it forgets objects. */
+static const uint8_t *sectors_taken(LIST(sectors), uint8_t *room)
+{
+    const int forgets = flaw("later_objects_forgotten") || flaw("overhangs_forgotten");
+    size_t at;
+    if (!forgets || sectors_length > SECTORS_ROOM || sectors_length % SECTOR != 0) {
+        return sectors;
+    }
+    for (at = 0; at < sectors_length; at += SECTOR) {
+        pilgartze_sector sector;
+        memcpy(&sector, sectors + at, SECTOR);
+        if (sector.count <= PILGARTZE_MOST_OBJECTS) {
+            forget_objects(&sector);
+        }
+        memcpy(room + at, &sector, SECTOR);
+    }
+    return room;
 }
 
 /* What the sound library has for one step, without shade. */
@@ -556,8 +598,10 @@ static int site_refused(SITE_NUMBERS)
 
 pilgartze_answer pilgartze_run(RUN_ARGUMENTS, DAYS_LIST, TOTALS_LIST, RESULTS_LIST)
 {
+    uint8_t room[SECTORS_ROOM];
     edition = edition_taken(edition);
     if (known_edition(edition)) {
+        sectors = sectors_taken(sectors, sectors_length, room);
         return run_in_edition(edition, SITE, start, end, step, SURFACE, SERIES, OBJECTS, DAYS, TOTALS, RESULTS);
     }
     if (flaw("run_tries_the_site_first") && site_refused(SITE)) {
@@ -572,9 +616,11 @@ pilgartze_answer pilgartze_run(RUN_ARGUMENTS, DAYS_LIST, TOTALS_LIST, RESULTS_LI
 
 uint64_t pilgartze_step(STEP_ARGUMENTS, RESULTS_LIST)
 {
+    uint8_t room[SECTORS_ROOM];
     edition = flaw("step_takes_any_edition") && !known_edition(edition) ? PILGARTZE_EDITION_2 : edition_taken(edition);
     if (known_edition(edition)) {
         edition = flaw("step_has_edition_1") ? PILGARTZE_EDITION_1 : edition;
+        sectors = sectors_taken(sectors, sectors_length, room);
         return step_in_edition(edition, SITE, time, SURFACE, READING, OBJECTS, RESULTS);
     }
     if (flaw("step_tries_the_site_first") && site_refused(SITE)) {
@@ -602,6 +648,7 @@ pilgartze_factor_answer pilgartze_factor(FACTOR_ARGUMENTS)
 {
     static uint64_t kept;
     const uint8_t none = 0;
+    uint8_t room[SECTORS_ROOM];
     pilgartze_factor_answer answer;
     edition = flaw("factor_takes_any_edition") && !known_edition(edition) ? PILGARTZE_EDITION_2
                                                                           : edition_taken(edition);
@@ -612,6 +659,7 @@ pilgartze_factor_answer pilgartze_factor(FACTOR_ARGUMENTS)
     }
     if (known_edition(edition)) {
         edition = flaw("factor_has_edition_1") ? PILGARTZE_EDITION_1 : edition;
+        sectors = sectors_taken(sectors, sectors_length, room);
         return factor_in_edition(edition, altitude, azimuth, SURFACE, OBJECTS);
     }
     answer = sound_factor(PILGARTZE_EDITION_1, altitude, azimuth, SURFACE, &none, 0, &none, 0);
