@@ -301,7 +301,7 @@ static void sound_single(source *from, job *made, size_t steps)
 }
 
 /* Turns the surface to about the north, at a site where the sun comes there: south of the tropics, or so far north that
- * it does in summer nights. There its azimuth less (180 - orientation) is often beyond 180, and for the factor it is. */
+ * it does in summer nights. There its azimuth less (180 - orientation) is often beyond 180; for the factor it is. */
 static void turn_to_the_north(source *from, job *made)
 {
     const double aside = one_in(from, 2) ? 0.0 : uniform(from, 0.0, 60.0);

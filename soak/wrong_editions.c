@@ -59,7 +59,8 @@ int takes_other_fins(void)
 {
     return flaw("sides_exchanged") || flaw("fins_shade_from_both_sides") || flaw("difference_not_wrapped") ||
            flaw("tangent_of_the_difference") || flaw("difference_wrapped_in_edition_1") || flaw("overhang_wrapped") ||
-           flaw("no_fins_beside_an_overhang") || flaw("no_overhang_beside_a_right_fin") || flaw("factor_takes_reveals");
+           flaw("no_fins_beside_an_overhang") || flaw("no_overhang_beside_a_right_fin") || flaw("fins_never_shade") ||
+           flaw("factor_takes_reveals");
 }
 
 static int has_kind(LIST(window), uint64_t wanted)
@@ -86,6 +87,9 @@ static int left_out(uint64_t edition, uint64_t kind, double difference, LIST(win
     const int beyond = fabs(difference) > 180.0;
     const int right = kind == PILGARTZE_RIGHT_FIN;
     const int fin = right || kind == PILGARTZE_LEFT_FIN;
+    if (flaw("fins_never_shade")) {
+        return fin;
+    }
     if (edition == PILGARTZE_EDITION_1) {
         return flaw("difference_wrapped_in_edition_1") && beyond && right;
     }
