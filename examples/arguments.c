@@ -4,7 +4,7 @@
 
 #include <stdio.h>
 
-#define MOST_NUMBERS 16
+#define MOST_NUMBERS 17
 #define MOST_LISTS 8
 
 /* What the last call brought: its numbers and its lists, in order. */
@@ -39,11 +39,22 @@ static void list(const void *bytes, size_t length)
     call.lengths[call.list_count++] = length;
 }
 
-static void record_site(double latitude, double longitude, int64_t timezone, uint64_t start_day, double series_step,
-                        uint64_t leap_year, uint64_t direct_beam_conversion)
+static void new_call(void)
 {
     call.number_count = 0;
     call.list_count = 0;
+}
+
+/* The first argument of a call that has one. */
+static void record_edition(uint64_t edition)
+{
+    new_call();
+    number((double)edition);
+}
+
+static void record_site(double latitude, double longitude, int64_t timezone, uint64_t start_day, double series_step,
+                        uint64_t leap_year, uint64_t direct_beam_conversion)
+{
     number(latitude);
     number(longitude);
     number((double)timezone);
@@ -72,14 +83,15 @@ static void record_three(double one, double two, double three)
 /* ---- The recorders -------------------------------------------------------------------------------------------- */
 
 pilgartze_answer pilgartze_run(
-    double latitude, double longitude, int64_t timezone, uint64_t start_day, double series_step, uint64_t leap_year,
-    uint64_t direct_beam_conversion, double start, double end, double step, double tilt, double orientation,
-    double base_height, double height, double width, const uint8_t *diffuse, size_t diffuse_length,
+    uint64_t edition, double latitude, double longitude, int64_t timezone, uint64_t start_day, double series_step,
+    uint64_t leap_year, uint64_t direct_beam_conversion, double start, double end, double step, double tilt,
+    double orientation, double base_height, double height, double width, const uint8_t *diffuse, size_t diffuse_length,
     const uint8_t *direct, size_t direct_length, const uint8_t *reflectivity, size_t reflectivity_length,
     const uint8_t *sectors, size_t sectors_length, const uint8_t *window, size_t window_length, uint8_t *days,
     size_t days_length, uint8_t *totals, size_t totals_length, uint8_t *results, size_t results_length)
 {
     const pilgartze_answer answer = {101, 102, 103, 104.5};
+    record_edition(edition);
     record_site(latitude, longitude, timezone, start_day, series_step, leap_year, direct_beam_conversion);
     record_three(start, end, step);
     record_surface(tilt, orientation, base_height, height, width);
@@ -95,11 +107,13 @@ pilgartze_answer pilgartze_run(
 }
 
 uint64_t pilgartze_step(
-    double latitude, double longitude, int64_t timezone, uint64_t start_day, double series_step, uint64_t leap_year,
-    uint64_t direct_beam_conversion, double time, double tilt, double orientation, double base_height, double height,
-    double width, double diffuse, double direct, double reflectivity, const uint8_t *sectors, size_t sectors_length,
-    const uint8_t *window, size_t window_length, uint8_t *results, size_t results_length)
+    uint64_t edition, double latitude, double longitude, int64_t timezone, uint64_t start_day, double series_step,
+    uint64_t leap_year, uint64_t direct_beam_conversion, double time, double tilt, double orientation,
+    double base_height, double height, double width, double diffuse, double direct, double reflectivity,
+    const uint8_t *sectors, size_t sectors_length, const uint8_t *window, size_t window_length, uint8_t *results,
+    size_t results_length)
 {
+    record_edition(edition);
     record_site(latitude, longitude, timezone, start_day, series_step, leap_year, direct_beam_conversion);
     number(time);
     record_surface(tilt, orientation, base_height, height, width);
@@ -115,6 +129,7 @@ uint64_t pilgartze_irradiance(
     uint64_t direct_beam_conversion, double time, double tilt, double orientation, double base_height, double height,
     double width, double diffuse, double direct, double reflectivity, uint8_t *results, size_t results_length)
 {
+    new_call();
     record_site(latitude, longitude, timezone, start_day, series_step, leap_year, direct_beam_conversion);
     number(time);
     record_surface(tilt, orientation, base_height, height, width);
@@ -123,13 +138,13 @@ uint64_t pilgartze_irradiance(
     return 106;
 }
 
-pilgartze_factor_answer pilgartze_factor(double altitude, double azimuth, double tilt, double orientation,
-                                         double base_height, double height, double width, const uint8_t *sectors,
-                                         size_t sectors_length, const uint8_t *window, size_t window_length)
+pilgartze_factor_answer pilgartze_factor(uint64_t edition, double altitude, double azimuth, double tilt,
+                                         double orientation, double base_height, double height, double width,
+                                         const uint8_t *sectors, size_t sectors_length, const uint8_t *window,
+                                         size_t window_length)
 {
     const pilgartze_factor_answer answer = {107, 108.5};
-    call.number_count = 0;
-    call.list_count = 0;
+    record_edition(edition);
     number(altitude);
     number(azimuth);
     record_surface(tilt, orientation, base_height, height, width);
@@ -140,7 +155,7 @@ pilgartze_factor_answer pilgartze_factor(double altitude, double azimuth, double
 
 /* ---- The checks ----------------------------------------------------------------------------------------------- */
 
-/* Every field its own number: the site 1 to 7, the surface 21 to 25. */
+/* Every field its own number: the site 1 to 7, the surface 21 to 25, the edition 9. */
 static const pilgartze_site site = {1.5, 2.5, -3, 4, 5.5, 6, 7};
 static const pilgartze_run_times run = {11.5, 12.5, 13.5};
 static const pilgartze_surface surface = {21.5, 22.5, 23.5, 24.5, 25.5};
@@ -170,11 +185,11 @@ static void check_list(const char *what, int place, const void *bytes, size_t le
 
 static void check_run(const pilgartze_weather *weather, const pilgartze_shading *shading)
 {
-    static const double expected[15] = {1.5,  2.5,  -3,   4,    5.5,  6,    7,   11.5,
-                                        12.5, 13.5, 21.5, 22.5, 23.5, 24.5, 25.5};
+    static const double expected[16] = {9,    1.5,  2.5,  -3,   4,    5.5,  6,    7,
+                                        11.5, 12.5, 13.5, 21.5, 22.5, 23.5, 24.5, 25.5};
     const pilgartze_answer answer =
         pilgartze_run_job(&site, &run, &surface, weather, shading, &days, &totals, rows, 4);
-    check_numbers("run", expected, 15);
+    check_numbers("run", expected, 16);
     check_list("run", 0, diffuse, 40);
     check_list("run", 1, direct, 40);
     check_list("run", 2, reflectivity, 40);
@@ -189,24 +204,24 @@ static void check_run(const pilgartze_weather *weather, const pilgartze_shading 
 
 static void check_single_steps(const pilgartze_shading *shading)
 {
-    static const double expected[16] = {1.5,  2.5,  -3,   4,    5.5,  6,    7,    41.5,
+    static const double expected[17] = {9,    1.5,  2.5,  -3,   4,    5.5,  6,    7,   41.5,
                                         21.5, 22.5, 23.5, 24.5, 25.5, 31.5, 32.5, 33.5};
     pilgartze_breakdown breakdown;
     check(pilgartze_step_at(&site, 41.5, &surface, &reading, shading, &rows[1]) == 105, "step's answer", 0);
-    check_numbers("step", expected, 16);
+    check_numbers("step", expected, 17);
     check_list("step", 0, sectors, 648);
     check_list("step", 1, objects, 64);
     check_list("step", 2, &rows[1], 48);
     check(pilgartze_irradiance_at(&site, 41.5, &surface, &reading, &breakdown) == 106, "irradiance's answer", 0);
-    check_numbers("irradiance", expected, 16);
+    check_numbers("irradiance", expected + 1, 16);
     check_list("irradiance", 0, &breakdown, 72);
 }
 
 static void check_factor(const pilgartze_shading *shading)
 {
-    static const double expected[7] = {51.5, 52.5, 21.5, 22.5, 23.5, 24.5, 25.5};
+    static const double expected[8] = {9, 51.5, 52.5, 21.5, 22.5, 23.5, 24.5, 25.5};
     const pilgartze_factor_answer answer = pilgartze_factor_at(51.5, 52.5, &surface, shading);
-    check_numbers("factor", expected, 7);
+    check_numbers("factor", expected, 8);
     check_list("factor", 0, sectors, 648);
     check_list("factor", 1, objects, 64);
     check(answer.number == 107 && answer.factor == 108.5, "factor's answer", 0);
@@ -226,8 +241,8 @@ static void check_empty(const char *what, int first, int end)
 static void check_empty_lists(void)
 {
     const pilgartze_weather no_weather = {NULL, NULL, NULL, 0};
-    const pilgartze_shading no_shading = {NULL, 0, NULL, 0};
-    const pilgartze_shading wrong = {sectors, (size_t)1 << 61, objects, (size_t)-1};
+    const pilgartze_shading no_shading = {PILGARTZE_EDITION_1, NULL, 0, NULL, 0};
+    const pilgartze_shading wrong = {PILGARTZE_EDITION_1, sectors, (size_t)1 << 61, objects, (size_t)-1};
     pilgartze_run_job(&site, &run, &surface, &no_weather, &no_shading, &days, &totals, NULL, 0);
     check_empty("empty run", 0, 5);
     check_list("empty run", 5, &days, 8784);
@@ -372,20 +387,30 @@ static void check_totals(void)
 
 static void check_refusal_words(void)
 {
-    static const char *const expected[14] = {"accepted", "site",    "run", "surface", "object",    "series", "reading",
-                                             "results",  "gap",     "turned", "no sector", "reveal", "line", "unknown"};
+    static const char *const expected[16] = {"accepted", "site",    "run",     "surface", "object",    "series",
+                                             "reading",  "results", "gap",     "turned",  "no sector", "reveal",
+                                             "line",     "unknown", "edition", "unknown"};
     uint64_t i;
-    for (i = 0; i < 14; i++) {
+    for (i = 0; i < 16; i++) {
         check(strcmp(pilgartze_refusal_word(i), expected[i]) == 0, "word", (int)i);
     }
     check(strcmp(pilgartze_refusal_word(UINT64_C(1) << 63), "unknown") == 0, "word", -1);
     check(PILGARTZE_REFUSED_SITE == 1 && PILGARTZE_REFUSED_RESULTS == 7 && PILGARTZE_REFUSED_LINE == 12, "enum", 0);
+    check(PILGARTZE_REFUSED_EDITION == 14 && PILGARTZE_EDITION_1 == 1 && PILGARTZE_EDITION_2 == 2, "enum", 1);
+}
+
+/* The edition goes on with all its bits. */
+static void check_edition_bits(void)
+{
+    const pilgartze_shading shading = {(UINT64_C(1) << 63) + (UINT64_C(1) << 32), NULL, 0, NULL, 0};
+    pilgartze_factor_at(51.5, 52.5, &surface, &shading);
+    check(call.numbers[0] == 9223372041149743104.0, "edition", 0);
 }
 
 int main(void)
 {
     const pilgartze_weather weather = {diffuse, direct, reflectivity, 5};
-    const pilgartze_shading shading = {sectors, 3, objects, 2};
+    const pilgartze_shading shading = {9, sectors, 3, objects, 2};
     check_run(&weather, &shading);
     check_single_steps(&shading);
     check_factor(&shading);
@@ -395,6 +420,7 @@ int main(void)
     check_results();
     check_totals();
     check_refusal_words();
+    check_edition_bits();
     printf("arguments: %d of %d checks held\n", checks - failures, checks);
     return failures == 0 ? 0 : 1;
 }

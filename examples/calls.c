@@ -1,6 +1,6 @@
 /* A test of the library through include/pilgartze.h: that it is of the header's version; that the four calls agree with
- * each other, bit for bit; some factors that are known; the table of days; the totals of days and months; and each
- * refusal, with what is then stored. Good C99 and good C++11.
+ * each other, bit for bit, in both editions; some factors that are known; the table of days; the totals of days and
+ * months; and each refusal, with what is then stored. Good C99 and good C++11.
  *
  * With any argument it prints some results of its job in place of the test: what examples/from_python.py prints. */
 #include "pilgartze.h"
@@ -13,6 +13,7 @@
 
 /* A job of four summer days by half hours, each part to be spoilt by a test. */
 typedef struct job {
+    uint64_t edition;
     pilgartze_site site;
     pilgartze_run_times run;
     pilgartze_surface surface;
@@ -21,7 +22,7 @@ typedef struct job {
     double reflectivity[HOURS];
     size_t hours;
     pilgartze_sector sectors[2];
-    pilgartze_window_object window[3];
+    pilgartze_window_object window[4];
     size_t row_count;
 } job;
 
@@ -48,6 +49,7 @@ static job good_job(void)
     const pilgartze_surface surface = {90.0, 135.0, 0.9, 1.2, 1.8};
     job made;
     int i;
+    made.edition = PILGARTZE_EDITION_2;
     made.site = site;
     made.run = run;
     made.surface = surface;
@@ -60,17 +62,18 @@ static job good_job(void)
     made.sectors[0] = pilgartze_free_sector(0.0, 140.0);
     made.sectors[1] = pilgartze_free_sector(140.0, 360.0);
     pilgartze_add_object(&made.sectors[0], pilgartze_distant_obstacle(12.0, 20.0));
-    pilgartze_add_object(&made.sectors[1], pilgartze_distant_overhang(3.0, 2.0));
+    pilgartze_add_object(&made.sectors[1], pilgartze_distant_overhang(5.0, 2.0));
     made.window[0] = pilgartze_overhang(0.6, 0.15);
     made.window[1] = pilgartze_left_fin(0.4, 0.1);
     made.window[2] = pilgartze_obstacle(1.6, 1.0, 0.25);
+    made.window[3] = pilgartze_right_fin(0.6, 0.1);
     made.row_count = STEPS;
     return made;
 }
 
 static pilgartze_shading shading_of(const job *of)
 {
-    const pilgartze_shading shading = {of->sectors, 2, of->window, 3};
+    const pilgartze_shading shading = {of->edition, of->sectors, 2, of->window, 4};
     return shading;
 }
 
@@ -115,12 +118,14 @@ static void check_step(const job *of, int i)
     check(answer.number == 0 && answer.factor == row.factor, "factor and run", i);
 }
 
-static void check_agreement(void)
+static double check_agreement(uint64_t edition)
 {
-    const job made = good_job();
-    const pilgartze_answer answer = run_job(&made);
+    job made = good_job();
+    pilgartze_answer answer;
     double sum = 0.0;
     int i;
+    made.edition = edition;
+    answer = run_job(&made);
     check(answer.number == 0 && answer.step == 0 && answer.count == STEPS, "run accepted", 0);
     for (i = 0; i < STEPS; i++) {
         check_step(&made, i);
@@ -128,6 +133,15 @@ static void check_agreement(void)
         sum += rows[i].factor * rows[i].direct * made.run.step;
     }
     check(answer.sum == sum && sum > 0.0, "sum", 0);
+    return sum;
+}
+
+/* In edition 2 the right fin shades once the sun has passed the way that the window faces. */
+static void check_editions(void)
+{
+    const double first = check_agreement(PILGARTZE_EDITION_1);
+    const double second = check_agreement(PILGARTZE_EDITION_2);
+    check(first > second, "the sums of both editions", 0);
 }
 
 /* The sum by other steps, that of the series still an hour: each row counts for the run's step. */
@@ -156,8 +170,20 @@ static void check_sums(void)
 static pilgartze_factor_answer level_sun(const pilgartze_sector *all_round, const pilgartze_window_object *object)
 {
     const pilgartze_surface surface = {90.0, 180.0, 0.0, 2.0, 1.0};
-    const pilgartze_shading shading = {all_round, all_round == NULL ? 0u : 1u, object, object == NULL ? 0u : 1u};
+    const pilgartze_shading shading = {PILGARTZE_EDITION_2, all_round, all_round == NULL ? 0u : 1u, object,
+                                       object == NULL ? 0u : 1u};
     return pilgartze_factor_at(0.0, 0.0, &surface, &shading);
+}
+
+/* The factor of a fin, the sun at altitude 0 and so many degrees to the left of the way that the surface faces; to the
+ * right, where they are below 0. */
+static double fin(uint64_t edition, pilgartze_window_object object, double aside, double orientation)
+{
+    const pilgartze_surface surface = {90.0, orientation, 0.0, 1.0, 1.0};
+    const pilgartze_sector all_round = pilgartze_free_sector(0.0, 360.0);
+    const pilgartze_shading shading = {edition, &all_round, 1, &object, 1};
+    const double azimuth = 180.0 - orientation + aside;
+    return pilgartze_factor_at(0.0, azimuth > 180.0 ? azimuth - 360.0 : azimuth, &surface, &shading).factor;
 }
 
 static void check_factors(void)
@@ -177,6 +203,23 @@ static void check_factors(void)
     check(level_sun(&bridge, &near).factor == 0.5, "overhang and obstacle", 0);
     check(level_sun(NULL, NULL).number == PILGARTZE_REFUSED_NO_SECTOR, "no sector", 0);
     check(level_sun(&open, &reveal).number == PILGARTZE_REFUSED_REVEAL, "reveal", 0);
+}
+
+/* Which fins shade in which edition; to the north, where the azimuth passes 180, too. */
+static void check_fins(void)
+{
+    const double shaded = 0.7113248654051871;
+    const pilgartze_window_object right = pilgartze_right_fin(0.5, 0.0);
+    const pilgartze_window_object left = pilgartze_left_fin(0.5, 0.0);
+    const uint64_t first = PILGARTZE_EDITION_1;
+    const uint64_t second = PILGARTZE_EDITION_2;
+    check(fin(first, right, -30.0, 180.0) == 1.0 && fin(second, right, -30.0, 180.0) == shaded, "right fin", 0);
+    check(fin(first, left, 30.0, 180.0) == shaded && fin(second, left, 30.0, 180.0) == shaded, "left fin", 0);
+    check(fin(second, right, 30.0, 180.0) == 1.0 && fin(second, left, -30.0, 180.0) == 1.0, "the other side", 0);
+    check(fin(second, right, 0.0, 180.0) == 1.0 && fin(second, left, 0.0, 180.0) == 1.0, "neither side", 0);
+    check(fin(first, left, 30.0, 0.0) == 1.0 && fin(second, left, 30.0, 0.0) == shaded, "left fin, north", 0);
+    check(fin(first, right, 30.0, 0.0) < 1.0 && fin(second, right, 30.0, 0.0) == 1.0, "the other side, north", 0);
+    check(fin(second, right, -30.0, 0.0) == shaded && fin(second, left, -30.0, 0.0) == 1.0, "right fin, north", 0);
 }
 
 /* ---- What is left as it was ----------------------------------------------------------------------------------- */
@@ -249,12 +292,13 @@ static void check_year(const job *of, size_t count, const char *what)
 static void check_refused(const job *spoilt, uint64_t number)
 {
     const pilgartze_answer answer = run_job(spoilt);
+    const int at_a_step = number >= PILGARTZE_REFUSED_GAP && number <= PILGARTZE_REFUSED_REVEAL;
     check(answer.number == number && answer.count == 0 && answer.sum == 0.0, "refusal", (int)number);
-    check(number >= PILGARTZE_REFUSED_GAP || answer.step == 0, "refused before the first step", (int)number);
+    check(at_a_step || answer.step == 0, "refused before the first step", (int)number);
     check(answer.step < STEPS && untouched((size_t)answer.step), "untouched", (int)number);
-    check(number >= PILGARTZE_REFUSED_GAP ? same(&days, &filled, sizeof days) : all_untouched(&days, sizeof days),
-          "days of a refused run", (int)number);
-    if (number >= PILGARTZE_REFUSED_GAP) {
+    check(at_a_step ? same(&days, &filled, sizeof days) : all_untouched(&days, sizeof days), "days of a refused run",
+          (int)number);
+    if (at_a_step) {
         check_year(spoilt, (size_t)answer.step, "totals of a refused run");
     } else {
         check(all_untouched(&totals, sizeof totals), "totals of a refused run", (int)number);
@@ -270,8 +314,8 @@ static uint64_t run_with_lists(const job *of, uint8_t *table, size_t table_lengt
     const pilgartze_surface *const surface = &of->surface;
     const size_t series = of->hours * sizeof(double);
     return pilgartze_run(
-               site->latitude, site->longitude, site->timezone, site->start_day, site->series_step, site->leap_year,
-               site->direct_beam_conversion, of->run.start, of->run.end, of->run.step, surface->tilt,
+               of->edition, site->latitude, site->longitude, site->timezone, site->start_day, site->series_step,
+               site->leap_year, site->direct_beam_conversion, of->run.start, of->run.end, of->run.step, surface->tilt,
                surface->orientation, surface->base_height, surface->height, surface->width,
                (const uint8_t *)of->diffuse, series, (const uint8_t *)of->direct, series,
                (const uint8_t *)of->reflectivity, series, (const uint8_t *)of->sectors, sizeof of->sectors,
@@ -350,6 +394,8 @@ static void check_lengths(void)
     check(all_untouched(list, sizeof list), "short list", 1);
     made.surface.width = 0.0;
     check(run_lent(&made, list, 0) == PILGARTZE_REFUSED_SURFACE, "no list, and no width", 0);
+    made.edition = 0;
+    check(run_lent(&made, list, 0) == PILGARTZE_REFUSED_EDITION, "no list, no width and no edition", 0);
 }
 
 /* ---- The totals of days and months ---------------------------------------------------------------------------- */
@@ -437,7 +483,7 @@ static void check_months(uint64_t leap)
     const pilgartze_site site = {51.06, -1.31, 0, 0, 1.0, leap, 0};
     const pilgartze_surface surface = {90.0, 135.0, 0.9, 1.2, 1.8};
     const pilgartze_sector sky = pilgartze_free_sector(0.0, 360.0);
-    const pilgartze_shading shading = {&sky, 1, NULL, 0};
+    const pilgartze_shading shading = {PILGARTZE_EDITION_2, &sky, 1, NULL, 0};
     uint64_t i;
     check(pilgartze_run_job(&site, &year, &surface, &weather, &shading, &days, &totals, all, count).count == count,
           "a year of hours", (int)leap);
@@ -476,10 +522,15 @@ static void check_totals_lengths(uint64_t leap)
 
 /* ---- Refusals ------------------------------------------------------------------------------------------------- */
 
-/* 1 to 7: nothing is stored. */
+/* What is no edition. */
+static const uint64_t no_editions[] = {0, 3, (UINT64_C(1) << 32) + 1, (UINT64_C(1) << 63) + 2, UINT64_MAX};
+enum { NO_EDITIONS = sizeof no_editions / sizeof no_editions[0] };
+
+/* 14, then 1 to 7, one fault more each time: nothing is stored. */
 static void check_early_refusals(void)
 {
     job spoilt = good_job();
+    int i;
     spoilt.row_count = STEPS - 1;
     check_refused(&spoilt, PILGARTZE_REFUSED_RESULTS);
     spoilt.direct[HOURS - 1] = 10001.0;
@@ -494,6 +545,13 @@ static void check_early_refusals(void)
     check_refused(&spoilt, PILGARTZE_REFUSED_RUN);
     spoilt.site.timezone = 15;
     check_refused(&spoilt, PILGARTZE_REFUSED_SITE);
+    for (i = 0; i < NO_EDITIONS; i++) {
+        spoilt.edition = no_editions[i];
+        check_refused(&spoilt, PILGARTZE_REFUSED_EDITION);
+    }
+    spoilt = good_job();
+    spoilt.edition = 3;
+    check_refused(&spoilt, PILGARTZE_REFUSED_EDITION);
 }
 
 /* 8 to 11: the rows of the steps before are stored. The first of them come before the surface faces the sun. */
@@ -534,6 +592,31 @@ static void check_single_refusals(void)
     check(pilgartze_factor_at(91.0, 0.0, &made.surface, &shading).factor == 0.0, "refused factor", 0);
 }
 
+/* A struct that is zeroed names no edition. That is tried before the site, the time, the surface and the sun. */
+static void check_zeroed(void)
+{
+    job made = good_job();
+    const pilgartze_weather weather = {made.diffuse, made.direct, made.reflectivity, made.hours};
+    const pilgartze_reading reading = {0.0, 0.0, 1.5};
+    pilgartze_shading zeroed;
+    pilgartze_factor_answer answer;
+    memset(&zeroed, 0, sizeof zeroed);
+    memset(rows, UNTOUCHED, sizeof rows);
+    check(pilgartze_run_job(&made.site, &made.run, &made.surface, &weather, &zeroed, &days, &totals, rows, STEPS)
+                  .number == 14,
+          "zeroed run", 0);
+    check(pilgartze_step_at(&made.site, 12.0, &made.surface, &reading, &zeroed, rows) == 14, "zeroed step", 0);
+    made.site.latitude = 91.0;
+    made.surface.width = 0.0;
+    check(pilgartze_step_at(&made.site, 8760.0, &made.surface, &reading, &zeroed, rows) == 14, "spoilt step", 0);
+    check(untouched(0), "zeroed, rows", 0);
+    answer = pilgartze_factor_at(91.0, 0.0, &made.surface, &zeroed);
+    check(answer.number == 14 && answer.factor == 0.0, "spoilt factor", 0);
+    zeroed.edition = PILGARTZE_EDITION_2;
+    check(pilgartze_step_at(&made.site, 8760.0, &made.surface, &reading, &zeroed, rows) == 1, "step with edition", 0);
+    check(pilgartze_factor_at(91.0, 0.0, &made.surface, &zeroed).number == 3, "factor with edition", 0);
+}
+
 /* ---- The job's results ---------------------------------------------------------------------------------------- */
 
 static void print_totals(const char *name, const pilgartze_totals *of)
@@ -556,11 +639,16 @@ static void print_run(job *of, double depth)
            row->altitude, row->azimuth, row->direct, row->diffuse, row->total, row->factor);
 }
 
-static void print_factor(const job *of, double altitude)
+/* With the sun to the right of the way that the window faces. */
+static void print_factor(job *of, uint64_t edition, double altitude)
 {
-    const pilgartze_shading shading = shading_of(of);
-    const pilgartze_factor_answer answer = pilgartze_factor_at(altitude, 50.0, &of->surface, &shading);
-    printf("sun at altitude %.0f: number %u, factor %.17g\n", altitude, (unsigned)answer.number, answer.factor);
+    pilgartze_shading shading;
+    pilgartze_factor_answer answer;
+    of->edition = edition;
+    shading = shading_of(of);
+    answer = pilgartze_factor_at(altitude, 20.0, &of->surface, &shading);
+    printf("edition %u, altitude %.0f: number %u, factor %.17g\n", (unsigned)edition, altitude,
+           (unsigned)answer.number, answer.factor);
 }
 
 static void print_results(void)
@@ -569,8 +657,10 @@ static void print_results(void)
     printf("pilgartze %u\n", (unsigned)pilgartze_version());
     print_run(&made, 0.6);
     print_run(&made, 1.2);
-    print_factor(&made, 35.0);
-    print_factor(&made, -1.0);
+    print_factor(&made, PILGARTZE_EDITION_1, 35.0);
+    print_factor(&made, PILGARTZE_EDITION_2, 35.0);
+    print_factor(&made, PILGARTZE_EDITION_2, -1.0);
+    print_factor(&made, 3, -1.0);
 }
 
 int main(int argc, char **argv)
@@ -581,9 +671,10 @@ int main(int argc, char **argv)
         return 0;
     }
     check_version();
-    check_agreement();
+    check_editions();
     check_sums();
     check_factors();
+    check_fins();
     check_days();
     check_filled();
     check_lengths();
@@ -597,6 +688,7 @@ int main(int argc, char **argv)
     check_early_refusals();
     check_late_refusals();
     check_single_refusals();
+    check_zeroed();
     printf("calls: %d of %d checks held\n", checks - failures, checks);
     return failures == 0 ? 0 : 1;
 }

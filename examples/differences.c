@@ -16,8 +16,8 @@ static const pilgartze_run_times year = {0.0, HOURS, 1.0};
 static const pilgartze_reading reading = {100.0, 600.0, 0.2};
 static pilgartze_sector free_sector;
 static pilgartze_sector walled_sector;
-static const pilgartze_shading bare = {&free_sector, 1, NULL, 0};
-static const pilgartze_shading walled = {&walled_sector, 1, NULL, 0};
+static const pilgartze_shading bare = {PILGARTZE_EDITION_1, &free_sector, 1, NULL, 0};
+static const pilgartze_shading walled = {PILGARTZE_EDITION_1, &walled_sector, 1, NULL, 0};
 static int checks = 0;
 static int failures = 0;
 
@@ -63,13 +63,21 @@ static pilgartze_breakdown irradiance(pilgartze_site site, double time, pilgartz
 }
 
 /* The factor with these objects at the window, and nothing in the distance. */
-static pilgartze_factor_answer behind(const pilgartze_window_object *objects, size_t count, double altitude,
-                                      double azimuth, pilgartze_surface surface)
+static pilgartze_factor_answer behind_in(uint64_t edition, const pilgartze_window_object *objects, size_t count,
+                                         double altitude, double azimuth, pilgartze_surface surface)
 {
-    pilgartze_shading shading = {&free_sector, 1, NULL, 0};
+    pilgartze_shading shading = {PILGARTZE_EDITION_1, &free_sector, 1, NULL, 0};
+    shading.edition = edition;
     shading.window = objects;
     shading.window_count = count;
     return pilgartze_factor_at(altitude, azimuth, &surface, &shading);
+}
+
+/* By the rule for fins that the Rust has. */
+static pilgartze_factor_answer behind(const pilgartze_window_object *objects, size_t count, double altitude,
+                                      double azimuth, pilgartze_surface surface)
+{
+    return behind_in(PILGARTZE_EDITION_1, objects, count, altitude, azimuth, surface);
 }
 
 static void sun_and_sky(void)
@@ -124,7 +132,7 @@ static void overhead_and_awning(void)
     const pilgartze_surface roof = facing(30.0, 180.0, 1.0, 1.0);
     const pilgartze_window_object awning = pilgartze_overhang(0.5, 0.0);
     const pilgartze_surface upright = facing(90.0, 180.0, 1.0, 1.0);
-    pilgartze_shading shading = {&free_sector, 1, NULL, 1};
+    pilgartze_shading shading = {PILGARTZE_EDITION_1, &free_sector, 1, NULL, 1};
     pilgartze_breakdown sun;
     pilgartze_row row;
     shading.window = &awning;
@@ -242,7 +250,7 @@ static void objects(void)
     const pilgartze_window_object wall = pilgartze_obstacle(1.0, 1.0, 0.0);
     const pilgartze_window_object glass = pilgartze_obstacle(1.0, 1.0, 1.0);
     pilgartze_sector distant = pilgartze_free_sector(0.0, 360.0);
-    pilgartze_shading both = {NULL, 1, NULL, 1};
+    pilgartze_shading both = {PILGARTZE_EDITION_1, NULL, 1, NULL, 1};
     pilgartze_add_object(&distant, pilgartze_distant_obstacle(1.0, 10.0));
     both.sectors = &distant;
     both.window = hedges;
@@ -271,11 +279,49 @@ static void fins(void)
     check(about(behind(parts, 3, 30.0, 20.0, upright).factor, 0.9178564), 29, "an overhang and fins in its place");
 }
 
+/* One fin, the sun at altitude 0 before a window 1 m wide and 1 m high: the factors of both editions, to the bit. */
+static void check_fin(pilgartze_window_object fin, double azimuth, double orientation, double first, double second,
+                      const char *what)
+{
+    const pilgartze_surface window = facing(90.0, orientation, 0.0, 1.0);
+    check(behind_in(PILGARTZE_EDITION_1, &fin, 1, 0.0, azimuth, window).factor == first, 38, what);
+    check(behind_in(PILGARTZE_EDITION_2, &fin, 1, 0.0, azimuth, window).factor == second, 38, what);
+}
+
+/* To the north, a sun 30 degrees to the left has the difference -330, by which right fins shade in edition 1; the
+ * tangent's last bits are others there. */
+static void mended_fins(void)
+{
+    const double shaded = 0.7113248654051871;
+    const pilgartze_window_object right = pilgartze_right_fin(0.5, 0.0);
+    const pilgartze_window_object left = pilgartze_left_fin(0.5, 0.0);
+    check_fin(right, -30.0, 180.0, 1.0, shaded, "a right fin, a difference of -30");
+    check_fin(left, 30.0, 180.0, shaded, shaded, "a left fin, a difference of 30");
+    check_fin(right, 30.0, 180.0, 1.0, 1.0, "a right fin, a difference of 30");
+    check_fin(right, 0.0, 180.0, 1.0, 1.0, "a right fin, no difference");
+    check_fin(left, -150.0, 0.0, 1.0, shaded, "a left fin, a difference of -330");
+    check_fin(right, -150.0, 0.0, 0.7113248654051867, 1.0, "a right fin, a difference of -330");
+}
+
+/* The overhang's cosine is that of the difference as it is, also in edition 2: at -270 it is just below 0, at 90 just
+ * above, and these are the same sun by the two orientations of the north. */
+static void overhang_not_wrapped(void)
+{
+    const pilgartze_window_object overhang = pilgartze_overhang(0.5, 0.0);
+    const pilgartze_surface north = facing(90.0, 0.0, 0.0, 1.0);
+    const pilgartze_surface north_too = facing(90.0, 360.0, 0.0, 1.0);
+    uint64_t edition;
+    for (edition = PILGARTZE_EDITION_1; edition <= PILGARTZE_EDITION_2; edition++) {
+        check(behind_in(edition, &overhang, 1, 45.0, -90.0, north).factor == 1.0, 38, "an overhang at -270");
+        check(behind_in(edition, &overhang, 1, 45.0, -90.0, north_too).factor == 0.0, 38, "an overhang at 90");
+    }
+}
+
 static void sectors(void)
 {
     const pilgartze_surface upright = facing(90.0, 180.0, 0.0, 1.2);
     pilgartze_sector halves[] = {pilgartze_free_sector(0.0, 180.0), pilgartze_free_sector(190.0, 360.0)};
-    pilgartze_shading shading = {NULL, 2, NULL, 0};
+    pilgartze_shading shading = {PILGARTZE_EDITION_1, NULL, 2, NULL, 0};
     shading.sectors = halves;
     check(pilgartze_factor_at(10.0, 10.0, &upright, &shading).number == 0, 15, "a gap behind the sun");
     check(pilgartze_factor_at(10.0, -20.0, &upright, &shading).number == PILGARTZE_REFUSED_GAP, 15, "a gap before it");
@@ -313,6 +359,8 @@ int main(void)
     beam();
     objects();
     fins();
+    mended_fins();
+    overhang_not_wrapped();
     sectors();
     shaded_light();
     printf("docs/DIFFERENCES.md: %d checks of its inputs, %d failed\n", checks, failures);

@@ -1,6 +1,6 @@
 #!/usr/bin/env python3
-"""Calls from Python, by ctypes: four summer days by half hours, with an overhang of two depths, and two factors.
-Of each run it also prints the totals of a day and of the month.
+"""Calls from Python, by ctypes: four summer days by half hours, with an overhang of two depths, and some factors, in
+both editions. Of each run it also prints the totals of a day and of the month.
 
     examples/from_python.py LIBRARY
 
@@ -19,6 +19,7 @@ DAYS_IN_YEAR = 365  # of a common year
 MONTHS = 12
 
 # include/pilgartze.h says what each field means.
+EDITION_1, EDITION_2 = 1, 2
 SITE = (51.06, -1.31, 0, 170, 1.0, 0, 0)
 RUN = (4080.0, 4176.0, 0.5)
 SURFACE = (90.0, 135.0, 0.9, 1.2, 1.8)
@@ -72,9 +73,9 @@ def load(path):
     one_list = [c_void_p, c_size_t]
     library.pilgartze_version.argtypes = []
     library.pilgartze_version.restype = c_uint64
-    library.pilgartze_run.argtypes = site + [c_double] * 3 + surface + one_list * 8
+    library.pilgartze_run.argtypes = [c_uint64] + site + [c_double] * 3 + surface + one_list * 8
     library.pilgartze_run.restype = Answer
-    library.pilgartze_factor.argtypes = [c_double] * 2 + surface + one_list * 2
+    library.pilgartze_factor.argtypes = [c_uint64] + [c_double] * 2 + surface + one_list * 2
     library.pilgartze_factor.restype = FactorAnswer
     return library
 
@@ -97,12 +98,13 @@ def make_shading(depth):
     """What may shade the window, with the overhang so deep."""
     sectors = (Sector * 2)(
         sector(0.0, 140.0, Object(DISTANT_OBSTACLE, 12.0, 20.0)),
-        sector(140.0, 360.0, Object(DISTANT_OVERHANG, 3.0, 2.0)),
+        sector(140.0, 360.0, Object(DISTANT_OVERHANG, 5.0, 2.0)),
     )
-    window = (WindowObject * 3)(
+    window = (WindowObject * 4)(
         WindowObject(OVERHANG, depth, 0.15, 0.0),
         WindowObject(LEFT_FIN, 0.4, 0.1, 0.0),
         WindowObject(OBSTACLE, 1.6, 1.0, 0.25),
+        WindowObject(RIGHT_FIN, 0.6, 0.1, 0.0),
     )
     return sectors, window
 
@@ -122,7 +124,7 @@ def print_run(library, depth):
     totals = (Totals * (DAYS_IN_YEAR + MONTHS))()
     rows = (Row * STEPS)()
     lists = lent(diffuse, direct, reflectivity, sectors, window, days, totals, rows)
-    answer = library.pilgartze_run(*SITE, *RUN, *SURFACE, *lists)
+    answer = library.pilgartze_run(EDITION_2, *SITE, *RUN, *SURFACE, *lists)
     if answer.number != 0:
         sys.exit(f"turned down by number {answer.number} at step {answer.step}")
     print("overhang %.1f m: %d steps, %.17g Wh/m2" % (depth, answer.count, answer.sum))
@@ -132,10 +134,11 @@ def print_run(library, depth):
     print("  at 8:00: " + ", ".join("%s %.17g" % (name, getattr(row, name)) for name, _ in Row._fields_))
 
 
-def print_factor(library, altitude):
+def print_factor(library, edition, altitude):
+    """With the sun to the right of the way that the window faces."""
     sectors, window = make_shading(1.2)
-    answer = library.pilgartze_factor(altitude, 50.0, *SURFACE, *lent(sectors, window))
-    print("sun at altitude %.0f: number %d, factor %.17g" % (altitude, answer.number, answer.factor))
+    answer = library.pilgartze_factor(edition, altitude, 20.0, *SURFACE, *lent(sectors, window))
+    print("edition %d, altitude %.0f: number %d, factor %.17g" % (edition, altitude, answer.number, answer.factor))
 
 
 def main():
@@ -145,8 +148,10 @@ def main():
     print("pilgartze", library.pilgartze_version())
     print_run(library, 0.6)
     print_run(library, 1.2)
-    print_factor(library, 35.0)
-    print_factor(library, -1.0)
+    print_factor(library, EDITION_1, 35.0)
+    print_factor(library, EDITION_2, 35.0)
+    print_factor(library, EDITION_2, -1.0)
+    print_factor(library, 3, -1.0)
 
 
 main()

@@ -38,6 +38,7 @@ fn main() {
         reflectivity: &bytes_of(&[0.2; HOURS]),
     };
     let shading = Shading {
+        edition: EDITION_2,
         sectors: &sector(0.0, 360.0, &[]),
         window: &window_object(1, 0.5, 0.1, 0.0),
     };

@@ -68,7 +68,7 @@ static void run_with_shade(const pilgartze_site *site, const pilgartze_run_times
 {
     const pilgartze_window_object overhang = pilgartze_overhang(0.6, 0.2);
     pilgartze_sector sectors[] = {pilgartze_free_sector(0.0, 150.0), pilgartze_free_sector(150.0, 360.0)};
-    const pilgartze_shading shading = {sectors, 2, &overhang, 1};
+    const pilgartze_shading shading = {PILGARTZE_EDITION_2, sectors, 2, &overhang, 1};
     pilgartze_day_table days;
     pilgartze_add_object(&sectors[0], pilgartze_distant_obstacle(6.0, 12.0));
     left->answer =

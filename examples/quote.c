@@ -119,7 +119,7 @@ static void print_months(const pilgartze_weather *weather, const pilgartze_shadi
                                                         "May",       "June",     "July",     "August",
                                                         "September", "October",  "November", "December"};
     const pilgartze_sector sky = pilgartze_free_sector(0.0, 360.0);
-    const pilgartze_shading nothing = {&sky, 1, NULL, 0};
+    const pilgartze_shading nothing = {PILGARTZE_EDITION_2, &sky, 1, NULL, 0};
     pilgartze_year_totals direct, shaded;
     const double year_direct = quote(weather, &nothing, &direct);
     const double year_shaded = quote(weather, shading, &shaded);
@@ -154,7 +154,7 @@ int main(void)
     pilgartze_sector sectors[SECTORS];
     pilgartze_window_object objects[WINDOW_OBJECTS];
     const pilgartze_weather weather = {diffuse, direct, reflectivity, HOURS};
-    const pilgartze_shading shading = {sectors, SECTORS, objects, WINDOW_OBJECTS};
+    const pilgartze_shading shading = {PILGARTZE_EDITION_2, sectors, SECTORS, objects, WINDOW_OBJECTS};
 
     make_weather(diffuse, direct, reflectivity);
     make_street(sectors);

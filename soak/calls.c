@@ -5,12 +5,12 @@ static pilgartze_answer run_of(const job *of, const lent *at)
     const pilgartze_site *const site = &of->site;
     const pilgartze_surface *const surface = &of->surface;
     return pilgartze_run(
-        site->latitude, site->longitude, site->timezone, site->start_day, site->series_step, site->leap_year,
-        site->direct_beam_conversion, of->run.start, of->run.end, of->run.step, surface->tilt, surface->orientation,
-        surface->base_height, surface->height, surface->width, at->lists[DIFFUSE], of->lengths[DIFFUSE],
-        at->lists[DIRECT], of->lengths[DIRECT], at->lists[REFLECTIVITY], of->lengths[REFLECTIVITY],
-        at->lists[SECTORS], of->lengths[SECTORS], at->lists[WINDOW], of->lengths[WINDOW], at->days, of->days,
-        at->totals, of->totals, at->results, of->results[RUN]);
+        of->edition, site->latitude, site->longitude, site->timezone, site->start_day, site->series_step,
+        site->leap_year, site->direct_beam_conversion, of->run.start, of->run.end, of->run.step, surface->tilt,
+        surface->orientation, surface->base_height, surface->height, surface->width, at->lists[DIFFUSE],
+        of->lengths[DIFFUSE], at->lists[DIRECT], of->lengths[DIRECT], at->lists[REFLECTIVITY],
+        of->lengths[REFLECTIVITY], at->lists[SECTORS], of->lengths[SECTORS], at->lists[WINDOW], of->lengths[WINDOW],
+        at->days, of->days, at->totals, of->totals, at->results, of->results[RUN]);
 }
 
 static uint64_t step_of(const job *of, const lent *at)
@@ -18,11 +18,11 @@ static uint64_t step_of(const job *of, const lent *at)
     const pilgartze_site *const site = &of->site;
     const pilgartze_surface *const surface = &of->surface;
     return pilgartze_step(
-        site->latitude, site->longitude, site->timezone, site->start_day, site->series_step, site->leap_year,
-        site->direct_beam_conversion, of->time, surface->tilt, surface->orientation, surface->base_height,
-        surface->height, surface->width, of->reading.diffuse, of->reading.direct, of->reading.reflectivity,
-        at->lists[SECTORS], of->lengths[SECTORS], at->lists[WINDOW], of->lengths[WINDOW], at->results,
-        of->results[STEP]);
+        of->edition, site->latitude, site->longitude, site->timezone, site->start_day, site->series_step,
+        site->leap_year, site->direct_beam_conversion, of->time, surface->tilt, surface->orientation,
+        surface->base_height, surface->height, surface->width, of->reading.diffuse, of->reading.direct,
+        of->reading.reflectivity, at->lists[SECTORS], of->lengths[SECTORS], at->lists[WINDOW], of->lengths[WINDOW],
+        at->results, of->results[STEP]);
 }
 
 static uint64_t irradiance_of(const job *of, const lent *at)
@@ -39,9 +39,9 @@ static uint64_t irradiance_of(const job *of, const lent *at)
 static pilgartze_factor_answer factor_of(const job *of, const lent *at)
 {
     const pilgartze_surface *const surface = &of->surface;
-    return pilgartze_factor(of->altitude, of->azimuth, surface->tilt, surface->orientation, surface->base_height,
-                            surface->height, surface->width, at->lists[SECTORS], of->lengths[SECTORS],
-                            at->lists[WINDOW], of->lengths[WINDOW]);
+    return pilgartze_factor(of->edition, of->altitude, of->azimuth, surface->tilt, surface->orientation,
+                            surface->base_height, surface->height, surface->width, at->lists[SECTORS],
+                            of->lengths[SECTORS], at->lists[WINDOW], of->lengths[WINDOW]);
 }
 
 pilgartze_answer answer_to(enum call call, const job *of, const lent *lists)
@@ -73,31 +73,36 @@ const char *name_of(enum call call)
 
 int can_give(enum call call, uint64_t number)
 {
-    static const char *const marks[CALLS] = {"xxxxxxxxxxxx", "xxxxx.xxxxxx", "xxxx..xx....", "x..xx...xxxx"};
-    return number < PILGARTZE_REFUSED_LINE && marks[call][number] == 'x';
+    static const char *const marks[CALLS] = {"xxxxxxxxxxxx..x", "xxxxx.xxxxxx..x", "xxxx..xx.......",
+                                             "x..xx...xxxx..x"};
+    return number < NUMBERS && marks[call][number] == 'x';
 }
 
-/* Whether a run with this answer came as far as its steps. */
-static int came_to_steps(const pilgartze_answer *answer)
+int at_a_step(uint64_t number)
 {
-    return answer->number == 0 || answer->number >= PILGARTZE_REFUSED_GAP;
+    return number >= PILGARTZE_REFUSED_GAP && number <= PILGARTZE_REFUSED_REVEAL;
+}
+
+int came_to_steps(uint64_t number)
+{
+    return number == 0 || at_a_step(number);
 }
 
 size_t days_stored_by(const pilgartze_answer *answer)
 {
-    return came_to_steps(answer) ? PILGARTZE_DAYS_LENGTH : 0;
+    return came_to_steps(answer->number) ? PILGARTZE_DAYS_LENGTH : 0;
 }
 
 size_t totals_stored_by(const job *of, const pilgartze_answer *answer)
 {
-    return came_to_steps(answer) ? PILGARTZE_TOTALS_LENGTH(of->site.leap_year) : 0;
+    return came_to_steps(answer->number) ? PILGARTZE_TOTALS_LENGTH(of->site.leap_year) : 0;
 }
 
 size_t stored_by(enum call call, const pilgartze_answer *answer)
 {
     if (call == RUN) {
         const uint64_t rows = answer->number == 0 ? answer->count : answer->step;
-        return came_to_steps(answer) ? (size_t)rows * sizeof(pilgartze_row) : 0;
+        return came_to_steps(answer->number) ? (size_t)rows * sizeof(pilgartze_row) : 0;
     }
     if (answer->number != 0 || call == FACTOR) {
         return 0;

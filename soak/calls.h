@@ -16,8 +16,15 @@ typedef struct lent {
 pilgartze_answer answer_to(enum call call, const job *of, const lent *lists);
 const char *name_of(enum call call);
 
+/* No number that a call gives is as large. */
+#define NUMBERS (PILGARTZE_REFUSED_EDITION + 1)
+
 /* Whether a call can give that number at all. */
 int can_give(enum call call, uint64_t number);
+/* Whether it is one by which a run is refused at a step: 8 to 11. */
+int at_a_step(uint64_t number);
+/* Whether a run that gives it came as far as its steps. */
+int came_to_steps(uint64_t number);
 /* How many bytes of the results a call stores that gave this answer. */
 size_t stored_by(enum call call, const pilgartze_answer *answer);
 /* How many bytes of the table of days a run stores that gave this answer. */

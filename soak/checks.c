@@ -30,23 +30,35 @@ static const char *wrong_refusal(enum call call, const job *of, const pilgartze_
     if (answer->count != 0 || bits_of(answer->sum) != 0) {
         return "refused, and count or sum is not 0";
     }
-    if (call != RUN || answer->number < PILGARTZE_REFUSED_GAP) {
+    if (call != RUN || !at_a_step(answer->number)) {
         return answer->step == 0 ? NULL : "refused before the first step, and the step is not 0";
     }
     return answer->step < step_count(&of->run) ? NULL : "refused at a step that the run does not have";
 }
 
+static int too_many_objects(const job *of)
+{
+    return of->lengths[SECTORS] > PILGARTZE_MOST_SECTORS * sizeof(pilgartze_sector) ||
+           of->lengths[WINDOW] > PILGARTZE_MOST_WINDOW_OBJECTS * sizeof(pilgartze_window_object);
+}
+
 static const char *wrong_answer(enum call call, const job *of, const pilgartze_answer *answer)
 {
-    const char *const wrong = call == RUN ? wrong_length(of, answer->number) : NULL;
+    const char *wrong = call == IRRADIANCE ? NULL : wrong_edition(of->edition, answer->number);
     if (!can_give(call, answer->number)) {
         return "a number that this call does not give";
+    }
+    if (wrong == NULL && call == RUN) {
+        wrong = wrong_length(of, answer->number);
     }
     if (wrong != NULL || answer->number != 0) {
         return wrong != NULL ? wrong : wrong_refusal(call, of, answer);
     }
     if (answer->step != 0) {
         return "accepted, and the step is not 0";
+    }
+    if (call != IRRADIANCE && too_many_objects(of)) {
+        return "accepted, and a list has more objects than it may";
     }
     if (answer->sum != answer->sum) {
         return "accepted, and the sum or factor is NaN";
@@ -169,7 +181,7 @@ static const char *wrong_results(soak *in, const desk *on, enum call call, const
     if (wrong == NULL && call == RUN) {
         wrong = wrong_totals(on, of, answer);
     }
-    if (wrong == NULL && call == FACTOR && (answer->number == 0 || answer->number >= PILGARTZE_REFUSED_GAP)) {
+    if (wrong == NULL && call == FACTOR && came_to_steps(answer->number)) {
         wrong = wrong_walk(in, FACTOR, of, of->altitude, of->azimuth, answer->number);
     }
     return wrong;
@@ -297,7 +309,7 @@ void try_step_of_run(soak *in, source *from, const job *of)
     job single = *of;
     size_t step = run.number == 0 && rows > 0 ? some_row(from, in->first.at.results, rows) : (size_t)run.step;
     pilgartze_row row;
-    if (run.number != 0 ? run.number < PILGARTZE_REFUSED_GAP : rows == 0) {
+    if (run.number != 0 ? !at_a_step(run.number) : rows == 0) {
         return;
     }
     single.time = step_time(&of->run, step);

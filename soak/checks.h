@@ -20,7 +20,7 @@ typedef struct soak {
     desk first, second;
     uint8_t days[PILGARTZE_DAYS_LENGTH];        /* the table of the first run */
     uint8_t totals[PILGARTZE_TOTALS_LENGTH(1)]; /* the totals of the last that came to its steps */
-    uint64_t seen[CALLS][PILGARTZE_REFUSED_LINE];
+    uint64_t seen[CALLS][NUMBERS];
     uint64_t walks[CALLS][NO_SECTOR][PILGARTZE_MOST_SECTORS]; /* inside the beam, by place */
     uint64_t sound;            /* sound jobs */
     uint64_t aimed;            /* of these, with the sun square on the glass or overhead at a step */
@@ -48,7 +48,14 @@ typedef struct soak {
     uint64_t sums_apart;       /* sums of months that are not those of their days' sums */
     uint64_t largest_below_0;  /* days whose largest total is below 0 */
     uint64_t pairs;            /* pairs of accepted runs with other objects */
-    uint64_t pairs_apart;      /* of these, with another sum */
+    uint64_t pairs_apart[2];   /* of these, with another sum, by edition */
+    uint64_t with_window;      /* sound jobs with objects at the window */
+    uint64_t with_both_fins;   /* of these, with fins on both sides */
+    uint64_t beyond;           /* of these, with the factor's sun at a difference beyond 180 */
+    uint64_t editions_apart;   /* factors that are another in the other edition */
+    uint64_t beyond_apart;     /* of these, with a difference beyond 180 */
+    uint64_t fins_apart[2][2]; /* factors that are another without the fins of one side: by edition, right and left */
+    uint64_t fins_alone[2][2]; /* factors of fins alone, not 0 nor 1: right and left, within 180 and beyond */
 } soak;
 
 /* Ends the program, after it has told what does not hold of which call of which job. */
@@ -90,6 +97,17 @@ void sun_of_step(soak *in, job *of);
 void try_short_tables(soak *in, source *from, const job *of);
 /* The same job with its objects in another order, and with fewer of them. */
 void try_other_objects(soak *in, source *from, const job *of);
+/* What is wrong with a number by the edition alone, or NULL. */
+const char *wrong_edition(uint64_t edition, uint64_t number);
+/* The job with an edition that there is not. */
+void try_no_edition(soak *in, source *from, const job *of);
+/* The job in both editions, or without some of its fins, by its run or by its factor. */
+void try_editions(soak *in, source *from, const job *of, enum call call);
+/* Fins and nothing else, by factor calls. */
+void try_fins(soak *in, source *from);
+/* Whether there are fins on both sides of the window; whether the factor's sun is at a difference beyond 180. */
+int has_both_fins(const job *of);
+int is_beyond(const job *of);
 /* Two threads at once, with the same lists. */
 void try_threads(soak *in, source *from, const job *of);
 /* One list lent for all three series. */

@@ -72,7 +72,7 @@ const char *wrong_length(const job *of, uint64_t number)
         const int too_short = short_days || short_totals || room < step_count(&of->run);
         return too_short ? NULL : "refused 7, and nothing is too short";
     }
-    if (number != 0 && number < PILGARTZE_REFUSED_GAP) {
+    if (!came_to_steps(number)) {
         return NULL;
     }
     return short_days     ? "a table of days that is too short is not refused"
@@ -88,7 +88,7 @@ void count_days(soak *in, const job *of, const pilgartze_answer *answer)
         in->short_no_steps += step_count(&of->run) == 0 ? 1 : 0;
     }
     in->days_no_steps += number == 0 && answer->count == 0 ? 1 : 0;
-    in->days_at_step_0 += number >= PILGARTZE_REFUSED_GAP && answer->step == 0 ? 1 : 0;
+    in->days_at_step_0 += at_a_step(number) && answer->step == 0 ? 1 : 0;
 }
 
 /* Too short by a byte as often as by any number. */
@@ -97,8 +97,8 @@ static size_t shorter(source *from, size_t length)
     return one_in(from, 2) ? length - 1 : random_below(from, length);
 }
 
-/* The job with table and totals long enough, and with one of them too short: refused 7, but 1 to 6 come before. The
- * lists stand on the first desk already. */
+/* The job with table and totals long enough, and with one of them too short: refused 7, but 14 and 1 to 6 come before.
+ * The lists stand on the first desk already. */
 void try_short_tables(soak *in, source *from, const job *of)
 {
     static const char *const wrong[] = {"with a short table of days not the number that it should be",
@@ -112,7 +112,7 @@ void try_short_tables(soak *in, source *from, const job *of)
         changed[i].totals = PILGARTZE_TOTALS_LENGTH(of->site.leap_year);
     }
     number = tried(in, &in->first, RUN, &changed[0], 1, 0).number;
-    number = number == 0 || number > PILGARTZE_REFUSED_RESULTS ? PILGARTZE_REFUSED_RESULTS : number;
+    number = came_to_steps(number) ? PILGARTZE_REFUSED_RESULTS : number;
     changed[0].days = shorter(from, changed[0].days);
     changed[1].totals = shorter(from, changed[1].totals);
     for (i = 0; i < 2; i++) {

@@ -19,6 +19,7 @@ enum call { RUN, STEP, IRRADIANCE, FACTOR, CALLS };
 #define MOST_TOTALS ((size_t)2 * PILGARTZE_TOTALS_LENGTH(1))
 
 typedef struct job {
+    uint64_t edition;
     pilgartze_site site;
     pilgartze_run_times run;
     pilgartze_surface surface;
@@ -34,6 +35,10 @@ typedef struct job {
 } job;
 
 size_t most_of(enum list list);
+/* 1 or 2, each as often as the other. */
+uint64_t some_edition(source *from);
+/* Any other whole number: about these two, beside them by a high bit, or of any bits. */
+uint64_t no_edition(source *from);
 /* Takes the room for the lists. */
 job job_with_room(void);
 /* The numbers of a day on a surface that faces the ground, so that no step needs a sector; no lists. */
@@ -48,11 +53,12 @@ size_t month_length(uint64_t leap_year, size_t month);
 pilgartze_reading reading_at(const job *of, size_t index);
 
 /* A job with all in range and, for the most part, accepted; now and then of a whole year where those are wanted. Every
- * other one is aimed. */
+ * other one is aimed. Of those with objects at the window every other one has fins on both sides, and the sun often
+ * beyond 180 from the way it faces. */
 void sound_job(source *from, job *made, int years);
 /* A sound job, one with some of it spoilt, or anything at all; gives whether it is sound. */
 int any_job(source *from, job *made, int years);
-/* Another site and surface for the same lists. */
+/* Another edition, site and surface for the same lists. */
 void other_numbers(source *from, job *made);
 
 /* Moves the site or turns the surface: at the single step the sun is then overhead or square on the glass, for the most

@@ -48,6 +48,9 @@ static void count_sound(soak *in, const job *made)
     in->sound += 1;
     in->aimed += square || (has_steps && sun_overhead(made)) ? 1 : 0;
     in->square += square ? 1 : 0;
+    in->with_window += made->lengths[WINDOW] > 0 ? 1 : 0;
+    in->with_both_fins += has_both_fins(made) ? 1 : 0;
+    in->beyond += has_both_fins(made) && is_beyond(made) ? 1 : 0;
 }
 
 static void one_turn(soak *in, job *made)
@@ -64,6 +67,9 @@ static void one_turn(soak *in, job *made)
     if (one_in(&from, 4)) {
         try_short_tables(in, &from, made);
     }
+    if (one_in(&from, 4)) {
+        try_no_edition(in, &from, made);
+    }
     if (one_in(&from, 16)) {
         try_threads(in, &from, made);
     }
@@ -73,6 +79,11 @@ static void one_turn(soak *in, job *made)
     if (one_in(&from, 8)) {
         try_other_objects(in, &from, made);
     }
+    if (one_in(&from, 4)) {
+        try_editions(in, &from, made, RUN);
+    }
+    try_editions(in, &from, made, FACTOR);
+    try_fins(in, &from);
     try_walk(in, &from);
 }
 
@@ -93,19 +104,23 @@ static void all_turns(soak *in, const options *by)
 /* A number that a call can give and never gave is a failure: what it guards was then not tried. */
 static int tell_seen(const soak *in)
 {
+    static const uint64_t numbers[] = {0, 1, 2, 3, 4, 5, 6, 7, 8, 9, 10, 11, PILGARTZE_REFUSED_EDITION};
+    const size_t count = sizeof numbers / sizeof numbers[0];
     int unseen = 0;
-    int call, number;
+    int call;
+    size_t i;
     printf("%-10s", "number");
-    for (number = 0; number < PILGARTZE_REFUSED_LINE; number++) {
-        printf("%10d", number);
+    for (i = 0; i < count; i++) {
+        printf("%10d", (int)numbers[i]);
     }
     for (call = 0; call < CALLS; call++) {
         printf("\n%-10s", name_of((enum call)call));
-        for (number = 0; number < PILGARTZE_REFUSED_LINE; number++) {
-            const int possible = can_give((enum call)call, (uint64_t)number);
-            unseen += possible && in->seen[call][number] == 0 ? 1 : 0;
+        for (i = 0; i < count; i++) {
+            const int possible = can_give((enum call)call, numbers[i]);
+            const uint64_t seen = in->seen[call][numbers[i]];
+            unseen += possible && seen == 0 ? 1 : 0;
             if (possible) {
-                printf("%10llu", (unsigned long long)in->seen[call][number]);
+                printf("%10llu", (unsigned long long)seen);
             } else {
                 printf("%10s", "-");
             }
@@ -139,13 +154,28 @@ static void tell_totals(const soak *in)
 {
     printf("totals: too short in %llu runs, %llu of them with no steps; %llu runs on 29 February, %llu on 1 March of a "
            "common year, %llu steps that end on another day, %llu sums of months that are not those of their days, "
-           "%llu days whose largest total is below 0; %llu pairs of runs with other objects, %llu of them with another "
-           "sum\n",
+           "%llu days whose largest total is below 0; %llu pairs of runs with other objects, of them with another sum "
+           "%llu in edition 1 and %llu in edition 2\n",
            (unsigned long long)in->short_totals, (unsigned long long)in->totals_no_steps,
            (unsigned long long)in->leap_days, (unsigned long long)in->first_of_march,
            (unsigned long long)in->steps_overnight, (unsigned long long)in->sums_apart,
            (unsigned long long)in->largest_below_0, (unsigned long long)in->pairs,
-           (unsigned long long)in->pairs_apart);
+           (unsigned long long)in->pairs_apart[0], (unsigned long long)in->pairs_apart[1]);
+}
+
+/* Each two counts are those of right fins and of left ones. */
+static void tell_editions(const soak *in)
+{
+    printf("editions: %llu sound jobs with objects at the window, %llu of them with fins on both sides, of these %llu "
+           "with the factor's sun at a difference beyond 180; %llu factors that are another in the other edition, %llu "
+           "of them with such a difference; without the fins of one side %llu and %llu that are another in edition 1, "
+           "%llu and %llu in edition 2; of fins alone %llu and %llu that are not 0 nor 1, beyond 180 %llu and %llu\n",
+           (unsigned long long)in->with_window, (unsigned long long)in->with_both_fins, (unsigned long long)in->beyond,
+           (unsigned long long)in->editions_apart, (unsigned long long)in->beyond_apart,
+           (unsigned long long)in->fins_apart[0][0], (unsigned long long)in->fins_apart[0][1],
+           (unsigned long long)in->fins_apart[1][0], (unsigned long long)in->fins_apart[1][1],
+           (unsigned long long)in->fins_alone[0][0], (unsigned long long)in->fins_alone[1][0],
+           (unsigned long long)in->fins_alone[0][1], (unsigned long long)in->fins_alone[1][1]);
 }
 
 static void tell_sums(const soak *in)
@@ -181,8 +211,26 @@ static int too_few_days(const soak *in)
 static int too_few_totals(const soak *in)
 {
     if (in->short_totals == 0 || in->totals_no_steps == 0 || in->leap_days == 0 || in->first_of_march == 0 ||
-        in->steps_overnight == 0 || in->sums_apart == 0 || in->largest_below_0 == 0 || in->pairs_apart == 0) {
+        in->steps_overnight == 0 || in->sums_apart == 0 || in->largest_below_0 == 0 || in->pairs_apart[0] == 0 ||
+        in->pairs_apart[1] == 0) {
         printf("soak: a kind of totals was never seen\n");
+        return 1;
+    }
+    return 0;
+}
+
+/* Fins on both sides of many windows, many with the sun beyond 180, and shade of each side's in each edition. On the
+ * heap there are too few jobs for that in each of them. */
+static int too_few_fins(const soak *in)
+{
+    int seldom = 2 * in->with_both_fins < in->with_window || 4 * in->beyond < in->with_window;
+    int i;
+    for (i = 0; i < 4; i++) {
+        seldom = seldom || (in->fins_apart[i / 2][i % 2] == 0 && !in->on_the_heap) ||
+                 in->fins_alone[i / 2][i % 2] == 0;
+    }
+    if (seldom || in->editions_apart == 0 || in->beyond_apart == 0) {
+        printf("soak: fins have shaded too seldom\n");
         return 1;
     }
     return 0;
@@ -211,6 +259,7 @@ static int told(const soak *in, const options *by)
     tell_days(in);
     tell_totals(in);
     tell_sums(in);
+    tell_editions(in);
     if (by->jobs == 1) {
         return 0;
     }
@@ -218,7 +267,7 @@ static int told(const soak *in, const options *by)
         printf("soak: something was never seen, numbers and walks: %d\n", unseen);
         return 1;
     }
-    return too_seldom_aimed(in) + too_few_days(in) + too_few_totals(in) + too_few_sums(in) > 0;
+    return too_seldom_aimed(in) + too_few_days(in) + too_few_totals(in) + too_few_sums(in) + too_few_fins(in) > 0;
 }
 
 int main(int count, char **words)

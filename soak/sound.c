@@ -35,6 +35,7 @@ job bare_job(void)
 {
     job made;
     memset(&made, 0, sizeof made);
+    made.edition = PILGARTZE_EDITION_1;
     made.site.series_step = 1.0;
     made.run.end = 24.0;
     made.run.step = 1.0;
@@ -42,6 +43,27 @@ job bare_job(void)
     made.surface.height = 1.0;
     made.surface.width = 1.0;
     return made;
+}
+
+/* ---- Editions ------------------------------------------------------------------------------------------------- */
+
+uint64_t some_edition(source *from)
+{
+    return one_in(from, 2) ? PILGARTZE_EDITION_1 : PILGARTZE_EDITION_2;
+}
+
+uint64_t no_edition(source *from)
+{
+    switch (random_below(from, 4)) {
+    case 0:
+        return one_in(from, 2) ? 0 : 3;
+    case 1:
+        return some_edition(from) + (UINT64_C(1) << (one_in(from, 2) ? 32 : 2 + random_below(from, 62)));
+    case 2:
+        return UINT64_MAX - random_below(from, 3);
+    default:
+        return random_word(from) | 4;
+    }
 }
 
 /* ---- Steps ---------------------------------------------------------------------------------------------------- */
@@ -171,6 +193,7 @@ static void sound_surface(source *from, pilgartze_surface *surface)
 
 void other_numbers(source *from, job *made)
 {
+    made->edition = some_edition(from);
     made->site.latitude = uniform(from, -90.0, 90.0);
     made->site.longitude = uniform(from, -180.0, 180.0);
     sound_surface(from, &made->surface);
@@ -252,6 +275,18 @@ static void sound_window(source *from, job *made)
     made->lengths[WINDOW] = count * sizeof(pilgartze_window_object);
 }
 
+/* A fin on each side, in the place of the first two objects. */
+static void fins_on_both_sides(source *from, job *made)
+{
+    const double distance = one_in(from, 2) ? 0.0 : uniform(from, 0.0, 0.3);
+    const pilgartze_window_object fins[] = {pilgartze_right_fin(uniform(from, 0.05, 1.0), distance),
+                                            pilgartze_left_fin(uniform(from, 0.05, 1.0), distance)};
+    memcpy(made->lists[WINDOW], fins, sizeof fins);
+    if (made->lengths[WINDOW] < sizeof fins) {
+        made->lengths[WINDOW] = sizeof fins;
+    }
+}
+
 /* ---- The whole ------------------------------------------------------------------------------------------------ */
 
 /* One of the run's steps, for the single calls. */
@@ -265,9 +300,21 @@ static void sound_single(source *from, job *made, size_t steps)
     made->azimuth = one_in(from, 8) ? uniform(from, -360.0, 360.0) : uniform(from, -180.0, 180.0);
 }
 
+/* Turns the surface to about the north, at a site where the sun comes there: south of the tropics, or so far north that
+ * it does in summer nights. There its azimuth less (180 - orientation) is often beyond 180; for the factor it is. */
+static void turn_to_the_north(source *from, job *made)
+{
+    const double aside = one_in(from, 2) ? 0.0 : uniform(from, 0.0, 60.0);
+    const int to_the_east = one_in(from, 2);
+    made->site.latitude = one_in(from, 4) ? uniform(from, 66.0, 89.0) : uniform(from, -70.0, -24.0);
+    made->surface.orientation = to_the_east ? aside : 360.0 - aside;
+    made->azimuth = to_the_east ? uniform(from, -180.0, -90.0) : uniform(from, 90.0, 180.0);
+}
+
 void sound_job(source *from, job *made, int years)
 {
     size_t steps, values;
+    made->edition = some_edition(from);
     sound_site(from, &made->site);
     sound_run(from, made, years);
     sound_surface(from, &made->surface);
@@ -283,6 +330,10 @@ void sound_job(source *from, job *made, int years)
     made->results[FACTOR] = 0;
     made->days = PILGARTZE_DAYS_LENGTH + (one_in(from, 2) ? random_below(from, 100) : 0);
     made->totals = PILGARTZE_TOTALS_LENGTH(made->site.leap_year) + (one_in(from, 2) ? random_below(from, 100) : 0);
+    if (made->lengths[WINDOW] > 0 && one_in(from, 2)) {
+        fins_on_both_sides(from, made);
+        turn_to_the_north(from, made);
+    }
     if (one_in(from, 2)) {
         aim(from, made);
     }

@@ -65,6 +65,11 @@ static uint64_t odd_whole_number(source *from, const field *spoilt)
     }
 }
 
+static void spoil_edition(source *from, job *made)
+{
+    made->edition = no_edition(from);
+}
+
 static void spoil_whole_number(source *from, job *made)
 {
     const field *const spoilt = &whole_numbers[random_below(from, COUNT(whole_numbers))];
@@ -202,9 +207,9 @@ static void reveal_put_in(source *from, job *made)
 void spoil(source *from, job *made)
 {
     static void (*const ways[])(source *, job *) = {
-        spoil_double, spoil_double, spoil_double, spoil_double,  spoil_whole_number,
-        spoil_times,  aim,          spoil_length, spoil_results, spoil_days,
-        spoil_totals, spoil_bytes,  spoil_word,   spoil_bound,   reveal_put_in,
+        spoil_double, spoil_double, spoil_double,  spoil_double,  spoil_whole_number, spoil_edition,
+        spoil_times,  aim,          spoil_length,  spoil_results, spoil_days,         spoil_totals,
+        spoil_bytes,  spoil_word,   spoil_bound,   reveal_put_in,
     };
     ways[random_below(from, COUNT(ways))](from, made);
 }
@@ -239,6 +244,7 @@ void scramble(source *from, job *made, size_t part)
     size_t i;
     scramble_doubles(from, made, firsts[part < 4 ? part : 4], COUNT(doubles));
     if (part == 0) {
+        made->edition = one_in(from, 4) ? no_edition(from) : made->edition;
         for (i = 0; i < COUNT(whole_numbers); i++) {
             put(made, whole_numbers[i].place, random_word(from));
         }

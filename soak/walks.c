@@ -148,6 +148,7 @@ static void one_step(source *from, job *made)
     const double half = 0.5;
     int list;
     size_t i;
+    made->edition = some_edition(from);
     memset(&made->site, 0, sizeof made->site);
     made->site.latitude = uniform(from, 30.0, 60.0);
     made->site.longitude = uniform(from, -5.0, 5.0);

@@ -1,6 +1,7 @@
 /* Engines that are wrong in one way each, which the soak has to find: the sound library under other names, and around
  * it what the flaw does that the environment variable SOAK_FLAW names. soak/flaws says by what each must be found. What
- * flaws do to the totals of days and months stands in soak/wrong_totals.c. */
+ * flaws do to the totals of days and months stands in soak/wrong_totals.c, what they do to editions and fins in
+ * soak/wrong_editions.c. */
 #define _POSIX_C_SOURCE 200809L
 #include "wrong.h"
 
@@ -8,32 +9,6 @@
 #include <math.h>
 #include <stdlib.h>
 #include <time.h>
-
-#define SITE_NUMBERS                                                                                              \
-    double latitude, double longitude, int64_t timezone, uint64_t start_day, double series_step, uint64_t leap_year, \
-        uint64_t direct_beam_conversion
-#define SITE latitude, longitude, timezone, start_day, series_step, leap_year, direct_beam_conversion
-#define SURFACE_NUMBERS double tilt, double orientation, double base_height, double height, double width
-#define SURFACE tilt, orientation, base_height, height, width
-#define LIST(name) const uint8_t *name, size_t name##_length
-#define SERIES_LISTS LIST(diffuse), LIST(direct), LIST(reflectivity)
-#define SERIES diffuse, diffuse_length, direct, direct_length, reflectivity, reflectivity_length
-#define READINGS double diffuse, double direct, double reflectivity
-#define READING diffuse, direct, reflectivity
-#define OBJECT_LISTS LIST(sectors), LIST(window)
-#define OBJECTS sectors, sectors_length, window, window_length
-#define DAYS_LIST uint8_t *days, size_t days_length
-#define DAYS days, days_length
-#define TOTALS_LIST uint8_t *totals, size_t totals_length
-#define TOTALS totals, totals_length
-#define RESULTS_LIST uint8_t *results, size_t results_length
-#define RESULTS results, results_length
-#define RUN_ARGUMENTS SITE_NUMBERS, double start, double end, double step, SURFACE_NUMBERS, SERIES_LISTS, OBJECT_LISTS
-
-pilgartze_answer sound_run(RUN_ARGUMENTS, DAYS_LIST, TOTALS_LIST, RESULTS_LIST);
-uint64_t sound_step(SITE_NUMBERS, double time, SURFACE_NUMBERS, READINGS, OBJECT_LISTS, RESULTS_LIST);
-uint64_t sound_irradiance(SITE_NUMBERS, double time, SURFACE_NUMBERS, READINGS, RESULTS_LIST);
-pilgartze_factor_answer sound_factor(double altitude, double azimuth, SURFACE_NUMBERS, OBJECT_LISTS);
 
 #define ROW sizeof(pilgartze_row)
 #define DAY sizeof(pilgartze_day_values)
@@ -45,6 +20,16 @@ int flaw(const char *name)
         chosen = getenv("SOAK_FLAW") == NULL ? "none" : getenv("SOAK_FLAW");
     }
     return strcmp(chosen, name) == 0;
+}
+
+int step_refused(uint64_t number)
+{
+    return number >= PILGARTZE_REFUSED_GAP && number <= PILGARTZE_REFUSED_REVEAL;
+}
+
+int steps_tried(uint64_t number)
+{
+    return number == 0 || step_refused(number);
 }
 
 /* ---- What a flaw does before the run -------------------------------------------------------------------------- */
@@ -83,8 +68,8 @@ static void fill_days(uint8_t *days)
 {
     uint8_t none = 0;
     pilgartze_year_totals own;
-    sound_run(0.0, 0.0, 0, 0, 1.0, 0, 0, 1.0, 1.0, 1.0, 90.0, 0.0, 0.0, 1.0, 1.0, &none, 0, &none, 0, &none, 0, &none,
-              0, &none, 0, days, PILGARTZE_DAYS_LENGTH, (uint8_t *)&own, sizeof own, &none, 0);
+    sound_run(PILGARTZE_EDITION_1, 0.0, 0.0, 0, 0, 1.0, 0, 0, 1.0, 1.0, 1.0, 90.0, 0.0, 0.0, 1.0, 1.0, &none, 0, &none,
+              0, &none, 0, &none, 0, &none, 0, days, PILGARTZE_DAYS_LENGTH, (uint8_t *)&own, sizeof own, &none, 0);
 }
 
 static void before_days(DAYS_LIST)
@@ -145,10 +130,10 @@ static void stores_of_acceptance(const pilgartze_answer *answer, RESULTS_LIST)
 
 static void stores_of_refusal(const pilgartze_answer *answer, RESULTS_LIST)
 {
-    if (flaw("stores_though_refused") && answer->number < PILGARTZE_REFUSED_GAP && results_length > 0) {
+    if (flaw("stores_though_refused") && !step_refused(answer->number) && results_length > 0) {
         results[results_length - 1] ^= 1;
     }
-    if (flaw("stores_the_refused_row") && answer->number >= PILGARTZE_REFUSED_GAP) {
+    if (flaw("stores_the_refused_row") && step_refused(answer->number)) {
         results[ROW * (size_t)answer->step] ^= 1;
     }
     while (flaw("does_not_return") && answer->number == PILGARTZE_REFUSED_SERIES) {
@@ -250,7 +235,8 @@ static int sum_of_its_own(void)
 {
     return flaw("sum_from_the_last") || flaw("hours_from_the_last") || flaw("step_left_out") ||
            flaw("step_times_direct_first") || flaw("step_once_at_the_end") || flaw("series_step_in_the_sum") ||
-           flaw("last_step_up_to_the_end") || flaw("product_not_rounded") || flaw("factor_1_for_the_sun_overhead");
+           flaw("last_step_up_to_the_end") || flaw("product_not_rounded") || flaw("factor_1_for_the_sun_overhead") ||
+           takes_other_fins();
 }
 
 static double wrong_sum(double sum, const uint8_t *results, size_t rows, const run_hours *of)
@@ -271,7 +257,7 @@ static pilgartze_answer wrong_answer(pilgartze_answer answer, uint8_t *results, 
     }
     answer.count = flaw("counts_though_refused") ? answer.step : answer.count;
     answer.sum = flaw("minus_zero_sum") ? -0.0 : answer.sum;
-    answer.step += flaw("step_of_an_early_refusal") && answer.number < PILGARTZE_REFUSED_GAP ? 1 : 0;
+    answer.step += flaw("step_of_an_early_refusal") && !step_refused(answer.number) ? 1 : 0;
     answer.number = flaw("gives_number_12") && answer.number == PILGARTZE_REFUSED_REVEAL ? 12 : answer.number;
     return answer;
 }
@@ -326,7 +312,7 @@ static void wrong_values_of_days(uint8_t *days)
 static void wrong_table(const pilgartze_day_table *former, const pilgartze_answer *answer, uint64_t leap_year,
                         DAYS_LIST)
 {
-    if (answer->number == 0 || answer->number >= PILGARTZE_REFUSED_GAP) {
+    if (steps_tried(answer->number)) {
         leave_some_days(former, answer, leap_year, days);
         wrong_values_of_days(days);
         if (flaw("stores_behind_the_days") && days_length > PILGARTZE_DAYS_LENGTH) {
@@ -347,7 +333,7 @@ static uint8_t bits_from_before(uint8_t old, const pilgartze_day_table *days, co
     return flaw("reads_the_results") ? old % 2 : 0;
 }
 
-/* ---- The calls ------------------------------------------------------------------------------------------------ */
+/* ---- In an edition that there is ------------------------------------------------------------------------------ */
 
 #define SECTOR sizeof(pilgartze_sector)
 
@@ -366,13 +352,55 @@ static size_t walked(int first, int last, size_t length)
 static size_t looked_at(size_t length)
 {
     const size_t objects = length / sizeof(pilgartze_window_object);
-    if (objects > PILGARTZE_MOST_WINDOW_OBJECTS) {
-        return flaw("hundreds_of_objects_accepted") && objects < 1000 ? 0 : length;
+    const int too_many = objects > PILGARTZE_MOST_WINDOW_OBJECTS;
+    return flaw("hundreds_of_objects_accepted") && too_many && objects < 1000 ? 0 : length;
+}
+
+static int has_obstacle(const pilgartze_sector *sector)
+{
+    size_t i;
+    for (i = 0; i < sector->count; i++) {
+        if (sector->objects[i].kind == PILGARTZE_DISTANT_OBSTACLE) {
+            return 1;
+        }
     }
-    if (flaw("later_objects_forgotten") && objects > 1) {
-        return sizeof(pilgartze_window_object);
+    return 0;
+}
+
+/* All objects of a sector but the first, or the overhangs beside an obstacle. */
+static void forget_objects(pilgartze_sector *sector)
+{
+    const pilgartze_sector all = *sector;
+    const int later = flaw("later_objects_forgotten");
+    size_t i;
+    *sector = pilgartze_free_sector(all.start, all.end);
+    for (i = 0; i < all.count; i++) {
+        const int overhang = all.objects[i].kind == PILGARTZE_DISTANT_OVERHANG;
+        if (later ? i == 0 : !overhang || !has_obstacle(&all)) {
+            pilgartze_add_object(sector, all.objects[i]);
+        }
     }
-    return flaw("three_objects_forgotten") && objects >= 3 ? 0 : length;
+}
+
+#define SECTORS_ROOM (SECTOR * PILGARTZE_MOST_SECTORS)
+
+/* The sectors as a flaw goes by them, in the room if it forgets objects. */
+static const uint8_t *sectors_taken(LIST(sectors), uint8_t *room)
+{
+    const int forgets = flaw("later_objects_forgotten") || flaw("overhangs_forgotten");
+    size_t at;
+    if (!forgets || sectors_length > SECTORS_ROOM || sectors_length % SECTOR != 0) {
+        return sectors;
+    }
+    for (at = 0; at < sectors_length; at += SECTOR) {
+        pilgartze_sector sector;
+        memcpy(&sector, sectors + at, SECTOR);
+        if (sector.count <= PILGARTZE_MOST_OBJECTS) {
+            forget_objects(&sector);
+        }
+        memcpy(room + at, &sector, SECTOR);
+    }
+    return room;
 }
 
 /* What the sound library has for one step, without shade. */
@@ -417,11 +445,11 @@ static pilgartze_answer run_with_wrong_lists(RUN_ARGUMENTS, DAYS_LIST, TOTALS_LI
 {
     const int first = flaw("first_sector_not_walked");
     const int last = flaw("last_sector_not_walked");
-    return sound_run(SITE, start, end, step, SURFACE, diffuse, SHORT(diffuse_length), direct, SHORT(direct_length),
-                     reflectivity, SHORT(reflectivity_length), sectors + left_out(first, sectors_length),
-                     walked(first, last, sectors_length), window, looked_at(window_length), days,
-                     wrong_days_length(days_length), totals, wrong_totals_length(leap_year, totals_length), results,
-                     SHORT(results_length));
+    return sound_run(edition, SITE, start, end, step, SURFACE, diffuse, SHORT(diffuse_length), direct,
+                     SHORT(direct_length), reflectivity, SHORT(reflectivity_length),
+                     sectors + left_out(first, sectors_length), walked(first, last, sectors_length), window,
+                     looked_at(window_length), days, wrong_days_length(days_length), totals,
+                     wrong_totals_length(leap_year, totals_length), results, SHORT(results_length));
 }
 
 /* The same by way of buffers that all threads share. */
@@ -443,7 +471,7 @@ static pilgartze_answer run_with_buffers(RUN_ARGUMENTS, DAYS_LIST, TOTALS_LIST, 
     if (flaw("one_list_of_totals_for_all_threads") && totals_length <= sizeof sums) {
         totals = memcpy(sums, totals, totals_length);
     }
-    answer = run_with_wrong_lists(SITE, start, end, step, SURFACE, SERIES, OBJECTS, DAYS, TOTALS, RESULTS);
+    answer = run_with_wrong_lists(edition, SITE, start, end, step, SURFACE, SERIES, OBJECTS, DAYS, TOTALS, RESULTS);
     if (results != lent_results || days != lent_days || totals != lent_totals) {
         wait_a_little();
         memmove(lent_results, results, results_length);
@@ -453,12 +481,13 @@ static pilgartze_answer run_with_buffers(RUN_ARGUMENTS, DAYS_LIST, TOTALS_LIST, 
     return answer;
 }
 
-/* With a table or totals of its own where a flaw takes some that are too short. */
+/* With a table or totals of its own where a flaw takes some that are too short, and with factors by other fins. */
 static pilgartze_answer run_with_own_tables(RUN_ARGUMENTS, DAYS_LIST, TOTALS_LIST, RESULTS_LIST)
 {
     static pilgartze_day_table own;
     static pilgartze_year_totals own_totals;
     const int taken = flaw("short_days_accepted") || (flaw("short_days_accepted_for_no_steps") && start == end);
+    pilgartze_answer answer;
     if (taken && days_length < sizeof own) {
         days = (uint8_t *)&own;
         days_length = sizeof own;
@@ -467,10 +496,12 @@ static pilgartze_answer run_with_own_tables(RUN_ARGUMENTS, DAYS_LIST, TOTALS_LIS
         totals = (uint8_t *)&own_totals;
         totals_length = sizeof own_totals;
     }
-    return run_with_buffers(SITE, start, end, step, SURFACE, SERIES, OBJECTS, DAYS, TOTALS, RESULTS);
+    answer = run_with_buffers(edition, SITE, start, end, step, SURFACE, SERIES, OBJECTS, DAYS, TOTALS, RESULTS);
+    change_factors(edition, SURFACE, OBJECTS, results, (size_t)(answer.number == 0 ? answer.count : answer.step));
+    return answer;
 }
 
-pilgartze_answer pilgartze_run(RUN_ARGUMENTS, DAYS_LIST, TOTALS_LIST, RESULTS_LIST)
+static pilgartze_answer run_in_edition(RUN_ARGUMENTS, DAYS_LIST, TOTALS_LIST, RESULTS_LIST)
 {
     const run_hours hours = {series_step, start, end, step};
     const uint8_t old = results_length > 0 ? results[0] : 0;
@@ -482,7 +513,7 @@ pilgartze_answer pilgartze_run(RUN_ARGUMENTS, DAYS_LIST, TOTALS_LIST, RESULTS_LI
     before_run(direct, direct_length, reflectivity, reflectivity_length, OBJECTS);
     before_days(DAYS);
     totals_before(TOTALS, &former_totals);
-    answer = run_with_own_tables(SITE, start, end, step, SURFACE, SERIES, OBJECTS, DAYS, TOTALS, RESULTS);
+    answer = run_with_own_tables(edition, SITE, start, end, step, SURFACE, SERIES, OBJECTS, DAYS, TOTALS, RESULTS);
     sound = answer;
     if (room == PILGARTZE_DAYS_LENGTH) {
         wrong_table(&former, &answer, leap_year, DAYS);
@@ -505,18 +536,21 @@ pilgartze_answer pilgartze_run(RUN_ARGUMENTS, DAYS_LIST, TOTALS_LIST, RESULTS_LI
     return answer;
 }
 
-uint64_t pilgartze_step(SITE_NUMBERS, double time, SURFACE_NUMBERS, READINGS, OBJECT_LISTS, RESULTS_LIST)
+static uint64_t step_in_edition(STEP_ARGUMENTS, RESULTS_LIST)
 {
     const size_t length = walked(0, flaw("step_last_sector_not_walked"), sectors_length);
-    const uint64_t number =
-        sound_step(SITE, time, SURFACE, READING, sectors, SHORT(length), window, looked_at(window_length), RESULTS);
+    const uint64_t number = sound_step(edition, SITE, time, SURFACE, READING, sectors, SHORT(length), window,
+                                       looked_at(window_length), RESULTS);
+    if (number == 0) {
+        change_factors(edition, SURFACE, OBJECTS, results, 1);
+    }
     if (flaw("step_has_its_own_row") && number == 0) {
         results[8] ^= 1;
     }
     if (flaw("step_stores_though_refused") && number == PILGARTZE_REFUSED_NO_SECTOR) {
         results[0] ^= 1;
     }
-    if (flaw("step_overhead_not_walked") && number >= PILGARTZE_REFUSED_GAP) {
+    if (flaw("step_overhead_not_walked") && step_refused(number)) {
         const pilgartze_breakdown there = sound_breakdown(SITE, time, SURFACE, READING);
         if (there.altitude == 90.0) {
             store_unshaded(&there, results);
@@ -529,25 +563,13 @@ uint64_t pilgartze_step(SITE_NUMBERS, double time, SURFACE_NUMBERS, READINGS, OB
     return flaw("step_gives_number_5") && number == PILGARTZE_REFUSED_READING ? 5 : number;
 }
 
-uint64_t pilgartze_irradiance(SITE_NUMBERS, double time, SURFACE_NUMBERS, READINGS, RESULTS_LIST)
-{
-    const uint64_t number = sound_irradiance(SITE, time, SURFACE, READING, RESULTS);
-    if (flaw("irradiance_stores_ten_words") && number == 0 && results_length >= 80) {
-        memset(results + 72, 0, 8);
-    }
-    if (flaw("nan_for_the_sun_square") && number == 0 && whole_beam(SITE, time, SURFACE)) {
-        store_nan_irradiance(results);
-    }
-    return flaw("irradiance_gives_number_4") && number == PILGARTZE_REFUSED_SURFACE ? 4 : number;
-}
-
-pilgartze_factor_answer pilgartze_factor(double altitude, double azimuth, SURFACE_NUMBERS, OBJECT_LISTS)
+static pilgartze_factor_answer factor_in_edition(FACTOR_ARGUMENTS)
 {
     static pilgartze_factor_answer answer;
     const int first = flaw("factor_first_sector_not_walked");
     pilgartze_factor_answer mine =
-        sound_factor(altitude, azimuth, SURFACE, sectors + left_out(first, sectors_length),
-                     walked(first, 0, sectors_length), window, looked_at(window_length));
+        factor_by_other_fins(edition, altitude, azimuth, SURFACE, sectors + left_out(first, sectors_length),
+                             walked(first, 0, sectors_length), window, looked_at(window_length));
     if (flaw("factor_kept_for_all_threads")) {
         answer = mine;
         wait_a_little();
@@ -563,4 +585,88 @@ pilgartze_factor_answer pilgartze_factor(double altitude, double azimuth, SURFAC
         mine.number = PILGARTZE_REFUSED_GAP;
     }
     return mine;
+}
+
+/* ---- The calls ------------------------------------------------------------------------------------------------ */
+
+/* Whether the site is refused, whatever else there is. */
+static int site_refused(SITE_NUMBERS)
+{
+    uint8_t room[sizeof(pilgartze_breakdown)];
+    return sound_irradiance(SITE, 0.0, 90.0, 0.0, 0.0, 1.0, 1.0, 0.0, 0.0, 0.0, room, sizeof room) != 0;
+}
+
+pilgartze_answer pilgartze_run(RUN_ARGUMENTS, DAYS_LIST, TOTALS_LIST, RESULTS_LIST)
+{
+    uint8_t room[SECTORS_ROOM];
+    edition = edition_taken(edition);
+    if (known_edition(edition)) {
+        sectors = sectors_taken(sectors, sectors_length, room);
+        return run_in_edition(edition, SITE, start, end, step, SURFACE, SERIES, OBJECTS, DAYS, TOTALS, RESULTS);
+    }
+    if (flaw("run_tries_the_site_first") && site_refused(SITE)) {
+        return (pilgartze_answer){PILGARTZE_REFUSED_SITE, 0, 0, 0.0};
+    }
+    if (flaw("run_tries_the_days_first") && days_length < PILGARTZE_DAYS_LENGTH) {
+        return (pilgartze_answer){PILGARTZE_REFUSED_RESULTS, 0, 0, 0.0};
+    }
+    return run_at_14(sound_run(edition, SITE, start, end, step, SURFACE, SERIES, OBJECTS, DAYS, TOTALS, RESULTS), DAYS,
+                     TOTALS, RESULTS);
+}
+
+uint64_t pilgartze_step(STEP_ARGUMENTS, RESULTS_LIST)
+{
+    uint8_t room[SECTORS_ROOM];
+    edition = flaw("step_takes_any_edition") && !known_edition(edition) ? PILGARTZE_EDITION_2 : edition_taken(edition);
+    if (known_edition(edition)) {
+        edition = flaw("step_has_edition_1") ? PILGARTZE_EDITION_1 : edition;
+        sectors = sectors_taken(sectors, sectors_length, room);
+        return step_in_edition(edition, SITE, time, SURFACE, READING, OBJECTS, RESULTS);
+    }
+    if (flaw("step_tries_the_site_first") && site_refused(SITE)) {
+        return PILGARTZE_REFUSED_SITE;
+    }
+    if (flaw("step_at_14_stores") && results_length > 0) {
+        results[0] ^= 1;
+    }
+    return sound_step(edition, SITE, time, SURFACE, READING, OBJECTS, RESULTS);
+}
+
+uint64_t pilgartze_irradiance(SITE_NUMBERS, double time, SURFACE_NUMBERS, READINGS, RESULTS_LIST)
+{
+    const uint64_t number = sound_irradiance(SITE, time, SURFACE, READING, RESULTS);
+    if (flaw("irradiance_stores_ten_words") && number == 0 && results_length >= 80) {
+        memset(results + 72, 0, 8);
+    }
+    if (flaw("nan_for_the_sun_square") && number == 0 && whole_beam(SITE, time, SURFACE)) {
+        store_nan_irradiance(results);
+    }
+    return flaw("irradiance_gives_number_4") && number == PILGARTZE_REFUSED_SURFACE ? 4 : number;
+}
+
+pilgartze_factor_answer pilgartze_factor(FACTOR_ARGUMENTS)
+{
+    static uint64_t kept;
+    const uint8_t none = 0;
+    uint8_t room[SECTORS_ROOM];
+    pilgartze_factor_answer answer;
+    edition = flaw("factor_takes_any_edition") && !known_edition(edition) ? PILGARTZE_EDITION_2
+                                                                          : edition_taken(edition);
+    if (flaw("edition_kept_for_all_threads")) {
+        kept = edition;
+        wait_a_little();
+        edition = kept;
+    }
+    if (known_edition(edition)) {
+        edition = flaw("factor_has_edition_1") ? PILGARTZE_EDITION_1 : edition;
+        sectors = sectors_taken(sectors, sectors_length, room);
+        return factor_in_edition(edition, altitude, azimuth, SURFACE, OBJECTS);
+    }
+    answer = sound_factor(PILGARTZE_EDITION_1, altitude, azimuth, SURFACE, &none, 0, &none, 0);
+    if (flaw("factor_tries_the_surface_first") && answer.number == PILGARTZE_REFUSED_SURFACE) {
+        return answer;
+    }
+    answer = sound_factor(edition, altitude, azimuth, SURFACE, OBJECTS);
+    answer.factor = flaw("factor_1_at_14") ? 1.0 : answer.factor;
+    return answer;
 }

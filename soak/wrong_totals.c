@@ -276,7 +276,7 @@ void change_totals(const pilgartze_year_totals *former, const pilgartze_answer *
     if (too_short(leap_year, length) || flaw("none") || flaw("one_list_of_totals_for_all_threads")) {
         return;
     }
-    if (number == 0 || number >= PILGARTZE_REFUSED_GAP) {
+    if (steps_tried(number)) {
         make_totals(&of, former, &made);
         change_few(&of, former, number, &made);
         change_records(former, leap_year, &made);
