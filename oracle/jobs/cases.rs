@@ -2,10 +2,10 @@
 
 use super::{tables, totals};
 use crate::published::jobs::*;
-use crate::published::shading::{Numbers, ALTITUDE, AZIMUTH, ORIENTATION, TILT};
+use crate::published::shading::{outside_beam, Numbers, ALTITUDE, AZIMUTH, ORIENTATION, TILT};
 use crate::published::totals::totals_needed;
 use crate::random::{ulps_from, Random, NAN_PATTERNS};
-use crate::shading::call::{sector, Call, Scene, Sector, END, START};
+use crate::shading::call::{difference, sector, Call, Scene, Sector, END, START};
 use crate::shading::scenes::{self, edges_of_range, Aim};
 
 /// The most words that a series can need: a year of quarter hours.
@@ -51,6 +51,9 @@ pub struct Maker {
     table_random: Random,
     totals_random: Random,
     pub aims: Aims,
+    /// Whether jobs have fins on both sides and, at one step at least, the sun up and inside the beam
+    /// across the north, so that the difference is beyond 180.
+    pub across_the_north: bool,
     target: Option<Target>,
     judge: Judge,
     /// Words of any kind, few of them readings, for entries that no step uses.
@@ -98,6 +101,7 @@ impl Maker {
             totals_random: random.beside("totals"),
             random,
             aims: Aims::Seldom,
+            across_the_north: false,
             target: None,
             judge,
             junk,
@@ -181,6 +185,52 @@ impl Maker {
         [start, end, step]
     }
 
+    /// A site and times with the sun up in the north: in the south about noon, or in the far north about
+    /// midnight in summer.
+    fn sun_to_the_north(&mut self, site: &mut JobSite, times: &mut Times) {
+        let [start, end, step] = *times;
+        let hours = if site.leap_year == 1 { 8784.0 } else { 8760.0 };
+        let (day, middle) = match self.random.below(4) {
+            0 => {
+                site.latitude = self.random.uniform(67.0, 85.0);
+                (140.0 + self.random.below(60) as f64, 24.0)
+            }
+            _ => {
+                site.latitude = self.random.uniform(-65.0, -15.0);
+                ((start / 24.0).floor(), 12.0)
+            }
+        };
+        let before = step * self.random.below(4) as f64;
+        let moved = 24.0 * day + middle - before;
+        let last = if start < end {
+            moved + (end - start)
+        } else {
+            moved
+        };
+        if moved >= 0.0 && last < hours {
+            times[0] = moved;
+            times[1] = if start < end { last } else { end.min(moved) };
+        }
+    }
+
+    /// Turns the surface away from a sun in the north, across it.
+    fn face_across_the_north(&mut self, numbers: &mut Numbers) {
+        let azimuth = numbers[AZIMUTH];
+        if (90.0..=180.0).contains(&azimuth.abs()) {
+            let by = self.random.uniform(180.0 - azimuth.abs(), 90.0);
+            let from_south = azimuth + (by - 360.0) * azimuth.signum();
+            numbers[ORIENTATION] = (180.0 - from_south).clamp(0.0, 360.0);
+        }
+    }
+
+    /// Whether a job has what it is to have with the sun across the north.
+    fn is_across_the_north(&mut self, job: &Job) -> bool {
+        let across = |numbers: &Numbers| {
+            numbers[ALTITUDE] > 0.0 && difference(numbers).abs() > 180.0 && !outside_beam(numbers)
+        };
+        self.judge.suns(job).iter().any(across)
+    }
+
     /// A day, for the most part not long before the run begins.
     fn any_start_day(&mut self, start: f64) -> u64 {
         let day = (start / 24.0) as u64;
@@ -239,9 +289,13 @@ impl Maker {
         if sectors.is_empty() && self.random.below(4) != 0 {
             sectors = vec![sector(0.0, 360.0, &[])];
         }
-        let window = scenes::any_window(&mut self.random, &aim);
+        let mut window = scenes::any_window(&mut self.random, &aim);
+        if self.across_the_north {
+            scenes::fins_put_in(&mut self.random, &aim, &mut window);
+        }
         let numbers = *numbers;
         let call = Scene {
+            edition: EDITION_1,
             numbers,
             sectors,
             window,
@@ -342,6 +396,9 @@ impl Maker {
         let steps = steps_of(&site, &times);
         let sun = self.sun_of(&site, &steps);
         let mut numbers = self.any_numbers(sun);
+        if self.across_the_north {
+            self.face_across_the_north(&mut numbers);
+        }
         self.target = None;
         if self.aims != Aims::Seldom {
             self.aim_squarely(&mut site, &mut numbers, &steps);
@@ -352,6 +409,7 @@ impl Maker {
         }
         let (sectors, window) = self.any_lists(&numbers);
         let mut job = Job {
+            edition: EDITION_1,
             site,
             times,
             surface: numbers[2..].try_into().unwrap(),
@@ -455,10 +513,14 @@ impl Maker {
     /// A job with such times, as often as it takes until it is aimed where it has to be.
     fn aimed(&mut self, times: impl Fn(&mut Maker, &JobSite) -> Times) -> Job {
         loop {
-            let site = self.any_site();
-            let times = times(self, &site);
+            let mut site = self.any_site();
+            let mut times = times(self, &site);
+            if self.across_the_north {
+                self.sun_to_the_north(&mut site, &mut times);
+            }
             let job = self.job_at(site, times);
-            if self.aims == Aims::Seldom || self.target.is_some() {
+            let across = !self.across_the_north || self.is_across_the_north(&job);
+            if across && (self.aims == Aims::Seldom || self.target.is_some()) {
                 return job;
             }
         }
@@ -580,6 +642,7 @@ impl Maker {
         let (altitude, azimuth) = self.sun_of(&job.site, &steps);
         let [tilt, orientation, base_height, height, width] = job.surface;
         Scene::of(&Call {
+            edition: job.edition,
             numbers: [
                 altitude,
                 azimuth,
@@ -750,6 +813,7 @@ impl Maker {
             _ => 0,
         };
         Single {
+            edition: job.edition,
             site: job.site,
             time,
             surface: job.surface,

@@ -18,9 +18,10 @@ const MOST: [usize; 12] = [600, 0, 0, 60, 100, 0, 0, 0, 80, 80, 80, 80];
 
 /// The record of a call with its answer.
 fn record_of(judge: &mut Judge, call: &Call) -> (Record, Judged) {
-    let judged = judge.answer(&call.numbers, &call.sectors, &call.window);
+    let judged = judge.answer(call.edition, &call.numbers, &call.sectors, &call.window);
     let mut record = Record::new(KIND);
     record
+        .word(call.edition)
         .doubles(&call.numbers)
         .word(call.sectors.len() as u64)
         .word(call.window.len() as u64)

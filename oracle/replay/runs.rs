@@ -47,6 +47,7 @@ fn record_of(job: &Job, left: &Left<RunAnswer>, keeps_totals: bool) -> Record {
     ];
     let mut record = Record::new(KIND);
     record
+        .word(job.edition)
         .doubles(&[site.latitude, site.longitude, site.timezone as f64])
         .word(site.start_day)
         .doubles(&[site.series_step])
