@@ -6,7 +6,7 @@ use crate::published::shading::{outside_beam, Numbers, ALTITUDE, AZIMUTH, ORIENT
 use crate::published::totals::totals_needed;
 use crate::random::{ulps_from, Random, NAN_PATTERNS};
 use crate::shading::call::{difference, sector, Call, Scene, Sector, END, START};
-use crate::shading::scenes::{self, edges_of_range, Aim};
+use crate::shading::scenes::{self, edges_of_range, turned_back, Aim};
 
 /// The most words that a series can need: a year of quarter hours.
 const MOST_WORDS: usize = 36_000;
@@ -213,22 +213,30 @@ impl Maker {
         }
     }
 
-    /// Turns the surface away from a sun in the north, across it.
+    /// Turns the surface away from a sun in the north, across it; or just to it, so that the difference
+    /// is 0 at one step and beyond 180 at another.
     fn face_across_the_north(&mut self, numbers: &mut Numbers) {
         let azimuth = numbers[AZIMUTH];
         if (90.0..=180.0).contains(&azimuth.abs()) {
-            let by = self.random.uniform(180.0 - azimuth.abs(), 90.0);
-            let from_south = azimuth + (by - 360.0) * azimuth.signum();
-            numbers[ORIENTATION] = (180.0 - from_south).clamp(0.0, 360.0);
+            let by = match self.random.below(4) {
+                0 => 0.0,
+                _ => self.random.uniform(180.0 - azimuth.abs(), 90.0),
+            };
+            let from_south = turned_back(azimuth + by * azimuth.signum());
+            numbers[ORIENTATION] = 180.0 - from_south;
         }
     }
 
-    /// Whether a job has what it is to have with the sun across the north.
-    fn is_across_the_north(&mut self, job: &Job) -> bool {
+    /// Whether a job is aimed where it has to be, and has the sun where it has to be.
+    fn is_well_placed(&mut self, site: &JobSite, times: &Times, numbers: &Numbers) -> bool {
         let across = |numbers: &Numbers| {
             numbers[ALTITUDE] > 0.0 && difference(numbers).abs() > 180.0 && !outside_beam(numbers)
         };
-        self.judge.suns(job).iter().any(across)
+        if self.aims != Aims::Seldom && self.target.is_none() {
+            return false;
+        }
+        let surface = numbers[2..].try_into().unwrap();
+        !self.across_the_north || self.judge.suns(site, times, surface).iter().any(across)
     }
 
     /// A day, for the most part not long before the run begins.
@@ -390,24 +398,29 @@ impl Maker {
 
     // --- Jobs ---
 
-    /// A job in range with these times.
-    fn job_at(&mut self, mut site: JobSite, times: Times) -> Job {
+    /// Sun and surface of a job in range with these times, and its site, aimed as they are to be.
+    fn placed(&mut self, site: &mut JobSite, times: &Times) -> Numbers {
         site.start_day = self.any_start_day(times[0]);
-        let steps = steps_of(&site, &times);
-        let sun = self.sun_of(&site, &steps);
+        let steps = steps_of(site, times);
+        let sun = self.sun_of(site, &steps);
         let mut numbers = self.any_numbers(sun);
         if self.across_the_north {
             self.face_across_the_north(&mut numbers);
         }
         self.target = None;
         if self.aims != Aims::Seldom {
-            self.aim_squarely(&mut site, &mut numbers, &steps);
+            self.aim_squarely(site, &mut numbers, &steps);
         } else if !steps.is_empty() && self.random.below(8) == 0 {
             let hour = steps[self.random.below(steps.len())].hour.min(8783);
             let surface = (&mut numbers[2..]).try_into().unwrap();
-            aim(&mut self.random, &mut site, surface, hour);
+            aim(&mut self.random, site, surface, hour);
         }
-        let (sectors, window) = self.any_lists(&numbers);
+        numbers
+    }
+
+    /// The job that is placed so.
+    fn job_of(&mut self, site: JobSite, times: Times, numbers: &Numbers) -> Job {
+        let (sectors, window) = self.any_lists(numbers);
         let mut job = Job {
             edition: EDITION_1,
             site,
@@ -422,6 +435,12 @@ impl Maker {
         };
         self.fit(&mut job);
         job
+    }
+
+    /// A job in range with these times.
+    fn job_at(&mut self, mut site: JobSite, times: Times) -> Job {
+        let numbers = self.placed(&mut site, &times);
+        self.job_of(site, times, &numbers)
     }
 
     /// One of the steps, for the most part one with a high sun.
@@ -518,10 +537,9 @@ impl Maker {
             if self.across_the_north {
                 self.sun_to_the_north(&mut site, &mut times);
             }
-            let job = self.job_at(site, times);
-            let across = !self.across_the_north || self.is_across_the_north(&job);
-            if across && (self.aims == Aims::Seldom || self.target.is_some()) {
-                return job;
+            let numbers = self.placed(&mut site, &times);
+            if self.is_well_placed(&site, &times, &numbers) {
+                return self.job_of(site, times, &numbers);
             }
         }
     }

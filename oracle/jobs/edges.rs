@@ -4,7 +4,8 @@ use super::cases::{Aims, Maker};
 use crate::pilgartze::window_object;
 use crate::published::jobs::*;
 use crate::published::shading::{
-    Numbers, MOST_SECTORS, MOST_WINDOW_OBJECTS, ORIENTATION, SECTOR_WORDS, WINDOW_WORDS,
+    edition_fine, Numbers, MOST_SECTORS, MOST_WINDOW_OBJECTS, ORIENTATION, SECTOR_WORDS,
+    WINDOW_WORDS,
 };
 use crate::random::{ulps_from, Random, NAN_PATTERNS};
 use crate::shading::call::{sector, Scene, LEFT_FIN, OVERHANG, REVEAL, RIGHT_FIN};
@@ -494,12 +495,22 @@ pub fn sums() -> Vec<Job> {
 
 // --- Editions and fins ---
 
-/// The job in both editions.
+/// The job in both editions; one that names none stays as it is.
 pub fn in_both_editions(job: &Job) -> [Job; 2] {
     EDITIONS.map(|edition| Job {
-        edition,
+        edition: match edition_fine(job.edition) {
+            true => edition,
+            false => job.edition,
+        },
         ..job.clone()
     })
+}
+
+/// All of them in edition 1, and then in edition 2.
+pub fn all_in_both_editions(jobs: &[Job]) -> Vec<Job> {
+    let both: Vec<[Job; 2]> = jobs.iter().map(in_both_editions).collect();
+    let of = |place: usize| both.iter().map(move |both| both[place].clone());
+    of(0).chain(of(1)).collect()
 }
 
 /// Some of its steps, none and one, with each edition and each word that names none.
@@ -605,12 +616,14 @@ pub fn editions() -> Vec<Job> {
     let mut maker = Maker::new(Random::new(1, "jobs about editions"));
     let plain = plain_jobs(&mut maker);
     let mut jobs = vec![];
-    for (variant, job) in plain.iter().enumerate() {
+    for job in &plain {
         every_edition(&mut jobs, job, &mut maker);
-        sets_with_wrong_editions(&mut jobs, job, variant);
     }
     let fins = fins(&mut maker, &plain[0]);
-    jobs.extend(fins.iter().flat_map(in_both_editions));
+    jobs.extend(all_in_both_editions(&fins));
+    for (variant, job) in plain.iter().enumerate() {
+        sets_with_wrong_editions(&mut jobs, job, variant);
+    }
     jobs
 }
 

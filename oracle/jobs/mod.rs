@@ -51,12 +51,11 @@ pub struct Fixed {
 
 impl Fixed {
     pub fn all() -> Self {
-        let both = |jobs: &[Job]| jobs.iter().flat_map(edges::in_both_editions).collect();
-        let mut edges: Vec<Job> = both(&edges::all());
+        let mut edges = edges::all_in_both_editions(&edges::all());
         edges.extend(edges::editions());
         Fixed {
             edges,
-            walks: both(&edges::walks()),
+            walks: edges::all_in_both_editions(&edges::walks()),
             ..Fixed::lists()
         }
     }
@@ -85,7 +84,7 @@ impl Fixed {
         tables.extend(tables::formers());
         Fixed {
             tables,
-            turns: tables::turns_of_the_year(),
+            turns: edges::all_in_both_editions(&tables::turns_of_the_year()),
             ..Fixed::default()
         }
     }
@@ -644,7 +643,7 @@ fn seen(judge: &mut Judge, job: &Job) -> Seen {
     if !has_fins_on_both_sides(&job.window) {
         return seen;
     }
-    for numbers in judge.suns(job) {
+    for numbers in judge.suns(&job.site, &job.times, &job.surface) {
         if !outside_beam(&numbers) {
             seen.note(&numbers, true);
         }
@@ -667,6 +666,8 @@ struct Comparison<'a> {
     laws_random: Random,
     editions_random: Random,
     tally: Tally,
+    /// Accepted jobs of each edition.
+    accepted: [usize; 2],
     by_new: u64,
     years_accepted: u64,
     by_the_hour: u64,
@@ -701,10 +702,20 @@ impl Comparison<'_> {
             if self.plan.by_the_hour {
                 self.by_the_hour += keeps_its_figure(job, &got)? as u64;
             }
-            let (pairs, random) = (&mut self.pairs, &mut self.laws_random);
-            try_laws(self.plan.laws, pairs, random, job, &got, &mut self.lent)?;
+            if self.tries_laws(job.edition) {
+                let (pairs, random) = (&mut self.pairs, &mut self.laws_random);
+                try_laws(self.plan.laws, pairs, random, job, &got, &mut self.lent)?;
+            }
         }
         Ok(())
+    }
+
+    /// Whether the laws are tried on a job of that edition: on every other one, so that of jobs that
+    /// come in both editions they are tried in either by turns.
+    fn tries_laws(&mut self, edition: u64) -> bool {
+        let place = (edition == EDITION_2) as usize;
+        self.accepted[place] += 1;
+        (self.accepted[place] + place) % 2 == 1
     }
 
     fn job_and_singles(&mut self, maker: &mut Maker, job: &Job, also_by_new: bool) -> Outcome {
@@ -723,13 +734,13 @@ impl Comparison<'_> {
             self.job_and_singles(maker, job, false)?;
         }
         for job in &fixed.walks {
-            self.job(job, None, true)?;
+            self.job(job, None, job.edition == EDITION_1)?;
             if self.plan.compared {
                 self.step(&maker.sound_single_of(job, ROW), None)?;
             }
         }
         for job in &fixed.turns {
-            self.job_and_singles(maker, job, true)?;
+            self.job_and_singles(maker, job, job.edition == EDITION_1)?;
         }
         self.at_both_ends(&fixed.tables, DAYS_LIST)?;
         for job in &fixed.calendar {
@@ -879,6 +890,7 @@ pub fn section(settings: &Settings, library: &Library, plan: Plan) -> Outcome {
         laws_random: settings.random("laws of jobs"),
         editions_random: settings.random("editions of jobs"),
         tally: Tally::default(),
+        accepted: [0; 2],
         by_new: 0,
         years_accepted: 0,
         by_the_hour: 0,

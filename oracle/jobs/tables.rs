@@ -73,12 +73,16 @@ fn former_table(random: &mut Random, what: Former, len: usize) -> Vec<u8> {
 const SHORT: [usize; 7] = [0, 1, 7, 8, 23, 24, DAYS_LENGTH - 8 * DAY];
 
 /// A job that is accepted, one with no steps, and one for each refusal; those of 8 to 11 also at the
-/// first step.
+/// first step. They are of edition 1, but for the one that names none.
 pub fn each_number(maker: &mut Maker, plain: &Job, variant: usize) -> Vec<Job> {
     let mut no_steps = plain.clone();
     no_steps.times = [5.0, 5.0, 1.0];
     maker.fit(&mut no_steps);
-    let mut jobs = vec![plain.clone(), no_steps];
+    let wrong_edition = Job {
+        edition: 0,
+        ..plain.clone()
+    };
+    let mut jobs = vec![plain.clone(), no_steps, wrong_edition];
     let (first_step, _) = one_step(plain, maker);
     let refused = (1..=11).map(|number| (plain, number));
     for (job, number) in refused.chain((8..=11).map(|number| (&first_step, number))) {

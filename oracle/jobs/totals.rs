@@ -2,7 +2,7 @@
 //! left in each way.
 
 use super::cases::Maker;
-use super::edges::{fault, in_both_editions, plain_jobs, sectors_of};
+use super::edges::{all_in_both_editions, fault, plain_jobs, sectors_of};
 use super::tables::each_number;
 use super::{BEFORE_ANY_STORE, GIVEN, NUMBERS, WORDS};
 use crate::comparison::{Outcome, Settings};
@@ -250,7 +250,7 @@ pub fn calendar() -> Vec<Job> {
             jobs.push(job_over(&mut maker, &plain, leap_year, times));
         }
     }
-    let mut jobs: Vec<Job> = jobs.iter().flat_map(in_both_editions).collect();
+    let mut jobs = all_in_both_editions(&jobs);
     sets_of_faults(&mut jobs);
     jobs
 }

@@ -403,17 +403,17 @@ impl Judge {
         answer.doubles()
     }
 
-    /// Sun and surface at each step of a job whose site, times and surface are in range.
-    pub fn suns(&mut self, job: &Job) -> Vec<Numbers> {
-        let steps = match surface_fine(&job.surface) {
-            true => steps_if_any(&job.site, &job.times),
+    /// Sun and surface at each step, where site, times and surface are in range.
+    pub fn suns(&mut self, site: &JobSite, times: &Times, surface: &Surface) -> Vec<Numbers> {
+        let steps = match surface_fine(surface) {
+            true => steps_if_any(site, times),
             false => vec![],
         };
-        let in_year = steps.iter().filter(|step| step.hour < hours_of(&job.site));
-        let [tilt, orientation, base_height, height, width] = job.surface;
+        let in_year = steps.iter().filter(|step| step.hour < hours_of(site));
+        let [tilt, orientation, base_height, height, width] = *surface;
         in_year
             .map(|step| {
-                let row = self.hour(&job.site, &job.surface, step.hour, [0.0; 3]);
+                let row = self.hour(site, surface, step.hour, [0.0; 3]);
                 [
                     row[0],
                     row[1],

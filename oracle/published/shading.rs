@@ -189,12 +189,24 @@ pub(super) fn factor_by(
 /// The published record, kept from call to call.
 pub struct Judge {
     conditions: ExternalConditions,
+    surface: [f64; 5],
+    window: Vec<WindowShadingObject>,
 }
 
 impl Judge {
     pub fn new() -> Self {
         let conditions = sun_at(0.0, 0.0, vec![]);
-        Judge { conditions }
+        Judge {
+            conditions,
+            surface: [0.0; 5],
+            window: vec![],
+        }
+    }
+
+    /// What the published function gives in that edition for the last call that passed the checks.
+    pub fn factor_in(&self, edition: u64) -> Result<f64, u64> {
+        let (conditions, window) = (&self.conditions, &self.window);
+        factor_by(conditions, edition, &self.surface, window, FIRST_STEP)
     }
 
     /// 14, then 3, then 4, then what the published function gives.
@@ -217,7 +229,7 @@ impl Judge {
             return unseen(3);
         }
         match (sectors_of(sectors), window_of(window)) {
-            (Some(sectors), Some(window)) => self.published(edition, numbers, sectors, &window),
+            (Some(sectors), Some(window)) => self.published(edition, numbers, sectors, window),
             _ => unseen(4),
         }
     }
@@ -227,20 +239,21 @@ impl Judge {
         edition: u64,
         &[altitude, azimuth, ref surface @ ..]: &Numbers,
         sectors: Vec<ShadingSegment>,
-        window: &[WindowShadingObject],
+        window: Vec<WindowShadingObject>,
     ) -> Judged {
-        let conditions = &mut self.conditions;
-        conditions.solar_altitudes[0] = altitude;
-        conditions.solar_azimuth_angles[0] = azimuth;
-        conditions.shading_segments = Some(sectors);
-        let answer = match factor_by(conditions, edition, surface, window, FIRST_STEP) {
+        self.conditions.solar_altitudes[0] = altitude;
+        self.conditions.solar_azimuth_angles[0] = azimuth;
+        self.conditions.shading_segments = Some(sectors);
+        self.surface = *surface;
+        self.window = window;
+        let answer = match self.factor_in(edition) {
             Ok(factor) => FactorAnswer { number: 0, factor },
             Err(number) => refused(number),
         };
         let [tilt, orientation, ..] = *surface;
         Judged {
             answer,
-            walked: walked(conditions, tilt, angle(orientation), answer.number),
+            walked: walked(&self.conditions, tilt, angle(orientation), answer.number),
         }
     }
 }

@@ -38,8 +38,9 @@ pub const WRONG_EDITIONS: [u64; 22] = [
 /// One of both, and now and then another word.
 pub fn any_edition(random: &mut Random) -> u64 {
     match random.below(64) {
+        0 if random.below(8) == 0 => random.word() | 4,
         0 => WRONG_EDITIONS[random.below(WRONG_EDITIONS.len())],
-        1 => random.word() | 4,
+        1 => [0, 3, (1 << 32) + 1, (1 << 32) + 2][random.below(4)],
         n => EDITIONS[n % 2],
     }
 }

@@ -125,15 +125,13 @@ impl Met {
     }
 
     /// Notes the fins of a random call.
-    fn note_fins(&mut self, judge: &mut Judge, call: &Call, judged: &Judged) {
+    fn note_fins(&mut self, judge: &Judge, call: &Call, judged: &Judged) {
         let mut seen = Seen::default();
         if has_fins_on_both_sides(&call.window) {
             seen.note(&call.numbers, judged.walked.is_some());
             if judged.answer.number == 0 && judged.walked.is_some() {
-                let mut other = call.clone();
-                other.edition = other_edition(call.edition);
-                let other = self::judged(judge, &other).answer;
-                seen.other = !same(judged.answer.factor, other.factor);
+                let other = judge.factor_in(other_edition(call.edition));
+                seen.other = !other.is_ok_and(|other| same(judged.answer.factor, other));
             }
         }
         self.fins.note(call.edition, &seen);
@@ -231,25 +229,21 @@ pub fn smaller(call: &Call) -> Vec<Call> {
 /// What is to be tried.
 #[derive(Clone, Copy)]
 pub struct Plan<'a> {
-    /// Whether the calls at the edges come first; else all are random.
-    pub edges: bool,
+    /// The calls at the edges, which come first.
+    pub edges: &'a [Call],
     /// Whether answers are compared; else the laws are tried alone.
     pub compared: bool,
     pub laws: &'a [Law],
 }
 
 /// All edges, then random calls up to the count, with a word for these.
-fn calls(
-    random: &mut Random,
-    edges: bool,
+fn calls<'a>(
+    random: &'a mut Random,
+    edges: &'a [Call],
     count: usize,
-) -> impl Iterator<Item = (Call, bool)> + '_ {
-    let edges = match edges {
-        true => edges::all(),
-        false => vec![],
-    };
+) -> impl Iterator<Item = (Call, bool)> + 'a {
     let more = count.saturating_sub(edges.len());
-    let edges = edges.into_iter().map(|call| (call, false));
+    let edges = edges.iter().map(|call| (call.clone(), false));
     edges.chain((0..more).map(|_| (scenes::any_call_of_any_edition(random), true)))
 }
 
@@ -278,7 +272,7 @@ pub fn run(settings: &Settings, function: FactorCall, plan: Plan) -> Outcome {
             }
             met.note(&judged);
             if by_chance {
-                met.note_fins(&mut judge, &call, &judged);
+                met.note_fins(&judge, &call, &judged);
             }
             tally.both_nan += right.factor.is_nan() as u64;
         }
@@ -298,7 +292,7 @@ pub fn run(settings: &Settings, function: FactorCall, plan: Plan) -> Outcome {
 pub fn section(settings: &Settings, function: FactorCall) -> Outcome {
     settings.heading("the direct shading factor of one step: published Rust against Rattle");
     let plan = Plan {
-        edges: true,
+        edges: &edges::all(),
         compared: true,
         laws: &LAWS,
     };

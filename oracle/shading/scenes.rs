@@ -154,7 +154,7 @@ fn any_angle(random: &mut Random, low: f64, high: f64) -> f64 {
 }
 
 /// One turn brings it into −180..180, where sectors are.
-fn turned_back(azimuth: f64) -> f64 {
+pub fn turned_back(azimuth: f64) -> f64 {
     match azimuth {
         a if a > 180.0 => a - 360.0,
         a if a < -180.0 => a + 360.0,

@@ -3,7 +3,7 @@
 
 use super::laws::LAWS;
 use super::walks::{all_ends, Walks};
-use super::{run as section, wrong, Plan};
+use super::{edges, run as section, wrong, Plan};
 use crate::comparison::{Outcome, Settings};
 use crate::published::interface;
 
@@ -46,15 +46,13 @@ pub fn run(seed: u64) -> Outcome {
         print: false,
     };
     every_place_is_asked_for(settings)?;
+    let edges = edges::all();
     let plan = Plan {
-        edges: true,
+        edges: &edges,
         compared: true,
         laws: &[],
     };
-    let by_chance = Plan {
-        edges: false,
-        ..plan
-    };
+    let by_chance = Plan { edges: &[], ..plan };
     section(settings, wrong::without_flaw(), plan)
         .map_err(|words| format!("self-test, the plain factor: {words}"))?;
     let mut count = found(settings, plan, &wrong::factor())?;
