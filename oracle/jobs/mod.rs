@@ -14,7 +14,7 @@ mod wrong_totals;
 
 use crate::comparison::{same, shown, Outcome, Settings, Tally, With};
 use crate::guarded::Side;
-use crate::pilgartze::{DAY, TOTALS};
+use crate::pilgartze::{DAY, EDITION_2, TOTALS};
 use crate::published::beyond::{Aimed, Sums};
 use crate::published::jobs::*;
 use crate::published::shading::{edition_fine, outside_beam};

@@ -4,7 +4,7 @@
 //! is asked for; a step's row is the judge's own. `wrong_totals.rs` has what it does about the totals.
 
 use super::lent::Library;
-use crate::pilgartze::{days_in_year, totals_length, totals_of, DAY, DAYS};
+use crate::pilgartze::{days_in_year, totals_length, totals_of, DAY, DAYS, EDITION_2};
 use crate::published::days::{day_in, day_table, DayValues};
 use crate::published::jobs::*;
 use crate::published::shading::{

@@ -14,8 +14,7 @@ use super::walk::{walked, Walked};
 use super::wrong::Otherwise;
 use super::*;
 pub use crate::pilgartze::{
-    doubles_of, Answer as RunAnswer, Site as JobSite, DAYS_LENGTH, EDITION_1, EDITION_2,
-    IRRADIANCE_ROW, ROW,
+    doubles_of, Answer as RunAnswer, Site as JobSite, DAYS_LENGTH, EDITION_1, IRRADIANCE_ROW, ROW,
 };
 use crate::random::Random;
 use crate::stand_ins::{beyond_in, Beyond};

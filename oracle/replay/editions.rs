@@ -4,6 +4,7 @@
 use crate::comparison::{same, Settings};
 use crate::jobs::cases::Maker;
 use crate::jobs::edges;
+use crate::pilgartze::EDITION_2;
 use crate::published::jobs::*;
 use crate::published::shading::{self, Numbers};
 use crate::random::Random;
