@@ -75,6 +75,7 @@ impl<'a> Lent<'a> {
             reflectivity: &self.reflectivity,
         };
         let shading = Shading {
+            edition: self.job.edition,
             sectors: &self.sectors,
             window: &self.window,
         };
@@ -97,6 +98,7 @@ impl<'a> Lent<'a> {
             reflectivity: series.reflectivity[hour],
         };
         let shading = Shading {
+            edition: self.job.edition,
             sectors: &self.sectors,
             window: &self.window,
         };

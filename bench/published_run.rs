@@ -1,8 +1,9 @@
 //! A whole run by the published Rust in its original form: the tables of all hours of the year
-//! first, then step by step.
+//! first, then step by step. In edition 2 the factor is the second copy of the published one.
 //!
 //! Functions and fields of the published items are private to the module they stand in: this one.
 
+use crate::pilgartze::EDITION_1;
 use crate::stand_ins::StandIns;
 use crate::support::{anyhow, Mutex};
 use crate::{DistantObject, Job, Row, Sector, Series, WindowObject, SITE, SURFACE};
@@ -10,6 +11,9 @@ use std::collections::HashMap;
 use std::sync::{Arc, OnceLock};
 
 include!(env!("ORACLE_PUBLISHED_ITEMS"));
+
+#[path = "../oracle/published/fins.rs"]
+mod fins;
 
 /// What the record takes over; made before a run, so that copying it does not count.
 pub struct Given {
@@ -96,13 +100,18 @@ pub fn run(job: &Job, given: Given, rows: &mut Vec<Row>) -> anyhow::Result<f64> 
     let time = SimulationTime::new(job.start, job.end, job.step);
     let year = conditions(&time, given.series, given.sectors);
     let orientation = angle(SURFACE.orientation);
+    let factor = match job.edition {
+        EDITION_1 => ExternalConditions::direct_shading_reduction_factor,
+        _ => ExternalConditions::direct_shading_reduction_factor_edition_2,
+    };
     let mut sum = 0.0;
     rows.clear();
     for step in time.iter() {
         let hour = step.current_hour() as usize;
         let CalculatedDirectDiffuseTotalIrradiance(direct, diffuse, total, _) =
             year.calculated_direct_diffuse_total_irradiance(SURFACE.tilt, orientation, false, step);
-        let factor = year.direct_shading_reduction_factor(
+        let factor = factor(
+            &year,
             SURFACE.base_height,
             SURFACE.height,
             SURFACE.width,

@@ -1,5 +1,6 @@
 //! Microseconds for a whole run of the library and for one step, beside the published Rust's
-//! original form: tables of all hours of the year, then step by step.
+//! original form: tables of all hours of the year, then step by step. All is of edition 1 but for the
+//! lines that say otherwise.
 //!
 //! Both sides are given the same numbers and lists, at a site in the south of England. Before a line
 //! is measured their rows and sums are compared, bit for bit. The library checks all that it is
@@ -32,6 +33,7 @@ mod published_run;
 
 use comparison::{all_shown, same};
 use library::Lent;
+use pilgartze::{EDITION_1, EDITION_2};
 use random::Random;
 
 pub struct Site {
@@ -92,6 +94,7 @@ pub struct Sector {
 pub type WindowObject = (u64, f64, f64, f64);
 
 pub struct Job {
+    pub edition: u64,
     pub series: Series,
     pub start: f64,
     pub end: f64,
@@ -136,6 +139,7 @@ impl Lists {
             (kind, size, distance, transparency)
         };
         Job {
+            edition: EDITION_1,
             series: series(),
             start,
             end,
@@ -222,9 +226,12 @@ fn print(name: &str, (one, other): (f64, f64)) {
     println!("| {name} | {one:.digits$} | {other:.0} | {ratio:.places$} |");
 }
 
-fn measure_year(what: &str, lists: Lists, step: f64) -> Result<(), String> {
+fn measure_year(what: &str, edition: u64, lists: Lists, step: f64) -> Result<(), String> {
     let name = format!("{what}, {}", lists.name());
-    let job = lists.year(step);
+    let job = Job {
+        edition,
+        ..lists.year(step)
+    };
     let mut rows = compared(&job).map_err(|words| format!("{name}: {words}"))?;
     let mut lent = Lent::new(&job, rows.len());
     print(
@@ -276,13 +283,17 @@ fn measure_quarter_hours(lists: Lists) {
     );
 }
 
-/// The library alone: a year by hours and by quarter-hours, a run of one step, and the step by itself.
+/// The library alone: a year by hours in both editions and by quarter-hours, a run of one step, and the step by itself.
 fn measure_alone(lists: Lists) -> Result<(), String> {
-    for (what, step, count) in [
-        ("a year of hours", 1.0, HOURS),
-        ("a year of quarter-hours", 0.25, 4 * HOURS),
+    for (what, edition, step, count) in [
+        ("a year of hours", EDITION_1, 1.0, HOURS),
+        ("a year of hours, edition 2", EDITION_2, 1.0, HOURS),
+        ("a year of quarter-hours", EDITION_1, 0.25, 4 * HOURS),
     ] {
-        let year = lists.year(step);
+        let year = Job {
+            edition,
+            ..lists.year(step)
+        };
         let mut lent = Lent::new(&year, count);
         lent.run()?;
         let name = format!("{what}, µs: {}", lists.name());
@@ -313,10 +324,11 @@ fn run() -> Result<(), String> {
     }
     println!("| a run, beside the original form | Rattle, µs | Rust, µs | Rattle / Rust |");
     println!("|---|---:|---:|---:|");
-    measure_year("a year of hours", usual, 1.0)?;
-    measure_year("a year of hours", heavy, 1.0)?;
-    measure_year("a year of hours", none, 1.0)?;
-    measure_year("a year of quarter-hours", usual, 0.25)?;
+    measure_year("a year of hours", EDITION_1, usual, 1.0)?;
+    measure_year("a year of hours, edition 2", EDITION_2, usual, 1.0)?;
+    measure_year("a year of hours", EDITION_1, heavy, 1.0)?;
+    measure_year("a year of hours", EDITION_1, none, 1.0)?;
+    measure_year("a year of quarter-hours", EDITION_1, usual, 0.25)?;
     measure_one_step(usual)?;
     measure_one_step(heavy)?;
     println!();

@@ -39,7 +39,7 @@ mod published;
 
 use call::{sector, Call, Scene, WindowObject, LEFT_FIN, OBSTACLE, OVERHANG, RIGHT_FIN};
 use comparison::same;
-use pilgartze::{factor_by, FactorAnswer, Shading, Surface, FACTOR};
+use pilgartze::{factor_by, FactorAnswer, Shading, Surface, EDITION_1, FACTOR};
 use published::shading::Judge;
 
 const CALLS: usize = 1000;
@@ -72,6 +72,7 @@ fn scene(sectors: usize, objects: usize, near: usize, altitude: f64) -> Call {
     let azimuth = -180.0 + width / 2.0;
     let orientation = 180.0 - azimuth; // the surface faces the sun
     Scene {
+        edition: EDITION_1,
         numbers: [altitude, azimuth, 90.0, orientation, 1.0, 1.5, 1.2],
         sectors: (0..sectors)
             .map(|k| sector(k as f64 * width, (k + 1) as f64 * width, &triples))
@@ -91,6 +92,7 @@ fn rattle(call: &Call) -> FactorAnswer {
         width,
     };
     let shading = Shading {
+        edition: call.edition,
         sectors: &call.sectors,
         window: &call.window,
     };
@@ -135,7 +137,7 @@ fn measure_calls(sectors: usize, objects: usize, near: usize) -> Result<(), Stri
     let mut judge = Judge::new();
     let mut rust = |call: &Call| {
         judge
-            .answer(&call.numbers, &call.sectors, &call.window)
+            .answer(call.edition, &call.numbers, &call.sectors, &call.window)
             .answer
     };
     for call in &calls {

@@ -58,9 +58,16 @@ pub struct Reading {
     pub reflectivity: f64,
 }
 
-/// All that may shade the surface: records of 216 bytes (`sector`) and of 32 (`window_object`).
+/// Editions of the rule for fins: as the published Rust has it, for quotes that were made with it, and
+/// by which fins of both sides shade. Take the second.
+pub const EDITION_1: u64 = 1;
+pub const EDITION_2: u64 = 2;
+
+/// All that may shade the surface, and by which edition: records of 216 bytes (`sector`) and of 32
+/// (`window_object`).
 #[derive(Clone, Copy, Debug)]
 pub struct Shading<'a> {
+    pub edition: u64,
     pub sectors: &'a [u8],
     pub window: &'a [u8],
 }
@@ -174,10 +181,11 @@ pub enum Refusal {
     Turned = 9,
     NoSector = 10,
     Reveal = 11,
+    Edition = 14,
 }
 
 impl Refusal {
-    const ALL: [Refusal; 11] = [
+    const ALL: [Refusal; 12] = [
         Refusal::Site,
         Refusal::Run,
         Refusal::Surface,
@@ -189,12 +197,14 @@ impl Refusal {
         Refusal::Turned,
         Refusal::NoSector,
         Refusal::Reveal,
+        Refusal::Edition,
     ];
 
-    /// None for 0, an accepted call. The library gives no number above 11.
+    /// None for 0, an accepted call. The library gives no other numbers than these.
     pub fn of(number: u64) -> Option<Refusal> {
-        let place = number.checked_sub(1)?;
-        Some(Refusal::ALL[place as usize])
+        let known = |refusal: &Refusal| *refusal as u64 == number;
+        let refusal = || Refusal::ALL.into_iter().find(known);
+        (number != 0).then(|| refusal().expect("a number of the library's"))
     }
 }
 
@@ -356,7 +366,7 @@ macro_rules! functions {
 functions! {
     fn pilgartze_version() -> u64 as VersionCall;
     fn pilgartze_run(
-        latitude: f64, longitude: f64, timezone: i64, start_day: u64, series_step: f64,
+        edition: u64, latitude: f64, longitude: f64, timezone: i64, start_day: u64, series_step: f64,
         leap_year: u64, direct_beam_conversion: u64, start: f64, end: f64, step: f64, tilt: f64,
         orientation: f64, base_height: f64, height: f64, width: f64, diffuse: *const u8,
         diffuse_length: usize, direct: *const u8, direct_length: usize, reflectivity: *const u8,
@@ -365,7 +375,7 @@ functions! {
         totals_length: usize, results: *mut u8, results_length: usize,
     ) -> Answer as RunCall;
     fn pilgartze_step(
-        latitude: f64, longitude: f64, timezone: i64, start_day: u64, series_step: f64,
+        edition: u64, latitude: f64, longitude: f64, timezone: i64, start_day: u64, series_step: f64,
         leap_year: u64, direct_beam_conversion: u64, time: f64, tilt: f64, orientation: f64,
         base_height: f64, height: f64, width: f64, diffuse: f64, direct: f64, reflectivity: f64,
         sectors: *const u8, sectors_length: usize, window: *const u8, window_length: usize,
@@ -378,8 +388,8 @@ functions! {
         results: *mut u8, results_length: usize,
     ) -> u64 as IrradianceCall;
     fn pilgartze_factor(
-        altitude: f64, azimuth: f64, tilt: f64, orientation: f64, base_height: f64, height: f64,
-        width: f64, sectors: *const u8, sectors_length: usize, window: *const u8,
+        edition: u64, altitude: f64, azimuth: f64, tilt: f64, orientation: f64, base_height: f64,
+        height: f64, width: f64, sectors: *const u8, sectors_length: usize, window: *const u8,
         window_length: usize,
     ) -> FactorAnswer as FactorCall;
 }
@@ -407,6 +417,7 @@ pub unsafe fn run_by(
 ) -> Answer {
     #[rustfmt::skip] // a line for each struct or list
     let answer = call(
+        shading.edition,
         site.latitude, site.longitude, site.timezone, site.start_day, site.series_step,
         site.leap_year, site.direct_beam_conversion,
         times.start, times.end, times.step,
@@ -433,6 +444,7 @@ pub unsafe fn step_by(
     results: &mut [u8],
 ) -> u64 {
     call(
+        shading.edition,
         site.latitude,
         site.longitude,
         site.timezone,
@@ -496,6 +508,7 @@ pub unsafe fn factor_by(
     shading: Shading,
 ) -> FactorAnswer {
     call(
+        shading.edition,
         altitude,
         azimuth,
         surface.tilt,

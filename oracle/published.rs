@@ -17,6 +17,8 @@ pub mod beyond;
 pub mod conditions;
 #[path = "published/days.rs"]
 pub mod days;
+#[path = "published/fins.rs"]
+pub mod fins;
 #[path = "published/interface.rs"]
 pub mod interface;
 #[path = "published/irradiance.rs"]

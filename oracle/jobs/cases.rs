@@ -2,11 +2,11 @@
 
 use super::{tables, totals};
 use crate::published::jobs::*;
-use crate::published::shading::{Numbers, ALTITUDE, AZIMUTH, ORIENTATION, TILT};
+use crate::published::shading::{outside_beam, Numbers, ALTITUDE, AZIMUTH, ORIENTATION, TILT};
 use crate::published::totals::totals_needed;
 use crate::random::{ulps_from, Random, NAN_PATTERNS};
-use crate::shading::call::{sector, Call, Scene, Sector, END, START};
-use crate::shading::scenes::{self, edges_of_range, Aim};
+use crate::shading::call::{difference, sector, Call, Scene, Sector, END, START};
+use crate::shading::scenes::{self, edges_of_range, turned_back, Aim};
 
 /// The most words that a series can need: a year of quarter hours.
 const MOST_WORDS: usize = 36_000;
@@ -51,6 +51,9 @@ pub struct Maker {
     table_random: Random,
     totals_random: Random,
     pub aims: Aims,
+    /// Whether jobs have fins on both sides and, at one step at least, the sun up and inside the beam
+    /// across the north, so that the difference is beyond 180.
+    pub across_the_north: bool,
     target: Option<Target>,
     judge: Judge,
     /// Words of any kind, few of them readings, for entries that no step uses.
@@ -98,6 +101,7 @@ impl Maker {
             totals_random: random.beside("totals"),
             random,
             aims: Aims::Seldom,
+            across_the_north: false,
             target: None,
             judge,
             junk,
@@ -181,6 +185,60 @@ impl Maker {
         [start, end, step]
     }
 
+    /// A site and times with the sun up in the north: in the south about noon, or in the far north about
+    /// midnight in summer.
+    fn sun_to_the_north(&mut self, site: &mut JobSite, times: &mut Times) {
+        let [start, end, step] = *times;
+        let hours = if site.leap_year == 1 { 8784.0 } else { 8760.0 };
+        let (day, middle) = match self.random.below(4) {
+            0 => {
+                site.latitude = self.random.uniform(67.0, 85.0);
+                (140.0 + self.random.below(60) as f64, 24.0)
+            }
+            _ => {
+                site.latitude = self.random.uniform(-65.0, -15.0);
+                ((start / 24.0).floor(), 12.0)
+            }
+        };
+        let before = step * self.random.below(4) as f64;
+        let moved = 24.0 * day + middle - before;
+        let last = if start < end {
+            moved + (end - start)
+        } else {
+            moved
+        };
+        if moved >= 0.0 && last < hours {
+            times[0] = moved;
+            times[1] = if start < end { last } else { end.min(moved) };
+        }
+    }
+
+    /// Turns the surface away from a sun in the north, across it; or just to it, so that the difference
+    /// is 0 at one step and beyond 180 at another.
+    fn face_across_the_north(&mut self, numbers: &mut Numbers) {
+        let azimuth = numbers[AZIMUTH];
+        if (90.0..=180.0).contains(&azimuth.abs()) {
+            let by = match self.random.below(4) {
+                0 => 0.0,
+                _ => self.random.uniform(180.0 - azimuth.abs(), 90.0),
+            };
+            let from_south = turned_back(azimuth + by * azimuth.signum());
+            numbers[ORIENTATION] = 180.0 - from_south;
+        }
+    }
+
+    /// Whether a job is aimed where it has to be, and has the sun where it has to be.
+    fn is_well_placed(&mut self, site: &JobSite, times: &Times, numbers: &Numbers) -> bool {
+        let across = |numbers: &Numbers| {
+            numbers[ALTITUDE] > 0.0 && difference(numbers).abs() > 180.0 && !outside_beam(numbers)
+        };
+        if self.aims != Aims::Seldom && self.target.is_none() {
+            return false;
+        }
+        let surface = numbers[2..].try_into().unwrap();
+        !self.across_the_north || self.judge.suns(site, times, surface).iter().any(across)
+    }
+
     /// A day, for the most part not long before the run begins.
     fn any_start_day(&mut self, start: f64) -> u64 {
         let day = (start / 24.0) as u64;
@@ -239,9 +297,13 @@ impl Maker {
         if sectors.is_empty() && self.random.below(4) != 0 {
             sectors = vec![sector(0.0, 360.0, &[])];
         }
-        let window = scenes::any_window(&mut self.random, &aim);
+        let mut window = scenes::any_window(&mut self.random, &aim);
+        if self.across_the_north {
+            scenes::fins_put_in(&mut self.random, &aim, &mut window);
+        }
         let numbers = *numbers;
         let call = Scene {
+            edition: EDITION_1,
             numbers,
             sectors,
             window,
@@ -336,22 +398,31 @@ impl Maker {
 
     // --- Jobs ---
 
-    /// A job in range with these times.
-    fn job_at(&mut self, mut site: JobSite, times: Times) -> Job {
+    /// Sun and surface of a job in range with these times, and its site, aimed as they are to be.
+    fn placed(&mut self, site: &mut JobSite, times: &Times) -> Numbers {
         site.start_day = self.any_start_day(times[0]);
-        let steps = steps_of(&site, &times);
-        let sun = self.sun_of(&site, &steps);
+        let steps = steps_of(site, times);
+        let sun = self.sun_of(site, &steps);
         let mut numbers = self.any_numbers(sun);
+        if self.across_the_north {
+            self.face_across_the_north(&mut numbers);
+        }
         self.target = None;
         if self.aims != Aims::Seldom {
-            self.aim_squarely(&mut site, &mut numbers, &steps);
+            self.aim_squarely(site, &mut numbers, &steps);
         } else if !steps.is_empty() && self.random.below(8) == 0 {
             let hour = steps[self.random.below(steps.len())].hour.min(8783);
             let surface = (&mut numbers[2..]).try_into().unwrap();
-            aim(&mut self.random, &mut site, surface, hour);
+            aim(&mut self.random, site, surface, hour);
         }
-        let (sectors, window) = self.any_lists(&numbers);
+        numbers
+    }
+
+    /// The job that is placed so.
+    fn job_of(&mut self, site: JobSite, times: Times, numbers: &Numbers) -> Job {
+        let (sectors, window) = self.any_lists(numbers);
         let mut job = Job {
+            edition: EDITION_1,
             site,
             times,
             surface: numbers[2..].try_into().unwrap(),
@@ -364,6 +435,12 @@ impl Maker {
         };
         self.fit(&mut job);
         job
+    }
+
+    /// A job in range with these times.
+    fn job_at(&mut self, mut site: JobSite, times: Times) -> Job {
+        let numbers = self.placed(&mut site, &times);
+        self.job_of(site, times, &numbers)
     }
 
     /// One of the steps, for the most part one with a high sun.
@@ -455,11 +532,14 @@ impl Maker {
     /// A job with such times, as often as it takes until it is aimed where it has to be.
     fn aimed(&mut self, times: impl Fn(&mut Maker, &JobSite) -> Times) -> Job {
         loop {
-            let site = self.any_site();
-            let times = times(self, &site);
-            let job = self.job_at(site, times);
-            if self.aims == Aims::Seldom || self.target.is_some() {
-                return job;
+            let mut site = self.any_site();
+            let mut times = times(self, &site);
+            if self.across_the_north {
+                self.sun_to_the_north(&mut site, &mut times);
+            }
+            let numbers = self.placed(&mut site, &times);
+            if self.is_well_placed(&site, &times, &numbers) {
+                return self.job_of(site, times, &numbers);
             }
         }
     }
@@ -580,6 +660,7 @@ impl Maker {
         let (altitude, azimuth) = self.sun_of(&job.site, &steps);
         let [tilt, orientation, base_height, height, width] = job.surface;
         Scene::of(&Call {
+            edition: job.edition,
             numbers: [
                 altitude,
                 azimuth,
@@ -750,6 +831,7 @@ impl Maker {
             _ => 0,
         };
         Single {
+            edition: job.edition,
             site: job.site,
             time,
             surface: job.surface,

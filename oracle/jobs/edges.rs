@@ -1,12 +1,15 @@
 //! Jobs at the edges, one by one.
 
 use super::cases::{Aims, Maker};
+use crate::pilgartze::window_object;
 use crate::published::jobs::*;
 use crate::published::shading::{
-    Numbers, MOST_SECTORS, MOST_WINDOW_OBJECTS, ORIENTATION, SECTOR_WORDS, WINDOW_WORDS,
+    edition_fine, Numbers, MOST_SECTORS, MOST_WINDOW_OBJECTS, ORIENTATION, SECTOR_WORDS,
+    WINDOW_WORDS,
 };
 use crate::random::{ulps_from, Random, NAN_PATTERNS};
-use crate::shading::call::{sector, Call, Scene, OVERHANG, REVEAL};
+use crate::shading::call::{sector, Scene, LEFT_FIN, OVERHANG, REVEAL, RIGHT_FIN};
+use crate::shading::editions::{EDITIONS, WRONG_EDITIONS};
 use crate::shading::scenes::edges_of_range;
 use crate::shading::walks::{all_ends, obstacle_at, sectors_ending};
 
@@ -94,11 +97,7 @@ fn lengths(jobs: &mut Vec<Job>, job: &Job, maker: &mut Maker) {
 
 /// The lists of objects at every length about a whole record, and about the most there may be.
 fn object_lengths(jobs: &mut Vec<Job>, job: &Job) {
-    let scene = Scene::of(&Call {
-        numbers: [0.0; 7],
-        sectors: job.sectors.clone(),
-        window: job.window.clone(),
-    });
+    let scene = Scene::of(&job.objects());
     let width = 360.0 / (MOST_SECTORS + 2) as f64;
     let around =
         (0..MOST_SECTORS + 2).map(|i| sector(i as f64 * width, (i + 1) as f64 * width, &[]));
@@ -109,6 +108,7 @@ fn object_lengths(jobs: &mut Vec<Job>, job: &Job) {
         .copied()
         .chain([near; MOST_WINDOW_OBJECTS + 2]);
     let long = Scene {
+        edition: job.edition,
         numbers: [0.0; 7],
         sectors: around.collect(),
         window: window.take(MOST_WINDOW_OBJECTS + 2).collect(),
@@ -155,6 +155,7 @@ fn readings(jobs: &mut Vec<Job>, job: &Job) {
 pub fn sectors_of(bounds: &[(f64, f64)]) -> Vec<u8> {
     let sectors = bounds.iter().map(|&(start, end)| sector(start, end, &[]));
     let scene = Scene {
+        edition: EDITION_1,
         numbers: [0.0; 7],
         sectors: sectors.collect(),
         window: vec![],
@@ -183,11 +184,7 @@ pub fn fault(job: &mut Job, number: u32, variant: usize) {
         9 => job.sectors = sectors_of(&[(200.0, 100.0)]),
         10 => job.sectors = sectors_of(&[]),
         _ => {
-            let mut scene = Scene::of(&Call {
-                numbers: [0.0; 7],
-                sectors: vec![],
-                window: job.window.clone(),
-            });
+            let mut scene = Scene::of(&job.objects());
             scene.window.truncate(15);
             let one = 1.0f64.to_bits();
             scene.window.push([REVEAL, one, one, 0]);
@@ -389,6 +386,7 @@ pub fn walks() -> Vec<Job> {
             let obstacle = |place: usize| obstacle_at(&numbers, place);
             let sectors = sectors_ending(walked, MOST_SECTORS, numbers[ORIENTATION], obstacle);
             let scene = Scene {
+                edition: job.edition,
                 numbers,
                 sectors,
                 window: vec![],
@@ -495,7 +493,141 @@ pub fn sums() -> Vec<Job> {
     jobs
 }
 
-/// All that are tried one by one.
+// --- Editions and fins ---
+
+/// The job in both editions; one that names none stays as it is.
+pub fn in_both_editions(job: &Job) -> [Job; 2] {
+    EDITIONS.map(|edition| Job {
+        edition: match edition_fine(job.edition) {
+            true => edition,
+            false => job.edition,
+        },
+        ..job.clone()
+    })
+}
+
+/// All of them in edition 1, and then in edition 2.
+pub fn all_in_both_editions(jobs: &[Job]) -> Vec<Job> {
+    let both: Vec<[Job; 2]> = jobs.iter().map(in_both_editions).collect();
+    let of = |place: usize| both.iter().map(move |both| both[place].clone());
+    of(0).chain(of(1)).collect()
+}
+
+/// Some of its steps, none and one, with each edition and each word that names none.
+fn every_edition(jobs: &mut Vec<Job>, job: &Job, maker: &mut Maker) {
+    let mut no_steps = job.clone();
+    no_steps.times = [5.0, 5.0, 1.0];
+    maker.fit(&mut no_steps);
+    let (first_step, _) = one_step(job, maker);
+    for job in [job, &no_steps, &first_step] {
+        for edition in EDITIONS.into_iter().chain(WRONG_EDITIONS) {
+            jobs.push(Job {
+                edition,
+                ..job.clone()
+            });
+        }
+    }
+}
+
+/// Every set of faults, and none, each with a word that names no edition, these by turns.
+fn sets_with_wrong_editions(jobs: &mut Vec<Job>, job: &Job, variant: usize) {
+    let mut sets = vec![job.clone()];
+    sets_of_faults(&mut sets, job, variant);
+    let wrong = sets.into_iter().zip(WRONG_EDITIONS.into_iter().cycle());
+    jobs.extend(wrong.map(|(job, edition)| Job { edition, ..job }));
+}
+
+/// Sites and hours with the sun up in the north, or about: noons of the south, and midnights of the far
+/// north in summer.
+const SUNS_IN_THE_NORTH: [(f64, [f64; 3]); 4] = [
+    (-33.9, [10.0, 12.0, 13.0]),
+    (-52.0, [4089.0, 4091.0, 4092.0]),
+    (-26.2, [8459.0, 8460.0, 8461.0]),
+    (71.0, [4101.0, 4103.0, 4104.0]),
+];
+
+/// The sun's azimuth less the orientation from south: on either side, square on, at the ends of the
+/// beam, outside it, and beyond 180.
+const DIFFERENCES: [f64; 12] = [
+    0.0, 30.0, 60.0, 90.0, 150.0, 270.0, 271.0, 290.0, 315.0, 330.0, 350.0, 359.0,
+];
+
+/// Fins of one side, of both, and of both with an overhang; an overhang alone.
+fn windows() -> [Vec<u8>; 5] {
+    let right = window_object(RIGHT_FIN, 0.5, 0.0, 0.0);
+    let left = window_object(LEFT_FIN, 0.4, 0.05, 0.0);
+    let overhang = window_object(OVERHANG, 0.3, 0.1, 0.0);
+    [
+        right.to_vec(),
+        left.to_vec(),
+        [right, left].concat(),
+        [left, overhang, right].concat(),
+        overhang.to_vec(),
+    ]
+}
+
+/// The job at that latitude and hour, a single step, with nothing in the distance.
+fn in_the_north(maker: &mut Maker, plain: &Job, latitude: f64, hour: f64) -> Job {
+    let mut job = plain.clone();
+    (job.site.latitude, job.site.longitude) = (latitude, 0.7);
+    (job.site.timezone, job.site.leap_year) = (0, 0);
+    (job.site.start_day, job.site.series_step) = ((hour / 24.0) as u64, 1.0);
+    job.surface = [90.0, 0.0, 0.5, 1.0, 1.0];
+    job.times = [hour, hour + 1.0, 1.0];
+    job.sectors = sectors_of(&[(0.0, 360.0)]);
+    maker.fit(&mut job);
+    job
+}
+
+/// Runs of one step with the sun in the north at each of these differences, on either side, where a
+/// surface can face so; and a day there, at surfaces to the north; each with each of these windows.
+fn fins(maker: &mut Maker, plain: &Job) -> Vec<Job> {
+    let mut jobs = vec![];
+    for (latitude, hours) in SUNS_IN_THE_NORTH {
+        for hour in hours {
+            let mut job = in_the_north(maker, plain, latitude, hour);
+            let (_, azimuth) = maker.sun_of(&job.site, &steps_of(&job.site, &job.times));
+            for difference in DIFFERENCES.into_iter().flat_map(|x| [x, -x]) {
+                job.surface[1] = 180.0 - (azimuth - difference);
+                if (0.0..=360.0).contains(&job.surface[1]) {
+                    jobs.push(job.clone());
+                }
+            }
+        }
+        for orientation in [0.0, 15.0, 345.0, 360.0] {
+            let mut day = in_the_north(maker, plain, latitude, hours[0]);
+            day.times = [hours[0], hours[0] + 24.0, 1.0];
+            day.surface[1] = orientation;
+            maker.fit(&mut day);
+            jobs.push(day);
+        }
+    }
+    let with = |job: &Job| {
+        windows().map(|window| Job {
+            window,
+            ..job.clone()
+        })
+    };
+    jobs.iter().flat_map(with).collect()
+}
+
+/// Jobs about the edition and about fins. Not part of `edges` either.
+pub fn editions() -> Vec<Job> {
+    let mut maker = Maker::new(Random::new(1, "jobs about editions"));
+    let plain = plain_jobs(&mut maker);
+    let mut jobs = vec![];
+    for job in &plain {
+        every_edition(&mut jobs, job, &mut maker);
+    }
+    let fins = fins(&mut maker, &plain[0]);
+    jobs.extend(all_in_both_editions(&fins));
+    for (variant, job) in plain.iter().enumerate() {
+        sets_with_wrong_editions(&mut jobs, job, variant);
+    }
+    jobs
+}
+
+/// Those of edition 1 that are tried one by one.
 pub fn all() -> Vec<Job> {
     let mut jobs = edges();
     jobs.extend(under_the_sun());

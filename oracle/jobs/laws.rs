@@ -1,5 +1,6 @@
 //! Two jobs compared: the factor's laws over whole runs, from the first step to the last, over their
-//! sums and over their totals of days and months.
+//! sums and over their totals of days and months. Both name the same edition, but for what the editions
+//! have in common.
 
 use super::lent::Lent;
 use crate::comparison::{same, shown, Outcome, Settings};
@@ -9,6 +10,7 @@ use crate::published::shading::{outside_beam, Numbers};
 use crate::published::totals::{days_of, month_of};
 use crate::random::Random;
 use crate::shading::call::{Call, Scene};
+use crate::shading::editions::{editions_agree, has_left_fin};
 use crate::shading::laws::{extents_are_numbers, Law, LAWS};
 
 /// How many pairs of jobs were tried for each law, and how many of their steps; a pair with the same
@@ -20,6 +22,8 @@ pub struct Pairs {
     /// Days and months that have a step, and those of them whose sum was smaller with further objects.
     records: u64,
     smaller: u64,
+    /// Steps with left fins at which both editions have the same factor.
+    alike: u64,
     skipped: u64,
 }
 
@@ -41,6 +45,14 @@ impl Pairs {
                 ));
             }
             settings.detail("smaller with more objects", self.smaller);
+        }
+        if laws.contains(&Law::OtherEdition) {
+            if self.alike == 0 {
+                return Err(String::from(
+                    "run: no step at which both editions have to agree",
+                ));
+            }
+            settings.detail("steps alike in both editions", self.alike);
         }
         settings.detail("laws not tried: an extent might be NaN", self.skipped);
         Ok(())
@@ -107,6 +119,8 @@ fn sums_hold(law: Law, sum: f64, other: f64, unshaded: f64) -> bool {
         Law::Reordered | Law::Repeated => same(sum, other),
         Law::Enlarged => other <= sum,
         Law::Emptied => same(other, unshaded),
+        // the sums are of other steps too
+        Law::OtherEdition => true,
     }
 }
 
@@ -151,7 +165,7 @@ fn totals_broken(
             return Some(format!("totals {place}, {kept:?} and {other:?}"));
         }
     }
-    let same_objects = !matches!(law, Law::Enlarged | Law::Emptied);
+    let same_objects = !matches!(law, Law::Enlarged | Law::Emptied | Law::OtherEdition);
     let other_bytes = same_objects && left.totals != other.totals;
     other_bytes.then(|| String::from("bytes of the totals"))
 }
@@ -169,17 +183,17 @@ fn no_nan_extent(numbers: &Numbers) -> bool {
     extents_are_numbers(numbers) || outside_beam(numbers)
 }
 
-/// The job with other objects; further ones are aimed by the sun of one of the rows.
+/// The job with other objects, or in the other edition; further objects are aimed by the sun of one of the rows.
 fn changed(law: Law, random: &mut Random, job: &Job, rows: &Rows) -> Job {
     let sun = numbers(job, &rows.0[random.below(rows.0.len())]);
     let mut scene = Scene::of(&Call {
         numbers: sun,
-        sectors: job.sectors.clone(),
-        window: job.window.clone(),
+        ..job.objects()
     });
     law.change(random, &mut scene);
     let call = scene.call();
     Job {
+        edition: call.edition,
         sectors: call.sectors,
         window: call.window,
         ..job.clone()
@@ -195,7 +209,9 @@ fn broken(law: Law, job: &Job, left: &Left<RunAnswer>, other: &Left<RunAnswer>) 
         return Some(format!("number {}", other.answer.number));
     }
     for (step, (row, other)) in rows.0.iter().zip(&other_rows.0).enumerate() {
-        if !law.holds(row[5], other[5]) || !same(row[2], other[2]) {
+        let says_nothing = law == Law::OtherEdition && !editions_agree(&numbers(job, row));
+        let holds = says_nothing || law.holds(row[5], other[5]);
+        if !holds || !same(row[2], other[2]) {
             let (factor, other) = (shown(row[5]), shown(other[5]));
             return Some(format!("step {step}, factors {factor} and {other}"));
         }
@@ -204,6 +220,17 @@ fn broken(law: Law, job: &Job, left: &Left<RunAnswer>, other: &Left<RunAnswer>) 
         return Some(format!("sums {} and {}", shown(sum), shown(other_sum)));
     }
     totals_broken(law, job, left, other)
+}
+
+/// The steps with left fins at which both editions have to give the same factor.
+fn steps_alike(job: &Job, rows: &Rows) -> usize {
+    match has_left_fin(&job.window) {
+        true => {
+            let alike = |row: &&[f64; ROW]| editions_agree(&numbers(job, row));
+            rows.0.iter().filter(alike).count()
+        }
+        false => 0,
+    }
 }
 
 /// Tries the laws on a job that was accepted and left this.
@@ -221,7 +248,11 @@ pub fn try_laws(
         pairs.skipped += !all_numbers as u64;
         return Ok(());
     }
+    let alike = steps_alike(job, &rows);
     for &law in laws {
+        if law == Law::OtherEdition && alike == 0 {
+            continue;
+        }
         let other = changed(law, random, job, &rows);
         if law != Law::Range && other == *job {
             continue;
@@ -237,6 +268,7 @@ pub fn try_laws(
         }
         pairs.tried[law as usize] += 1;
         pairs.steps += rows.0.len() as u64;
+        pairs.alike += if law == Law::OtherEdition { alike } else { 0 } as u64;
         pairs.note_totals(law, job, left, &got);
     }
     Ok(())

@@ -169,7 +169,11 @@ impl Lent {
                 direct,
                 reflectivity,
             };
-            let shading = Shading { sectors, window };
+            let shading = Shading {
+                edition: job.edition,
+                sectors,
+                window,
+            };
             let (call, site) = (library.run, &job.site);
             unsafe {
                 run_by(
@@ -187,7 +191,11 @@ impl Lent {
         let lists: [&[u8]; LISTS] = [&[], &[], &[], sectors, window, &[], &[], results];
         self.with("step", lists, |library, lent, [.., results]| {
             let [.., sectors, window] = lent;
-            let shading = Shading { sectors, window };
+            let shading = Shading {
+                edition: single.edition,
+                sectors,
+                window,
+            };
             let call = library.step;
             unsafe { step_by(call, site, *time, &surface, &reading, shading, results) }
         })

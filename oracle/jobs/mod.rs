@@ -14,11 +14,14 @@ mod wrong_totals;
 
 use crate::comparison::{same, shown, Outcome, Settings, Tally, With};
 use crate::guarded::Side;
-use crate::pilgartze::{DAY, TOTALS};
+use crate::pilgartze::{DAY, EDITION_2, TOTALS};
 use crate::published::beyond::{Aimed, Sums};
 use crate::published::jobs::*;
+use crate::published::shading::{edition_fine, outside_beam};
 use crate::published::walk::End;
+use crate::random::Random;
 use crate::shading::call::Call;
+use crate::shading::editions::{any_edition, has_fins_on_both_sides, FinsMet, Seen};
 use crate::shading::laws::Law;
 use crate::shading::smaller;
 use crate::shading::walks::Walks;
@@ -35,11 +38,12 @@ pub struct Fixed {
     pub edges: Vec<Job>,
     /// Jobs of one step, which is called by itself too.
     pub walks: Vec<Job>,
-    /// Jobs with tables of days of every length and contents, lent at either end of their pages.
+    /// Jobs with tables of days of every length and contents, lent at either end of their pages, in
+    /// another edition at each.
     pub tables: Vec<Job>,
     /// Jobs about the first and the last days of the year.
     pub turns: Vec<Job>,
-    /// Jobs with totals of every length and contents, lent at either end of their pages.
+    /// Jobs with totals of every length and contents, lent so too.
     pub totals: Vec<Job>,
     /// Jobs about the days and months of the totals.
     pub calendar: Vec<Job>,
@@ -47,10 +51,20 @@ pub struct Fixed {
 
 impl Fixed {
     pub fn all() -> Self {
+        let mut edges = edges::all_in_both_editions(&edges::all());
+        edges.extend(edges::editions());
         Fixed {
-            edges: edges::all(),
-            walks: edges::walks(),
+            edges,
+            walks: edges::all_in_both_editions(&edges::walks()),
             ..Fixed::lists()
+        }
+    }
+
+    /// Those about editions and fins.
+    pub fn editions() -> Self {
+        Fixed {
+            edges: edges::editions(),
+            ..Fixed::default()
         }
     }
 
@@ -70,7 +84,7 @@ impl Fixed {
         tables.extend(tables::formers());
         Fixed {
             tables,
-            turns: tables::turns_of_the_year(),
+            turns: edges::all_in_both_editions(&tables::turns_of_the_year()),
             ..Fixed::default()
         }
     }
@@ -109,6 +123,7 @@ pub struct Plan<'a> {
     /// Random jobs; nine in twenty are aimed at the sun, so that a third is left when some of them,
     /// and of their single steps, are damaged.
     pub jobs: usize,
+    /// Whole years, each in both editions.
     pub years: usize,
     /// Short random jobs that are all aimed at the sun.
     pub aimed: usize,
@@ -132,6 +147,31 @@ impl Plan<'_> {
     }
 }
 
+// --- Their objects ---
+
+impl Job {
+    /// Edition and objects as a call of the factor has them, without sun and surface.
+    pub fn objects(&self) -> Call {
+        Call {
+            edition: self.edition,
+            numbers: [0.0; 7],
+            sectors: self.sectors.clone(),
+            window: self.window.clone(),
+        }
+    }
+}
+
+impl Single {
+    pub fn objects(&self) -> Call {
+        Call {
+            edition: self.edition,
+            numbers: [0.0; 7],
+            sectors: self.sectors.clone(),
+            window: self.window.clone(),
+        }
+    }
+}
+
 // --- Telling ---
 
 pub fn shown_job(job: &Job) -> String {
@@ -142,8 +182,9 @@ pub fn shown_job(job: &Job) -> String {
         direct_beam_conversion,
         ..
     } = job.site;
+    let edition = job.edition;
     let whole = format!(
-        "  timezone {timezone}, start day {start_day}, leap year {leap_year}, conversion \
+        "  edition {edition}, timezone {timezone}, start day {start_day}, leap year {leap_year}, conversion \
          {direct_beam_conversion}"
     );
     let doubles = [
@@ -185,17 +226,19 @@ fn shown_series(name: &str, series: &[u8], job: &Job) -> String {
 fn shown_objects(surface: &Surface, sectors: &[u8], window: &[u8]) -> String {
     let &[tilt, orientation, base_height, height, width] = surface;
     let call = Call {
+        edition: EDITION_1,
         numbers: [0.0, 0.0, tilt, orientation, base_height, height, width],
         sectors: sectors.to_vec(),
         window: window.to_vec(),
     };
     let lines = call.shown();
-    let lines: Vec<&str> = lines.lines().skip(2).collect(); // no sun here
+    let lines: Vec<&str> = lines.lines().skip(3).collect(); // no edition and no sun here
     lines.join("\n")
 }
 
 fn shown_single(single: &Single) -> String {
     let job = Job {
+        edition: single.edition,
         site: single.site,
         times: [single.time, single.time, 1.0],
         surface: single.surface,
@@ -291,12 +334,7 @@ fn difference(job: &Job, judge: &mut Judge, lent: &mut Lent) -> String {
 
 /// The job without one of its records, or with fewer steps.
 fn smaller_jobs(job: &Job) -> Vec<Job> {
-    let call = Call {
-        numbers: [0.0; 7],
-        sectors: job.sectors.clone(),
-        window: job.window.clone(),
-    };
-    let mut all: Vec<Job> = smaller(&call)
+    let mut all: Vec<Job> = smaller(&job.objects())
         .into_iter()
         .map(|call| Job {
             sectors: call.sectors,
@@ -368,7 +406,7 @@ fn must_be_numbers(call: &str, doubles: &[f64], shown: impl Fn() -> String) -> O
 // --- Counting ---
 
 /// The specification's words for its numbers.
-const WORDS: [&str; 12] = [
+const WORDS: [&str; NUMBERS] = [
     "accepted",
     "site",
     "run",
@@ -381,7 +419,19 @@ const WORDS: [&str; 12] = [
     "turned",
     "no sector",
     "reveal",
+    "line",
+    "unknown",
+    "edition",
 ];
+
+/// One more than the greatest number of a refusal.
+const NUMBERS: usize = 15;
+
+/// The numbers that a run gives.
+const GIVEN: [usize; 13] = [0, 1, 2, 3, 4, 5, 6, 7, 8, 9, 10, 11, 14];
+
+/// Those that come before anything is stored.
+const BEFORE_ANY_STORE: [usize; 8] = [1, 2, 3, 4, 5, 6, 7, 14];
 
 /// Sums beyond ±1 in the steps of one kind of call, how many calls were aimed at them, and how many
 /// walks under an altitude's sum above 1 ended at a sector and at none.
@@ -481,10 +531,10 @@ struct Met {
     runs: Sunward,
     steps: Sunward,
     irradiances: Sunward,
-    run: [u64; 12],
-    later: [u64; 12],
-    step: [u64; 12],
-    irradiance: [u64; 12],
+    run: [u64; NUMBERS],
+    later: [u64; NUMBERS],
+    step: [u64; NUMBERS],
+    irradiance: [u64; NUMBERS],
     no_steps: u64,
     one_above_end: u64,
     leap_day: u64,
@@ -498,6 +548,8 @@ struct Met {
     step_walks: Walks,
     tables: Tables,
     totals: TotalsMet,
+    /// Of the random jobs.
+    fins: FinsMet,
 }
 
 impl Met {
@@ -533,15 +585,15 @@ impl Met {
     /// The calls by the number they gave.
     fn by_number(&self) -> Vec<(String, u64)> {
         let mut counts = vec![];
-        for number in 0..12 {
+        for number in GIVEN {
             let word = WORDS[number];
             counts.push((format!("run, {number} {word}"), self.run[number]));
-            if number >= 8 {
+            if (8..=11).contains(&number) {
                 let words = format!("run, {number} {word}, past step 0");
                 counts.push((words, self.later[number]));
             }
         }
-        for number in [0, 1, 2, 3, 4, 6, 7, 8, 9, 10, 11] {
+        for number in [0, 1, 2, 3, 4, 6, 7, 8, 9, 10, 11, 14] {
             let words = format!("single step, {number} {}", WORDS[number]);
             counts.push((words, self.step[number]));
         }
@@ -572,6 +624,7 @@ impl Met {
             settings.detail(what, *count);
         }
         self.sums.report(settings)?;
+        self.fins.report(settings, "job")?;
         self.tables.report(settings)?;
         self.totals.report(settings)?;
         self.runs.report(settings, "run")?;
@@ -584,6 +637,24 @@ impl Met {
     }
 }
 
+/// What a job with fins on both sides has for them, at any of its steps inside the beam.
+fn seen(judge: &mut Judge, job: &Job) -> Seen {
+    let mut seen = Seen::default();
+    if !has_fins_on_both_sides(&job.window) {
+        return seen;
+    }
+    for numbers in judge.suns(&job.site, &job.times, &job.surface) {
+        if !outside_beam(&numbers) {
+            seen.note(&numbers, true);
+        }
+    }
+    if seen.inside && edition_fine(job.edition) {
+        let [one, other] = edges::in_both_editions(job).map(|job| judge.run_on_copies(&job));
+        seen.other = one.results != other.results;
+    }
+    seen
+}
+
 // --- The section ---
 
 struct Comparison<'a> {
@@ -592,8 +663,11 @@ struct Comparison<'a> {
     lent: Lent,
     met: Met,
     pairs: Pairs,
-    laws_random: crate::random::Random,
+    laws_random: Random,
+    editions_random: Random,
     tally: Tally,
+    /// Accepted jobs of each edition.
+    accepted: [usize; 2],
     by_new: u64,
     years_accepted: u64,
     by_the_hour: u64,
@@ -615,7 +689,7 @@ impl Comparison<'_> {
             self.met.runs.note(&self.judge, aimed);
             let walks = self.judge.walks.iter();
             walks.for_each(|&walked| self.met.run_walks.note(walked));
-            if also_by_new && (right.answer.number == 0 || right.answer.number >= 8) {
+            if also_by_new && !BEFORE_ANY_STORE.contains(&(right.answer.number as usize)) {
                 by_new(job, &right)?;
                 self.by_new += 1;
             }
@@ -628,10 +702,20 @@ impl Comparison<'_> {
             if self.plan.by_the_hour {
                 self.by_the_hour += keeps_its_figure(job, &got)? as u64;
             }
-            let (pairs, random) = (&mut self.pairs, &mut self.laws_random);
-            try_laws(self.plan.laws, pairs, random, job, &got, &mut self.lent)?;
+            if self.tries_laws(job.edition) {
+                let (pairs, random) = (&mut self.pairs, &mut self.laws_random);
+                try_laws(self.plan.laws, pairs, random, job, &got, &mut self.lent)?;
+            }
         }
         Ok(())
+    }
+
+    /// Whether the laws are tried on a job of that edition: on every other one, so that of jobs that
+    /// come in both editions they are tried in either by turns.
+    fn tries_laws(&mut self, edition: u64) -> bool {
+        let place = (edition == EDITION_2) as usize;
+        self.accepted[place] += 1;
+        (self.accepted[place] + place) % 2 == 1
     }
 
     fn job_and_singles(&mut self, maker: &mut Maker, job: &Job, also_by_new: bool) -> Outcome {
@@ -650,13 +734,13 @@ impl Comparison<'_> {
             self.job_and_singles(maker, job, false)?;
         }
         for job in &fixed.walks {
-            self.job(job, None, true)?;
+            self.job(job, None, job.edition == EDITION_1)?;
             if self.plan.compared {
                 self.step(&maker.sound_single_of(job, ROW), None)?;
             }
         }
         for job in &fixed.turns {
-            self.job_and_singles(maker, job, true)?;
+            self.job_and_singles(maker, job, job.edition == EDITION_1)?;
         }
         self.at_both_ends(&fixed.tables, DAYS_LIST)?;
         for job in &fixed.calendar {
@@ -665,10 +749,13 @@ impl Comparison<'_> {
         self.at_both_ends(&fixed.totals, TOTALS_LIST)
     }
 
-    /// Jobs of which that list is lent at the back and at the front of its pages.
+    /// Jobs of which that list is lent at the back and at the front of its pages, each time in another
+    /// edition.
     fn at_both_ends(&mut self, jobs: &[Job], list: usize) -> Outcome {
-        for job in jobs {
-            for side in [Side::Back, Side::Front] {
+        for (turn, job) in jobs.iter().enumerate() {
+            let mut both = edges::in_both_editions(job);
+            both.rotate_left(turn % 2);
+            for (side, job) in [Side::Back, Side::Front].into_iter().zip(&both) {
                 self.lent.list_side = Some((list, side));
                 self.job(job, None, false)?;
             }
@@ -685,14 +772,28 @@ impl Comparison<'_> {
                 9 => Aims::FromBehind,
                 _ => Aims::Seldom,
             };
+            maker.across_the_north = maker.aims != Aims::FromBehind && turn % 3 != 0;
             let job = maker.any_job();
-            self.job_and_singles(maker, &job, turn % BY_NEW == 0)?;
+            self.random_job(maker, job, turn % BY_NEW == 0)?;
         }
         for turn in 0..self.plan.aimed {
+            maker.across_the_north = turn % 5 != 0 && turn % 5 != 2;
             let job = maker.aimed_job(Aims::Squarely, 6);
-            self.job_and_singles(maker, &job, turn % SHORT_BY_NEW == 0)?;
+            self.random_job(maker, job, turn % SHORT_BY_NEW == 0)?;
         }
         maker.aims = Aims::Seldom;
+        maker.across_the_north = false;
+        Ok(())
+    }
+
+    /// One of them, in any edition.
+    fn random_job(&mut self, maker: &mut Maker, mut job: Job, also_by_new: bool) -> Outcome {
+        job.edition = any_edition(&mut self.editions_random);
+        self.job_and_singles(maker, &job, also_by_new)?;
+        if self.plan.compared {
+            let seen = seen(&mut self.judge, &job);
+            self.met.fins.note(job.edition, &seen);
+        }
         Ok(())
     }
 
@@ -701,7 +802,7 @@ impl Comparison<'_> {
         if self.plan.compared {
             self.met.report(settings)?;
             settings.detail("also judged by the record of a year", self.by_new);
-            settings.detail("jobs of a whole year", self.plan.years as u64);
+            settings.detail("jobs of a whole year", 2 * self.plan.years as u64);
             settings.detail("of these accepted", self.years_accepted);
             if self.plan.years > 0 && self.years_accepted == 0 {
                 return Err(String::from("jobs: no whole year was accepted"));
@@ -787,7 +888,9 @@ pub fn section(settings: &Settings, library: &Library, plan: Plan) -> Outcome {
         met: Met::default(),
         pairs: Pairs::default(),
         laws_random: settings.random("laws of jobs"),
+        editions_random: settings.random("editions of jobs"),
         tally: Tally::default(),
+        accepted: [0; 2],
         by_new: 0,
         years_accepted: 0,
         by_the_hour: 0,
@@ -796,9 +899,12 @@ pub fn section(settings: &Settings, library: &Library, plan: Plan) -> Outcome {
     all.fixed_jobs(&mut maker)?;
     all.random_jobs(&mut maker)?;
     for turn in 0..plan.years {
+        maker.across_the_north = turn % 2 == 0;
         let job = maker.whole_year(turn);
         let accepted = all.met.run[0];
-        all.job(&job, None, true)?;
+        for job in &edges::in_both_editions(&job) {
+            all.job(job, None, true)?;
+        }
         all.years_accepted += all.met.run[0] - accepted;
     }
     all.report(settings)

@@ -140,6 +140,7 @@ fn random_alone<'a>(plan: Plan<'a>, nothing: &'a Fixed) -> Plan<'a> {
 /// How many wrong engines there are, all of which are found.
 fn engines_found(settings: &Settings, plan: Plan) -> Result<usize, String> {
     let (days, sums, totals) = (Fixed::days(), Fixed::sums(), Fixed::totals());
+    let editions = Fixed::editions();
     let nothing = Fixed::default();
     let mut count = 0;
     for engine in &wrong::engines() {
@@ -147,6 +148,7 @@ fn engines_found(settings: &Settings, plan: Plan) -> Result<usize, String> {
             By::All => vec![plan],
             By::Days => vec![alone(plan, &days)],
             By::Sums => vec![alone(plan, &sums), random_alone(plan, &nothing)],
+            By::Editions => vec![alone(plan, &editions), random_alone(plan, &nothing)],
             By::Totals => vec![alone(plan, &totals)],
             By::TotalsAndRandom => vec![alone(plan, &totals), random_alone(plan, &nothing)],
         };

@@ -3,7 +3,7 @@
 
 use super::cases::Maker;
 use super::edges::{fault, one_step, plain_jobs, sectors_of};
-use super::WORDS;
+use super::{BEFORE_ANY_STORE, GIVEN, NUMBERS, WORDS};
 use crate::comparison::{Outcome, Settings};
 use crate::pilgartze::DAY;
 use crate::published::days::day_table;
@@ -73,12 +73,16 @@ fn former_table(random: &mut Random, what: Former, len: usize) -> Vec<u8> {
 const SHORT: [usize; 7] = [0, 1, 7, 8, 23, 24, DAYS_LENGTH - 8 * DAY];
 
 /// A job that is accepted, one with no steps, and one for each refusal; those of 8 to 11 also at the
-/// first step.
+/// first step. They are of edition 1, but for the one that names none.
 pub fn each_number(maker: &mut Maker, plain: &Job, variant: usize) -> Vec<Job> {
     let mut no_steps = plain.clone();
     no_steps.times = [5.0, 5.0, 1.0];
     maker.fit(&mut no_steps);
-    let mut jobs = vec![plain.clone(), no_steps];
+    let wrong_edition = Job {
+        edition: 0,
+        ..plain.clone()
+    };
+    let mut jobs = vec![plain.clone(), no_steps, wrong_edition];
     let (first_step, _) = one_step(plain, maker);
     let refused = (1..=11).map(|number| (plain, number));
     for (job, number) in refused.chain((8..=11).map(|number| (&first_step, number))) {
@@ -167,13 +171,13 @@ pub fn turns_of_the_year() -> Vec<Job> {
 /// would look the same filled and left alone.
 #[derive(Default)]
 pub struct Tables {
-    filled: [u64; 12],
-    filled_first_step: [u64; 12],
+    filled: [u64; NUMBERS],
+    filled_first_step: [u64; NUMBERS],
     no_steps: u64,
     longer: u64,
-    left: [u64; 12],
+    left: [u64; NUMBERS],
     /// By the number that the job has with a longer table.
-    short: [u64; 12],
+    short: [u64; NUMBERS],
     right_before: u64,
     days: [u64; 3],
 }
@@ -197,7 +201,7 @@ impl Tables {
             return;
         }
         let number = number as usize;
-        if (1..=7).contains(&number) {
+        if BEFORE_ANY_STORE.contains(&number) {
             self.left[number] += 1;
             return;
         }
@@ -216,7 +220,7 @@ impl Tables {
 
     pub fn report(&self, settings: &Settings) -> Outcome {
         let mut counts = vec![];
-        let mut each = |what: &str, of: &[u64; 12], numbers: &[usize]| {
+        let mut each = |what: &str, of: &[u64; NUMBERS], numbers: &[usize]| {
             for &number in numbers {
                 let what = format!("{what}, {number} {}", WORDS[number]);
                 counts.push((what, of[number]));
@@ -225,9 +229,8 @@ impl Tables {
         each("table filled", &self.filled, &[0, 8, 9, 10, 11]);
         let at_once = "table filled, step 0";
         each(at_once, &self.filled_first_step, &[8, 9, 10, 11]);
-        each("table left", &self.left, &[1, 2, 3, 4, 5, 6, 7]);
-        let all: Vec<usize> = (0..12).collect();
-        each("table too short, else", &self.short, &all);
+        each("table left", &self.left, &BEFORE_ANY_STORE);
+        each("table too short, else", &self.short, &GIVEN);
         let others = [
             ("table filled, no steps", self.no_steps),
             ("table filled, bytes past it left", self.longer),

@@ -2,14 +2,15 @@
 //! left in each way.
 
 use super::cases::Maker;
-use super::edges::{fault, plain_jobs, sectors_of};
+use super::edges::{all_in_both_editions, fault, plain_jobs, sectors_of};
 use super::tables::each_number;
-use super::WORDS;
+use super::{BEFORE_ANY_STORE, GIVEN, NUMBERS, WORDS};
 use crate::comparison::{Outcome, Settings};
 use crate::pilgartze::{sector, totals_of, window_object, Totals, MONTHS, TOTALS};
 use crate::published::jobs::*;
 use crate::published::totals::{days_of, month_of, totals_needed, NAN};
 use crate::random::{ulps_from, Random};
+use crate::shading::editions::{EDITIONS, WRONG_EDITIONS};
 
 // --- Before the run ---
 
@@ -111,7 +112,8 @@ pub fn formers() -> Vec<Job> {
     jobs
 }
 
-/// Every set of faults with a 7 that is one of the totals alone: a byte too short for the year.
+/// Every set of faults with a 7 that is one of the totals alone: a byte too short for the year; in an
+/// edition, by turns, and with a word that names none.
 fn sets_of_faults(jobs: &mut Vec<Job>) {
     let mut maker = Maker::new(Random::new(1, "totals among faults"));
     for (variant, plain) in plain_jobs(&mut maker).iter().enumerate() {
@@ -123,7 +125,13 @@ fn sets_of_faults(jobs: &mut Vec<Job>) {
                     _ => fault(&mut job, number, variant),
                 }
             }
-            jobs.push(job);
+            let place = jobs.len() / 2;
+            let named = EDITIONS[place % EDITIONS.len()];
+            let none = WRONG_EDITIONS[place % WRONG_EDITIONS.len()];
+            jobs.extend([named, none].map(|edition| Job {
+                edition,
+                ..job.clone()
+            }));
         }
     }
 }
@@ -242,6 +250,7 @@ pub fn calendar() -> Vec<Job> {
             jobs.push(job_over(&mut maker, &plain, leap_year, times));
         }
     }
+    let mut jobs = all_in_both_editions(&jobs);
     sets_of_faults(&mut jobs);
     jobs
 }
@@ -254,13 +263,13 @@ const BORDERS: usize = MONTHS - 1;
 /// that held the right bytes before do not count.
 #[derive(Default)]
 pub struct TotalsMet {
-    kept: [u64; 12],
-    left: [u64; 12],
+    kept: [u64; NUMBERS],
+    left: [u64; NUMBERS],
     /// By the number that the job has with longer totals.
-    short: [u64; 12],
+    short: [u64; NUMBERS],
     /// Refused in a later day, and in a later month, than the first step's.
-    later_day: [u64; 12],
-    later_month: [u64; 12],
+    later_day: [u64; NUMBERS],
+    later_month: [u64; NUMBERS],
     /// Runs with steps on both sides, by year and border.
     borders: [[u64; BORDERS]; 2],
     counts: [u64; COUNTED.len()],
@@ -299,7 +308,7 @@ impl TotalsMet {
         if job.totals.len() < totals_needed(job.site.leap_year) {
             return self.note_short(judge, job);
         }
-        if (1..=7).contains(&number) {
+        if BEFORE_ANY_STORE.contains(&number) {
             // empty ones would look the same emptied and left alone
             self.left[number] += !job.totals.starts_with(&empty_record()) as u64;
             return;
@@ -420,7 +429,7 @@ impl TotalsMet {
 
     pub fn report(&self, settings: &Settings) -> Outcome {
         let mut counts = vec![];
-        let mut each = |what: &str, of: &[u64; 12], numbers: &[usize]| {
+        let mut each = |what: &str, of: &[u64; NUMBERS], numbers: &[usize]| {
             for &number in numbers {
                 let what = format!("{what}, {number} {}", WORDS[number]);
                 counts.push((what, of[number]));
@@ -431,9 +440,8 @@ impl TotalsMet {
         each("totals kept, a later day", &self.later_day, &at_a_step);
         let later_month = "totals kept, a later month";
         each(later_month, &self.later_month, &at_a_step);
-        each("totals left", &self.left, &[1, 2, 3, 4, 5, 6, 7]);
-        let all: Vec<usize> = (0..12).collect();
-        each("totals too short, else", &self.short, &all);
+        each("totals left", &self.left, &BEFORE_ANY_STORE);
+        each("totals too short, else", &self.short, &GIVEN);
         let others = COUNTED.iter().zip(self.counts);
         counts.extend(others.map(|(what, count)| (String::from(*what), count)));
         for (what, count) in counts {

@@ -4,14 +4,17 @@
 //! is asked for; a step's row is the judge's own. `wrong_totals.rs` has what it does about the totals.
 
 use super::lent::Library;
-use crate::pilgartze::{days_in_year, totals_length, totals_of, DAY, DAYS};
+use crate::pilgartze::{days_in_year, totals_length, totals_of, DAY, DAYS, EDITION_2};
 use crate::published::days::{day_in, day_table, DayValues};
 use crate::published::jobs::*;
-use crate::published::shading::{MOST_SECTORS, MOST_WINDOW_OBJECTS, SECTOR_WORDS, WINDOW_WORDS};
+use crate::published::shading::{
+    outside_beam, MOST_SECTORS, MOST_WINDOW_OBJECTS, SECTOR_WORDS, WINDOW_WORDS, WRONG_EDITION,
+};
 use crate::published::wrong::Otherwise;
 use crate::random::ulps_from;
 use crate::shading::call::{Call, Scene};
 use crate::shading::laws::Law;
+use crate::shading::wrong as shading;
 use std::cell::RefCell;
 use Flaw::*;
 
@@ -23,6 +26,8 @@ pub enum By {
     Days,
     /// Those about the sum alone, and the random ones alone too.
     Sums,
+    /// Those about editions and fins alone, and the random ones alone too.
+    Editions,
     /// Those about the totals alone.
     Totals,
     /// The same, and the random ones alone too.
@@ -151,6 +156,46 @@ flaws! {
         SumStepAnHourAtMost;
     TotalsAndRandom "run's sum":
         SumOfTheMonthsSums;
+    Editions "run":
+        // the edition, and its place among the checks
+        EditionNotLookedAt,
+        EditionZeroTaken,
+        EditionThreeTaken,
+        EditionOneForTwo,
+        EditionTwoForOne,
+        EditionOfFourBytes,
+        EditionAfterSite,
+        EditionAfterResults,
+        EditionAtTheFirstStep,
+        // what is stored and answered where it is wrong
+        WrongEditionStepOne,
+        WrongEditionCountKept,
+        WrongEditionResultsCleared,
+        // the fins of edition 2
+        RightFinTangentNotTurned,
+        FinSidesExchanged,
+        FinDifferenceNotWrapped,
+        OverhangCosineWrapped;
+    Editions "run's sum":
+        WrongEditionSumNan;
+    Editions "run's table of days":
+        WrongEditionTableFilled;
+    Editions "run's totals":
+        WrongEditionTotalsEmptied;
+    Editions "step":
+        StepEditionNotLookedAt,
+        StepEditionZeroTaken,
+        StepEditionThreeTaken,
+        StepEditionOneForTwo,
+        StepEditionTwoForOne,
+        StepEditionOfFourBytes,
+        StepEditionAfterSite,
+        StepEditionAfterResults,
+        StepWrongEditionStores,
+        StepRightFinTangentNotTurned,
+        StepFinSidesExchanged,
+        StepFinDifferenceNotWrapped,
+        StepOverhangCosineWrapped;
     Days "run":
         // a table that is too short
         ShortTableTaken,
@@ -319,6 +364,74 @@ pub type Checked = Vec<(Step, Readings)>;
 impl Plain {
     pub fn is(&self, flaw: Flaw) -> bool {
         flaw as u8 == self.flaw
+    }
+
+    // --- The edition and its fins ---
+
+    /// Whether it is one of two, as a run and a step have the same flaw by names of their own.
+    fn is_either(&self, flaws: [Flaw; 2]) -> bool {
+        flaws.iter().any(|&flaw| self.is(flaw))
+    }
+
+    /// The edition that is taken, if one is.
+    fn edition(&self, named: u64) -> Option<u64> {
+        let named = match self.is_either([EditionOfFourBytes, StepEditionOfFourBytes]) {
+            true => named as u32 as u64,
+            false => named,
+        };
+        match named {
+            0 if self.is_either([EditionZeroTaken, StepEditionZeroTaken]) => Some(EDITION_1),
+            3 if self.is_either([EditionThreeTaken, StepEditionThreeTaken]) => Some(EDITION_2),
+            EDITION_1 if self.is_either([EditionTwoForOne, StepEditionTwoForOne]) => {
+                Some(EDITION_2)
+            }
+            EDITION_2 if self.is_either([EditionOneForTwo, StepEditionOneForTwo]) => {
+                Some(EDITION_1)
+            }
+            EDITION_1 | EDITION_2 => Some(named),
+            _ if self.is_either([EditionNotLookedAt, StepEditionNotLookedAt]) => Some(EDITION_1),
+            _ => None,
+        }
+    }
+
+    /// The flaw of the factor by which a row's is worked out, if there is one.
+    fn flaw_of_the_fins(&self) -> Option<shading::Flaw> {
+        use shading::Flaw;
+        let flaws = [
+            (
+                [RightFinTangentNotTurned, StepRightFinTangentNotTurned],
+                Flaw::RightFinTangentNotTurned,
+            ),
+            (
+                [FinSidesExchanged, StepFinSidesExchanged],
+                Flaw::FinSidesExchanged,
+            ),
+            (
+                [FinDifferenceNotWrapped, StepFinDifferenceNotWrapped],
+                Flaw::FinDifferenceNotWrapped,
+            ),
+            (
+                [OverhangCosineWrapped, StepOverhangCosineWrapped],
+                Flaw::OverhangCosineWrapped,
+            ),
+        ];
+        let own = flaws.iter().find(|(names, _)| self.is_either(*names));
+        own.map(|&(_, flaw)| flaw)
+    }
+
+    /// The row with its factor by the flaw of the fins, if there is one; a row outside the beam stays,
+    /// as its sun may be out of the factor's range.
+    fn with_fins(&self, row: Row, surface: &Surface, objects: impl Fn() -> Call) -> Row {
+        let (Ok(mut row), Some(flaw)) = (row, self.flaw_of_the_fins()) else {
+            return row;
+        };
+        let mut call = objects();
+        call.numbers[..2].copy_from_slice(&row[..2]);
+        call.numbers[2..].copy_from_slice(surface);
+        if !outside_beam(&call.numbers) {
+            row[5] = shading::Plain { flaw }.factor(&call)?;
+        }
+        Ok(row)
     }
 
     // --- The steps ---
@@ -533,7 +646,26 @@ impl Plain {
         words < ROW * rows && !self.is(ResultsNeverTooShort)
     }
 
-    fn checked(&self, job: &Job, [days, totals, results]: [usize; 3]) -> Result<Checked, u64> {
+    /// The checks with that of the edition in its place.
+    fn checked(&self, job: &Job, lengths: [usize; 3]) -> Result<Checked, u64> {
+        if self.edition(job.edition).is_some() {
+            return self.others_checked(job, lengths);
+        }
+        match self.others_checked(job, lengths) {
+            Err(1) if self.is(EditionAfterSite) => Err(1),
+            Err(number) if self.is_either([EditionAfterResults, EditionAtTheFirstStep]) => {
+                Err(number)
+            }
+            Ok(steps) if self.is(EditionAtTheFirstStep) && steps.is_empty() => Ok(steps),
+            _ => Err(WRONG_EDITION),
+        }
+    }
+
+    fn others_checked(
+        &self,
+        job: &Job,
+        [days, totals, results]: [usize; 3],
+    ) -> Result<Checked, u64> {
         if self.is(ShortTableFirst) && days < DAYS_LENGTH {
             return Err(7);
         }
@@ -620,6 +752,7 @@ impl Plain {
     fn table_of_refused(&self, number: u64, job: &Job, days: &mut [u8]) {
         let whole = days.len() >= DAYS_LENGTH;
         let filled = self.is(TableFilledBeforeTheChecks) && whole
+            || self.is(WrongEditionTableFilled) && whole && number == WRONG_EDITION
             || self.is(TableFilledBeforeTheResultsCheck) && whole && number == 7
             || self.is(ShortTableFilledInPart) && !whole && number == 7;
         if filled {
@@ -751,13 +884,14 @@ impl Plain {
         // the judge panics at an hour past the leap year's
         let hour = step.hour.min(8783);
         let (site, surface) = (&job.site, &job.surface);
-        let mut row = match self.other_day(job, hour) {
+        let row = match self.other_day(job, hour) {
             Some(day) => {
                 let doubles = judge.hour_by_day(site, surface, hour, readings, day);
                 judge.row_of(surface, doubles)
             }
             None => self.row_at(judge, site, surface, hour, readings),
         };
+        let mut row = self.with_fins(row, surface, || job.objects());
         if let (Ok(row), true) = (&mut row, self.is(FactorOneAlways)) {
             row[5] = 1.0;
         }
@@ -768,6 +902,18 @@ impl Plain {
     }
 
     fn refused(&self, number: u64, step: usize, sum: f64) -> RunAnswer {
+        if number == WRONG_EDITION {
+            return RunAnswer {
+                number,
+                step: self.is(WrongEditionStepOne) as u64,
+                count: self.is(WrongEditionCountKept) as u64,
+                sum: if self.is(WrongEditionSumNan) {
+                    f64::NAN
+                } else {
+                    0.0
+                },
+            };
+        }
         RunAnswer {
             number,
             step: if self.is(StepOfRefusalZero) {
@@ -890,6 +1036,9 @@ impl Plain {
             Err(number) => {
                 self.table_of_refused(number, job, days);
                 self.totals_of_refused(number, job, totals);
+                if self.is(WrongEditionResultsCleared) && number == WRONG_EDITION {
+                    results.fill(0);
+                }
                 return self.refused(number, 0, 0.0);
             }
         };
@@ -915,10 +1064,11 @@ impl Plain {
         steps: &Checked,
         results: &mut [u8],
     ) -> (RunAnswer, Vec<[f64; ROW]>) {
-        judge.lend(self.lists(job).unwrap());
+        let edition = self.edition(job.edition).unwrap_or(EDITION_1);
+        judge.lend(edition, self.lists(job).unwrap());
         let walked = self.walked(&job.sectors, [FirstSectorNotWalked, LastSectorNotWalked]);
         if walked.len() < job.sectors.len() {
-            judge.lend(lists_of(walked, &job.window).unwrap());
+            judge.lend(edition, lists_of(walked, &job.window).unwrap());
         }
         let before = results.to_vec();
         if self.is(RowsClearedFirst) {
@@ -956,7 +1106,9 @@ impl Plain {
             true => single.results.len() / 8 < doubles - 1,
             false => single.results.len() / 8 < doubles,
         };
+        let wrong_edition = objects && self.edition(single.edition).is_none();
         let mut checks = [
+            (wrong_edition, WRONG_EDITION),
             (!site_fine, 1),
             (!time_fine || time.floor() as u32 >= hours, 2),
             (!surface_fine(&surface), 3),
@@ -965,21 +1117,32 @@ impl Plain {
             (too_short && !(self.is(StepResultsUnchecked) && objects), 7),
         ];
         if self.is(StepReadingBeforeObject) {
-            checks.swap(3, 4);
+            checks.swap(4, 5);
+        }
+        if self.is(StepEditionAfterSite) {
+            checks.swap(0, 1);
+        }
+        if self.is(StepEditionAfterResults) {
+            checks.rotate_left(1);
         }
         checks.iter().find(|(holds, _)| *holds).map(|&(_, n)| n)
     }
 
     fn step(&self, judge: &mut Judge, single: &Single, results: &mut [u8]) -> u64 {
         if let Some(number) = self.single_checked(single, true, ROW) {
+            if self.is(StepWrongEditionStores) && number == WRONG_EDITION {
+                results.fill(0);
+            }
             return number;
         }
         let flaws = [StepFirstSectorNotWalked, StepLastSectorNotWalked];
         let walked = self.walked(&single.sectors, flaws);
-        judge.lend(lists_of(walked, &single.window).unwrap());
+        let edition = self.edition(single.edition).unwrap();
+        judge.lend(edition, lists_of(walked, &single.window).unwrap());
         let hour = (single.time.floor() as u32).min(8783);
         let (site, surface) = (&single.site, &single.surface);
-        match self.row_at(judge, site, surface, hour, single.readings) {
+        let row = self.row_at(judge, site, surface, hour, single.readings);
+        match self.with_fins(row, surface, || single.objects()) {
             Ok(mut row) => {
                 if self.is(StepWithoutFactor) {
                     row[5] = 1.0;
@@ -1039,6 +1202,7 @@ unsafe fn write_beside(start: *mut u8, len: usize) {
 macro_rules! extern_calls {
     ($run:ident, $step:ident, $irradiance:ident, $flaw:ident, $answers:expr) => {
         unsafe extern "C" fn $run<const $flaw: u8>(
+            edition: u64,
             latitude: f64,
             longitude: f64,
             timezone: i64,
@@ -1072,6 +1236,7 @@ macro_rules! extern_calls {
             results_len: usize,
         ) -> RunAnswer {
             let job = Job {
+                edition,
                 site: JobSite {
                     latitude,
                     longitude,
@@ -1116,6 +1281,7 @@ macro_rules! extern_calls {
         }
 
         unsafe extern "C" fn $step<const $flaw: u8>(
+            edition: u64,
             latitude: f64,
             longitude: f64,
             timezone: i64,
@@ -1141,6 +1307,7 @@ macro_rules! extern_calls {
         ) -> u64 {
             let results = std::slice::from_raw_parts_mut(results, results_len);
             let single = Single {
+                edition,
                 site: JobSite {
                     latitude,
                     longitude,
@@ -1182,6 +1349,7 @@ macro_rules! extern_calls {
         ) -> u64 {
             let results = std::slice::from_raw_parts_mut(results, results_len);
             let single = Single {
+                edition: EDITION_1, // it has none
                 site: JobSite {
                     latitude,
                     longitude,
@@ -1272,6 +1440,9 @@ enum Lawless {
     DaySumsBelowZero,
     MonthSumsDoubled,
     ByteBehindByTheObjects,
+    FactorByTheEdition,
+    DirectByTheEdition,
+    LargestByTheEdition,
 }
 
 impl Lawless {
@@ -1282,11 +1453,7 @@ impl Lawless {
 
 /// The job without some of its objects at the window, and how many there were.
 fn objects_left_out(way: u8, job: &Job) -> (Job, usize) {
-    let mut scene = Scene::of(&Call {
-        numbers: [0.0; 7],
-        sectors: job.sectors.clone(),
-        window: job.window.clone(),
-    });
+    let mut scene = Scene::of(&job.objects());
     let objects = scene.window.len();
     if Lawless::FirstObjectLeftOut.is(way) && objects > 0 {
         scene.window.remove(0);
@@ -1304,7 +1471,10 @@ fn objects_left_out(way: u8, job: &Job) -> (Job, usize) {
 }
 
 /// What becomes of a step's factor.
-fn lawless_factor(way: u8, mut factor: f64, objects: usize) -> f64 {
+fn lawless_factor(way: u8, job: &Job, mut factor: f64, objects: usize) -> f64 {
+    if Lawless::FactorByTheEdition.is(way) {
+        factor *= 1.0 - job.edition as f64 / 1000.0;
+    }
     if Lawless::ObjectsCounted.is(way) {
         factor *= 1.0 - objects as f64 / 1000.0;
     }
@@ -1337,6 +1507,7 @@ fn lawless_totals(way: u8, job: &Job, objects: usize, totals: &mut [u8]) {
             _ if !some => {}
             _ if Lawless::CountsByTheObjects.is(way) => kept.count += objects as u64,
             _ if Lawless::LargestByTheObjects.is(way) => kept.largest += objects as f64,
+            _ if Lawless::LargestByTheEdition.is(way) => kept.largest += job.edition as f64,
             _ if Lawless::DaySumsByTheObjects.is(way) && of_a_day => kept.sum += objects as f64,
             _ if Lawless::MonthSumsByTheObjects.is(way) && !of_a_day => kept.sum += objects as f64,
             _ if Lawless::DaySumsByTheFirstObject.is(way) && of_a_day => kept.sum += first_kind,
@@ -1372,7 +1543,12 @@ fn lawless_run<const WAY: u8>(
         .take(answer.count as usize)
     {
         let doubles = doubles_of(row);
-        let (direct, factor) = (doubles[2], lawless_factor(WAY, doubles[5], objects));
+        let factor = lawless_factor(WAY, &job, doubles[5], objects);
+        let direct = match Lawless::DirectByTheEdition.is(WAY) {
+            true => doubles[2] + job.edition as f64,
+            false => doubles[2],
+        };
+        store(row, 2, &[direct]);
         store(row, 5, &[factor]);
         sum += (factor * direct) * hours;
     }
@@ -1426,6 +1602,8 @@ pub fn lawless_engines(law: Law) -> Vec<Wrong> {
         Law::Emptied => ways!(told();
             NeverWhole, SumWithoutTheStep, CountsByTheObjects, LargestByTheObjects,
             MonthSumsDoubled),
+        Law::OtherEdition => ways!(told();
+            FactorByTheEdition, DirectByTheEdition, LargestByTheEdition),
     }
 }
 

@@ -4,6 +4,7 @@
 use super::wrong::{Checked, Flaw, Flaw::*, Plain};
 use crate::pilgartze::{days_in_year, totals_length, totals_of, Totals, MONTHS, TOTALS};
 use crate::published::jobs::*;
+use crate::published::shading::WRONG_EDITION;
 
 /// The first day of each month of a common year.
 const FIRST_DAYS: [usize; MONTHS] = [0, 31, 59, 90, 120, 151, 181, 212, 243, 273, 304, 334];
@@ -291,6 +292,7 @@ impl Plain {
     pub fn totals_of_refused(&self, number: u64, job: &Job, totals: &mut [u8]) {
         let whole = totals.len() >= totals_length(job.site.leap_year);
         let emptied = self.is(TotalsEmptiedBeforeTheChecks) && whole
+            || self.is(WrongEditionTotalsEmptied) && whole && number == WRONG_EDITION
             || self.is(TotalsEmptiedBeforeTheResultsCheck) && whole && number == 7
             || self.is(ShortTotalsEmptiedInPart) && !whole && number == 7;
         if emptied {

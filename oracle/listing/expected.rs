@@ -2,6 +2,7 @@
 
 use super::NAMES;
 use crate::comparison::{Outcome, Settings};
+use crate::pilgartze::EDITION_1;
 use crate::published::shading::*;
 
 /// How often each number was the answer to a line, and how listings began.
@@ -78,7 +79,7 @@ pub fn judged(judge: &mut Judge, values: &[f64; 10]) -> (u64, f64) {
     let bytes = |words: &[u64]| -> Vec<u8> { words.iter().flat_map(|w| w.to_le_bytes()).collect() };
     let numbers = [altitude, azimuth, tilt, orientation, base, height, width];
     let answer = judge
-        .answer(&numbers, &bytes(&sector), &bytes(&obstacle))
+        .answer(EDITION_1, &numbers, &bytes(&sector), &bytes(&obstacle))
         .answer;
     (answer.number, answer.factor)
 }

@@ -172,6 +172,7 @@ pub unsafe extern "C" fn year(
 }
 
 pub unsafe extern "C" fn factor(
+    edition: u64,
     altitude: f64,
     azimuth: f64,
     tilt: f64,
@@ -195,5 +196,6 @@ pub unsafe extern "C" fn factor(
     ];
     let sectors = std::slice::from_raw_parts(sectors, sectors_len);
     let window = std::slice::from_raw_parts(window, window_len);
-    Judge::new().answer(&numbers, sectors, window).answer
+    let judged = Judge::new().answer(edition, &numbers, sectors, window);
+    judged.answer
 }

@@ -1,22 +1,23 @@
 //! Whole jobs and single steps: the specification's checks of what goes in, read off its text, and
-//! then the published Rust, step by step.
+//! then the published Rust, step by step, in edition 2 with its factor's second copy.
 //!
 //! Each step has its hour put into a published record of one hour, which takes a microsecond where
 //! the record of a whole year takes milliseconds; `rows_by_new` has the same rows by the latter.
 
 use super::conditions::{sun_at, OneHour, Site, FIRST_STEP};
 use super::days::{fill_days, DayValues};
-use super::shading::{sectors_of, window_of, within};
+use super::shading::{
+    edition_fine, factor_by, sectors_of, window_of, within, Numbers, WRONG_EDITION,
+};
 use super::totals::{keep_totals, totals_needed};
 use super::walk::{walked, Walked};
 use super::wrong::Otherwise;
 use super::*;
 pub use crate::pilgartze::{
-    doubles_of, Answer as RunAnswer, Site as JobSite, DAYS_LENGTH, IRRADIANCE_ROW, ROW,
+    doubles_of, Answer as RunAnswer, Site as JobSite, DAYS_LENGTH, EDITION_1, IRRADIANCE_ROW, ROW,
 };
 use crate::random::Random;
 use crate::stand_ins::{beyond_in, Beyond};
-use crate::support::refusal_number;
 
 /// Start, end, step.
 pub type Times = [f64; 3];
@@ -30,6 +31,7 @@ pub type Readings = [f64; 3];
 /// What a run is given; the table of days, the totals and the results list as they are lent.
 #[derive(Clone, PartialEq)]
 pub struct Job {
+    pub edition: u64,
     pub site: JobSite,
     pub times: Times,
     pub surface: Surface,
@@ -41,9 +43,11 @@ pub struct Job {
     pub results: Vec<u8>,
 }
 
-/// What a single-step call is given; the lists of objects are for the one with the factor.
+/// What a single-step call is given; the edition and the lists of objects are for the one with the
+/// factor.
 #[derive(Clone, PartialEq)]
 pub struct Single {
+    pub edition: u64,
     pub site: JobSite,
     pub time: f64,
     pub surface: Surface,
@@ -179,12 +183,15 @@ pub fn lists_of(sectors: &[u8], window: &[u8]) -> Option<Lists> {
     })
 }
 
-/// Checks 1 to 7 of a run, in number order: its steps with their readings and its lists, or the
-/// number. Days, totals and results are the lengths that are lent.
+/// Checks 14, then 1 to 7 of a run, in number order: its steps with their readings and its lists, or
+/// the number. Days, totals and results are the lengths that are lent.
 fn checked(
     job: &Job,
     [days, totals, results]: [usize; 3],
 ) -> Result<(Vec<(Step, Readings)>, Lists), u64> {
+    if !edition_fine(job.edition) {
+        return Err(WRONG_EDITION);
+    }
     if !site_fine(&job.site) {
         return Err(1);
     }
@@ -221,8 +228,12 @@ fn checked(
     Ok((steps.collect(), lists))
 }
 
-/// The checks of a single step but for its results: its hour, or the number.
-fn single_checked(single: &Single, with_lists: bool) -> Result<(u32, Option<Lists>), u64> {
+/// The checks of a single step but for its results: its hour, or the number. The one with the factor
+/// has an edition and lists.
+fn single_checked(single: &Single, with_factor: bool) -> Result<(u32, Option<Lists>), u64> {
+    if with_factor && !edition_fine(single.edition) {
+        return Err(WRONG_EDITION);
+    }
     if !site_fine(&single.site) {
         return Err(1);
     }
@@ -238,7 +249,7 @@ fn single_checked(single: &Single, with_lists: bool) -> Result<(u32, Option<List
     if !surface_fine(&single.surface) {
         return Err(3);
     }
-    let lists = match with_lists {
+    let lists = match with_factor {
         true => Some(lists_of(&single.sectors, &single.window).ok_or(4u64)?),
         false => None,
     };
@@ -334,6 +345,7 @@ pub fn watt_hours(&[_, _, direct, _, _, factor]: &[f64; ROW], step_hours: f64) -
 /// The published record, kept from call to call.
 pub struct Judge {
     conditions: ExternalConditions,
+    edition: u64,
     window: Vec<WindowShadingObject>,
     /// The walks of the last call, those of steps inside the beam.
     pub walks: Vec<Walked>,
@@ -350,6 +362,7 @@ impl Judge {
         let conditions = sun_at(0.0, 0.0, vec![]);
         Judge {
             conditions,
+            edition: EDITION_1,
             window: vec![],
             walks: vec![],
             beyond: Beyond::default(),
@@ -358,7 +371,8 @@ impl Judge {
         }
     }
 
-    pub fn lend(&mut self, lists: Lists) {
+    pub fn lend(&mut self, edition: u64, lists: Lists) {
+        self.edition = edition;
         self.conditions.shading_segments = Some(lists.sectors);
         self.window = lists.window;
         self.forget();
@@ -386,6 +400,30 @@ impl Judge {
         });
         self.beyond = beyond;
         answer.doubles()
+    }
+
+    /// Sun and surface at each step, where site, times and surface are in range.
+    pub fn suns(&mut self, site: &JobSite, times: &Times, surface: &Surface) -> Vec<Numbers> {
+        let steps = match surface_fine(surface) {
+            true => steps_if_any(site, times),
+            false => vec![],
+        };
+        let in_year = steps.iter().filter(|step| step.hour < hours_of(site));
+        let [tilt, orientation, base_height, height, width] = *surface;
+        in_year
+            .map(|step| {
+                let row = self.hour(site, surface, step.hour, [0.0; 3]);
+                [
+                    row[0],
+                    row[1],
+                    tilt,
+                    orientation,
+                    base_height,
+                    height,
+                    width,
+                ]
+            })
+            .collect()
     }
 
     /// The same for an engine that has other values of the day.
@@ -417,7 +455,8 @@ impl Judge {
 
     /// The factor in the hour that the record holds, or the number.
     fn factor(&self, surface: &Surface) -> Result<f64, u64> {
-        factor_by(&self.conditions, surface, &self.window, FIRST_STEP)
+        let (conditions, edition) = (&self.conditions, self.edition);
+        factor_by(conditions, edition, surface, &self.window, FIRST_STEP)
     }
 
     /// One row of a run, or the number; `lend` comes before it.
@@ -465,7 +504,7 @@ impl Judge {
             Err(number) => return refused(number, 0),
         };
         fill_days(days);
-        self.lend(lists);
+        self.lend(job.edition, lists);
         let [.., step_hours] = job.times;
         let mut rows = vec![];
         let mut answer = RunAnswer {
@@ -513,7 +552,7 @@ impl Judge {
         if results.len() / 8 < ROW {
             return 7;
         }
-        self.lend(lists.expect("the lists were asked for"));
+        self.lend(single.edition, lists.expect("the lists were asked for"));
         match self.row(&single.site, &single.surface, hour, single.readings) {
             Ok(row) => {
                 store(results, 0, &row);
@@ -537,25 +576,6 @@ impl Judge {
         store(results, 0, &row);
         0
     }
-}
-
-fn factor_by(
-    conditions: &ExternalConditions,
-    &[tilt, orientation, base_height, height, width]: &Surface,
-    window: &[WindowShadingObject],
-    step: Timestep,
-) -> Result<f64, u64> {
-    conditions
-        .direct_shading_reduction_factor(
-            base_height,
-            height,
-            width,
-            tilt,
-            Orientation360(orientation),
-            Some(window),
-            step,
-        )
-        .map_err(|error| refusal_number(&error))
 }
 
 /// The published record of a whole job.
@@ -592,6 +612,7 @@ fn conditions_by_new(
 /// The row of one step by a record of a whole job, or the number.
 fn row_by_new(
     conditions: &ExternalConditions,
+    edition: u64,
     surface: &Surface,
     window: &[WindowShadingObject],
     step: Timestep,
@@ -606,7 +627,7 @@ fn row_by_new(
         );
     let altitude = conditions.solar_altitudes[hour];
     let azimuth = conditions.solar_azimuth_angles[hour];
-    let factor = factor_by(conditions, surface, window, step)?;
+    let factor = factor_by(conditions, edition, surface, window, step)?;
     Ok([altitude, azimuth, direct, diffuse, total, factor])
 }
 
@@ -619,7 +640,7 @@ pub fn rows_by_new(job: &Job) -> Vec<Result<[f64; ROW], u64>> {
     let conditions = conditions_by_new(job, &times, lists.sectors);
     let mut rows = vec![];
     for step in times.iter() {
-        let row = row_by_new(&conditions, &job.surface, &lists.window, step);
+        let row = row_by_new(&conditions, job.edition, &job.surface, &lists.window, step);
         rows.push(row);
         if row.is_err() {
             break;

@@ -1,11 +1,18 @@
 //! The direct shading factor of one step: the specification's checks of what goes in, read off its
-//! text, and then the published Rust.
+//! text, and then the published Rust; in edition 2 its second copy, with the fins of `fins.rs`.
 
 use super::conditions::{angle, sun_at, FIRST_STEP};
 use super::walk::{walked, Walked};
 use super::*;
-use crate::pilgartze::FactorAnswer;
+use crate::pilgartze::{FactorAnswer, EDITION_1, EDITION_2};
 use crate::support::refusal_number;
+
+/// "Refused: 14 edition, a name other than 1 or 2, before 1."
+pub const WRONG_EDITION: u64 = 14;
+
+pub fn edition_fine(edition: u64) -> bool {
+    edition == EDITION_1 || edition == EDITION_2
+}
 
 /// Sun and surface: altitude, azimuth, tilt, orientation, base height, height, width.
 pub type Numbers = [f64; 7];
@@ -152,60 +159,101 @@ fn refused(number: u64) -> FactorAnswer {
     }
 }
 
+/// The published factor in that edition, or the number. The surface is tilt, orientation, base height,
+/// height, width.
+pub(super) fn factor_by(
+    conditions: &ExternalConditions,
+    edition: u64,
+    &[tilt, orientation, base_height, height, width]: &[f64; 5],
+    window: &[WindowShadingObject],
+    step: Timestep,
+) -> Result<f64, u64> {
+    let factor = match edition {
+        EDITION_1 => ExternalConditions::direct_shading_reduction_factor,
+        EDITION_2 => ExternalConditions::direct_shading_reduction_factor_edition_2,
+        _ => return Err(WRONG_EDITION),
+    };
+    factor(
+        conditions,
+        base_height,
+        height,
+        width,
+        tilt,
+        Orientation360(orientation),
+        Some(window),
+        step,
+    )
+    .map_err(|error| refusal_number(&error))
+}
+
 /// The published record, kept from call to call.
 pub struct Judge {
     conditions: ExternalConditions,
+    surface: [f64; 5],
+    window: Vec<WindowShadingObject>,
 }
 
 impl Judge {
     pub fn new() -> Self {
         let conditions = sun_at(0.0, 0.0, vec![]);
-        Judge { conditions }
+        Judge {
+            conditions,
+            surface: [0.0; 5],
+            window: vec![],
+        }
     }
 
-    /// 3, then 4, then what the published function gives.
-    pub fn answer(&mut self, numbers: &Numbers, sectors: &[u8], window: &[u8]) -> Judged {
+    /// What the published function gives in that edition for the last call that passed the checks.
+    pub fn factor_in(&self, edition: u64) -> Result<f64, u64> {
+        let (conditions, window) = (&self.conditions, &self.window);
+        factor_by(conditions, edition, &self.surface, window, FIRST_STEP)
+    }
+
+    /// 14, then 3, then 4, then what the published function gives.
+    pub fn answer(
+        &mut self,
+        edition: u64,
+        numbers: &Numbers,
+        sectors: &[u8],
+        window: &[u8],
+    ) -> Judged {
         let unseen = |number: u64| Judged {
             answer: refused(number),
             walked: None,
         };
+        if !edition_fine(edition) {
+            return unseen(WRONG_EDITION);
+        }
         let in_range = |(&x, &range): (&f64, &(f64, f64))| within(x, range).is_some();
         if !numbers.iter().zip(&RANGES).all(in_range) {
             return unseen(3);
         }
         match (sectors_of(sectors), window_of(window)) {
-            (Some(sectors), Some(window)) => self.published(numbers, sectors, &window),
+            (Some(sectors), Some(window)) => self.published(edition, numbers, sectors, window),
             _ => unseen(4),
         }
     }
 
     fn published(
         &mut self,
-        &[altitude, azimuth, tilt, orientation, base_height, height, width]: &Numbers,
+        edition: u64,
+        &[altitude, azimuth, ref surface @ ..]: &Numbers,
         sectors: Vec<ShadingSegment>,
-        window: &[WindowShadingObject],
+        window: Vec<WindowShadingObject>,
     ) -> Judged {
-        let orientation = angle(orientation);
-        let conditions = &mut self.conditions;
-        conditions.solar_altitudes[0] = altitude;
-        conditions.solar_azimuth_angles[0] = azimuth;
-        conditions.shading_segments = Some(sectors);
-        let factor = conditions.direct_shading_reduction_factor(
-            base_height,
-            height,
-            width,
-            tilt,
-            orientation,
-            Some(window),
-            FIRST_STEP,
-        );
-        let answer = match factor {
+        self.conditions.solar_altitudes[0] = altitude;
+        self.conditions.solar_azimuth_angles[0] = azimuth;
+        self.conditions.shading_segments = Some(sectors);
+        self.surface = *surface;
+        self.window = window;
+        let answer = match self.factor_in(edition) {
             Ok(factor) => FactorAnswer { number: 0, factor },
-            Err(error) => refused(refusal_number(&error)),
+            Err(number) => refused(number),
         };
+        let [tilt, orientation, ..] = *surface;
         Judged {
             answer,
-            walked: walked(conditions, tilt, orientation, answer.number),
+            walked: walked(&self.conditions, tilt, angle(orientation), answer.number),
         }
     }
 }

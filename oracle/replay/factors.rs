@@ -1,6 +1,7 @@
 //! Factor calls at the edges, random ones, and one for each way and place to end a walk along the
-//! sectors, whose list ends there.
+//! sectors, whose list ends there, all of edition 1; then some of edition 2 and of none.
 
+use super::editions;
 use super::file::{File, Record};
 use crate::comparison::Settings;
 use crate::published::shading::{Judge, Judged};
@@ -9,7 +10,9 @@ use crate::shading::walks::Walks;
 use crate::shading::{edges, scenes};
 
 const KIND: u64 = 2;
-const LONGEST: usize = 800;
+const LONGEST: usize = 808;
+/// The bytes of a record before its lists.
+const WORDS: usize = 112;
 const AT_THE_EDGES: usize = 400;
 const ALL: usize = 1_000;
 
@@ -18,9 +21,10 @@ const MOST: [usize; 12] = [600, 0, 0, 60, 100, 0, 0, 0, 80, 80, 80, 80];
 
 /// The record of a call with its answer.
 fn record_of(judge: &mut Judge, call: &Call) -> (Record, Judged) {
-    let judged = judge.answer(&call.numbers, &call.sectors, &call.window);
+    let judged = judge.answer(call.edition, &call.numbers, &call.sectors, &call.window);
     let mut record = Record::new(KIND);
     record
+        .word(call.edition)
         .doubles(&call.numbers)
         .word(call.sectors.len() as u64)
         .word(call.window.len() as u64)
@@ -29,6 +33,12 @@ fn record_of(judge: &mut Judge, call: &Call) -> (Record, Judged) {
         .list(&call.sectors)
         .list(&call.window);
     (record, judged)
+}
+
+/// Whether the record of a call is short enough.
+fn short(call: &Call) -> bool {
+    let lists = call.sectors.len() + call.window.len();
+    WORDS + lists <= LONGEST
 }
 
 pub fn file(settings: &Settings) -> Result<File, String> {
@@ -59,6 +69,15 @@ pub fn file(settings: &Settings) -> Result<File, String> {
         file.push(&record);
     }
     walks.report(settings, "kept")?;
+    let first = file.records;
+    let mut of_editions = [0; 15];
+    for call in editions::calls(settings, short)? {
+        let (record, judged) = record_of(&mut judge, &call);
+        of_editions[judged.answer.number as usize] += 1;
+        file.push(&record);
+    }
+    let more = file.records - first;
+    println!("  {more} of edition 2 or none, numbers {of_editions:?}");
     match [0, 3, 4, 8, 9, 10, 11].iter().all(|&k| numbers[k] > 10) {
         true => Ok(file),
         false => Err(String::from("too few calls of some number")),

@@ -1,6 +1,7 @@
 //! Answers of the published Rust, as the program `replay` reads them.
 
 pub mod days;
+pub mod editions;
 pub mod factors;
 pub mod file;
 pub mod leaves;

@@ -1,9 +1,9 @@
 //! Short runs, accepted and with every refusal, some whose walk along 36 sectors ends at the first, a
 //! middle or the last of them, some whose sums have something to tell of the step, and some about the
-//! totals.
+//! totals, all of edition 1; then some of edition 2 and of none.
 
 use super::file::{File, Record};
-use super::totals;
+use super::{editions, totals};
 use crate::comparison::Settings;
 use crate::jobs::cases::Maker;
 use crate::jobs::edges;
@@ -14,13 +14,15 @@ use crate::random::Random;
 use crate::shading::walks::all_ends;
 
 const KIND: u64 = 1;
-const LONGEST: usize = 2_616;
+const LONGEST: usize = 2_624;
 const MOST_RESULTS: usize = 1_024;
 const FILL: u8 = 0xA5;
 
 /// So many of each number among the jobs at the edges, those with several faults and the random ones.
 const ACCEPTED: usize = 70;
 const REFUSED: usize = 12;
+/// Of those about editions one in so many has its totals kept.
+const KEEPS_TOTALS: usize = 8;
 
 /// The job with so many bytes of results and totals, and room for its table of days.
 fn lent(job: Job, results: usize, totals: usize) -> Job {
@@ -47,6 +49,7 @@ fn record_of(job: &Job, left: &Left<RunAnswer>, keeps_totals: bool) -> Record {
     ];
     let mut record = Record::new(KIND);
     record
+        .word(job.edition)
         .doubles(&[site.latitude, site.longitude, site.timezone as f64])
         .word(site.start_day)
         .doubles(&[site.series_step])
@@ -191,6 +194,27 @@ fn with_totals(file: &mut File) -> Result<(), String> {
     Ok(())
 }
 
+/// Runs of edition 2 and of none. The totals of some are kept.
+fn with_editions(file: &mut File, settings: &Settings) -> Result<(), String> {
+    let short = |job: &Job| record(&mut Judge::new(), job.clone()).is_some();
+    let mut judge = Judge::new();
+    let mut numbers = [0; 15];
+    for (place, (job, known)) in editions::runs(settings, short).into_iter().enumerate() {
+        let results = job.results.len();
+        let job = lent(job, results, totals_needed(1));
+        let left = judge.run_on_copies(&job);
+        let number = left.answer.number;
+        if known.is_some_and(|known| known != number) {
+            return Err(format!("a run about editions has the number {number}"));
+        }
+        numbers[number as usize] += 1;
+        file.push(&record_of(&job, &left, place % KEEPS_TOTALS == 0));
+    }
+    let more: usize = numbers.iter().sum();
+    println!("  {more} of edition 2 or none, numbers {numbers:?}");
+    Ok(())
+}
+
 pub fn file(settings: &Settings) -> Result<File, String> {
     let mut random = settings.random("replayed runs");
     let mut file = File::default();
@@ -205,6 +229,7 @@ pub fn file(settings: &Settings) -> Result<File, String> {
     let met = take(&mut file, "random", any);
     sums(&mut file);
     with_totals(&mut file)?;
+    with_editions(&mut file, settings)?;
     match met.whole() {
         true => Ok(file),
         false => Err(String::from("too few runs of some number")),

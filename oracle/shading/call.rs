@@ -21,6 +21,7 @@ pub const TRIPLES: usize = 3;
 /// What one call is given.
 #[derive(Clone, PartialEq)]
 pub struct Call {
+    pub edition: u64,
     pub numbers: Numbers,
     pub sectors: Vec<u8>,
     pub window: Vec<u8>,
@@ -29,6 +30,7 @@ pub struct Call {
 /// The same with lists of whole records.
 #[derive(Clone)]
 pub struct Scene {
+    pub edition: u64,
     pub numbers: Numbers,
     pub sectors: Vec<Sector>,
     pub window: Vec<WindowObject>,
@@ -53,6 +55,7 @@ fn records_of<const WORDS: usize>(bytes: &[u8]) -> Vec<[u64; WORDS]> {
 impl Scene {
     pub fn call(&self) -> Call {
         Call {
+            edition: self.edition,
             numbers: self.numbers,
             sectors: bytes_of(&self.sectors),
             window: bytes_of(&self.window),
@@ -62,6 +65,7 @@ impl Scene {
     /// The whole records of a call's lists.
     pub fn of(call: &Call) -> Scene {
         Scene {
+            edition: call.edition,
             numbers: call.numbers,
             sectors: records_of(&call.sectors),
             window: records_of(&call.window),
@@ -101,7 +105,7 @@ impl Call {
             "height",
             "width",
         ];
-        let mut lines = vec![];
+        let mut lines = vec![format!("  edition     {}", self.edition)];
         for (name, x) in NAMES.iter().zip(self.numbers) {
             lines.push(format!("  {name:<11} {}", crate::comparison::shown(x)));
         }

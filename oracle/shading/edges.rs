@@ -1,8 +1,10 @@
 //! Calls of the factor at the edges, one by one.
 
 use super::call::*;
+use super::editions::{EDITIONS, WRONG_EDITIONS};
 use super::scenes::{edges_of_range, odd_words, Aim};
 use super::walks::{all_ends, obstacle_at, sectors_ending};
+use crate::pilgartze::EDITION_1;
 use crate::published::shading::*;
 use crate::published::walk::Walked;
 use crate::random::{ulps_from, Random};
@@ -27,6 +29,7 @@ fn plain_scenes() -> [Scene; 3] {
             sector(ends[0], ends[1], &objects)
         });
         Scene {
+            edition: EDITION_1,
             numbers,
             sectors: sectors.collect(),
             window: [OBSTACLE, OVERHANG, RIGHT_FIN, LEFT_FIN, OBSTACLE]
@@ -257,6 +260,7 @@ fn walk_call(scene: &Scene, walked: Walked, count: usize) -> Call {
     let numbers = scene.numbers;
     let sun = 180.0 - numbers[AZIMUTH];
     Scene {
+        edition: scene.edition,
         numbers,
         sectors: sectors_ending(walked, count, sun, |place| obstacle_at(&numbers, place)),
         window: vec![],
@@ -340,6 +344,144 @@ fn examples(calls: &mut Vec<Call>) {
     );
 }
 
+/// Differences at which something changes, and others: as they are, and not yet with their neighbours.
+const DIFFERENCES: [f64; 25] = [
+    0.0, 1e-300, 1e-9, 10.0, 30.0, 45.0, 60.0, 89.5, 90.0, 90.5, 120.0, 179.5, 180.0, 180.5, 200.0,
+    269.5, 270.0, 270.5, 300.0, 315.0, 330.0, 345.0, 350.0, 359.5, 360.0,
+];
+
+/// Objects by which the editions part, or by which they must not, each alone and then together: fins
+/// of both sides at the edge of the window and away from it, and an overhang.
+fn fins_and_overhang() -> Vec<Vec<WindowObject>> {
+    let object = |kind: u64, depth: f64, distance: f64| -> WindowObject {
+        [kind, depth.to_bits(), distance.to_bits(), 0]
+    };
+    let alone = [
+        object(RIGHT_FIN, 0.5, 0.0),
+        object(LEFT_FIN, 0.5, 0.0),
+        object(RIGHT_FIN, 0.25, 0.125),
+        object(LEFT_FIN, 0.25, -0.0),
+        object(OVERHANG, 0.5, 0.1),
+    ];
+    let mut lists: Vec<Vec<WindowObject>> = alone.iter().map(|&object| vec![object]).collect();
+    lists.push(alone[..2].to_vec());
+    lists.push(alone.to_vec());
+    lists
+}
+
+/// The scene with that difference, or about, by that orientation, if the azimuth is in range; with
+/// its neighbours.
+fn about_difference(calls: &mut Vec<Call>, scene: &Scene, orientation: f64, difference: f64) {
+    let mut scene = scene.clone();
+    scene.numbers[ORIENTATION] = orientation;
+    for steps in -2..=2 {
+        let azimuth = ulps_from(180.0 - orientation + difference, steps);
+        if (-360.0..=360.0).contains(&azimuth) {
+            scene.numbers[AZIMUTH] = azimuth;
+            calls.push(scene.call());
+        }
+    }
+}
+
+/// The sun at each such difference, on either side, low and overhead, with each of these lists; among
+/// them a right fin 0.5 deep at difference −30. The azimuth −0.0 gives the difference −0.0.
+fn every_difference(calls: &mut Vec<Call>) {
+    let around = vec![sector(0.0, 360.0, &[])];
+    for (window, altitude) in fins_and_overhang()
+        .into_iter()
+        .flat_map(|window| [0.0, 35.0, 90.0].map(|altitude| (window.clone(), altitude)))
+    {
+        let mut scene = Scene {
+            edition: EDITION_1,
+            numbers: [altitude, 0.0, 90.0, 180.0, 0.0, 1.0, 1.0],
+            sectors: around.clone(),
+            window,
+        };
+        for orientation in [0.0, 5.5, 60.0, 90.0, 180.0, 270.0, 300.0, 354.5, 360.0] {
+            for difference in DIFFERENCES {
+                about_difference(calls, &scene, orientation, difference);
+                about_difference(calls, &scene, orientation, -difference);
+            }
+        }
+        scene.numbers[AZIMUTH] = -0.0;
+        calls.push(scene.call());
+    }
+}
+
+/// The fault that leads to this number where there is no other.
+fn fault(call: &mut Call, number: u64) {
+    let sectors_of = |bounds: &[(f64, f64)]| {
+        let sectors = bounds.iter().map(|&(start, end)| sector(start, end, &[]));
+        let words = sectors.flatten().flat_map(u64::to_le_bytes);
+        words.collect::<Vec<u8>>()
+    };
+    match number {
+        3 => call.numbers[TILT] = f64::NAN,
+        4 => call.window.push(0),
+        8 => call.sectors = sectors_of(&[(0.0, 1e-9), (2.0, 360.0)]),
+        9 => call.sectors = sectors_of(&[(360.0, 100.0)]),
+        10 => call.sectors = sectors_of(&[]),
+        _ => {
+            let one = 1.0f64.to_bits();
+            let reveal = [REVEAL, one, one, 0];
+            call.window
+                .extend(reveal.into_iter().flat_map(u64::to_le_bytes));
+        }
+    }
+}
+
+/// Every set of the faults that lead to 3, 4 and 8 to 11, and none of them, with every edition and
+/// every word that names none.
+pub fn sets_of_faults() -> Vec<Call> {
+    const NUMBERS: [u64; 6] = [3, 4, 8, 9, 10, 11];
+    let mut calls = vec![];
+    for scene in plain_scenes() {
+        for set in 0..1 << NUMBERS.len() {
+            let mut call = scene.call();
+            // from the last on, so that a part record stays one
+            for place in (0..NUMBERS.len())
+                .rev()
+                .filter(|place| set >> place & 1 == 1)
+            {
+                fault(&mut call, NUMBERS[place]);
+            }
+            for edition in EDITIONS.into_iter().chain(WRONG_EDITIONS) {
+                calls.push(Call {
+                    edition,
+                    ..call.clone()
+                });
+            }
+        }
+    }
+    calls
+}
+
+/// Calls about the fins, in both editions.
+pub fn fins() -> Vec<Call> {
+    let mut calls = vec![];
+    every_difference(&mut calls);
+    in_both_editions(&calls)
+}
+
+fn in_both_editions(calls: &[Call]) -> Vec<Call> {
+    let both = |call: &Call| {
+        EDITIONS.map(|edition| Call {
+            edition,
+            ..call.clone()
+        })
+    };
+    calls.iter().flat_map(both).collect()
+}
+
+/// All that are tried one by one, those of `edges` in both editions.
+pub fn all() -> Vec<Call> {
+    let mut calls = in_both_editions(&edges());
+    calls.extend(fins());
+    calls.extend(sets_of_faults());
+    calls
+}
+
+/// Calls of edition 1, from which some of the answers that are kept are chosen.
 pub fn edges() -> Vec<Call> {
     let mut calls = vec![];
     examples(&mut calls);

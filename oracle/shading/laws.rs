@@ -1,7 +1,9 @@
 //! The laws of the factor, tried on accepted calls: it lies from 0 to 1, the same objects in another
-//! order or number give the same double, more objects never give a larger one, and none give 1.
+//! order or number give the same double, more objects never give a larger one, and none give 1; both
+//! calls in the same edition. And what both editions have in common.
 
 use super::call::*;
+use super::editions::{editions_agree, has_left_fin, other_edition};
 use super::scenes::Aim;
 use crate::comparison::{same, shown, Outcome, Settings};
 use crate::pilgartze::FactorAnswer;
@@ -19,16 +21,19 @@ pub enum Law {
     Repeated,
     /// with further ones,
     Enlarged,
-    /// without any.
+    /// without any,
     Emptied,
+    /// in the other edition, with left fins where these shade alike in both.
+    OtherEdition,
 }
 
-pub const LAWS: [Law; 5] = [
+pub const LAWS: [Law; 6] = [
     Law::Range,
     Law::Reordered,
     Law::Repeated,
     Law::Enlarged,
     Law::Emptied,
+    Law::OtherEdition,
 ];
 
 impl Law {
@@ -40,6 +45,7 @@ impl Law {
             Law::Repeated => "factor repeated",
             Law::Enlarged => "factor enlarged",
             Law::Emptied => "factor emptied",
+            Law::OtherEdition => "factor in the other edition",
         }
     }
 
@@ -50,10 +56,17 @@ impl Law {
             Law::Repeated => "law: objects repeated, the same",
             Law::Enlarged => "law: objects added, no larger",
             Law::Emptied => "law: no objects, exactly 1",
+            Law::OtherEdition => "law: left fins, 0 to 180, both editions",
         }
     }
 
-    /// The other call's lists.
+    /// Whether the law says something of calls with that sun and these objects.
+    fn applies(self, call: &Call) -> bool {
+        let alike = || editions_agree(&call.numbers) && has_left_fin(&call.window);
+        self != Law::OtherEdition || alike()
+    }
+
+    /// The other call's lists, or its edition.
     pub fn change(self, random: &mut Random, scene: &mut Scene) {
         match self {
             Law::Range => {}
@@ -61,20 +74,21 @@ impl Law {
             Law::Repeated => repeat(random, scene),
             Law::Enlarged => enlarge(random, scene),
             Law::Emptied => empty(scene),
+            Law::OtherEdition => scene.edition = other_edition(scene.edition),
         }
     }
 
     pub fn holds(self, factor: f64, other: f64) -> bool {
         match self {
             Law::Range => 0.0 <= factor && factor <= 1.0,
-            Law::Reordered | Law::Repeated => same(factor, other),
+            Law::Reordered | Law::Repeated | Law::OtherEdition => same(factor, other),
             Law::Enlarged => other <= factor,
             Law::Emptied => same(other, 1.0),
         }
     }
 }
 
-/// How many pairs of calls were tried for each law; a pair with the same lists does not count.
+/// How many pairs of calls were tried for each law; a pair of the same calls does not count.
 #[derive(Default)]
 pub struct Pairs {
     tried: [u64; LAWS.len()],
@@ -197,7 +211,7 @@ pub fn try_laws(
     }
     let accepted = FactorAnswer { number: 0, factor };
     let scene = Scene::of(call);
-    for &law in laws {
+    for &law in laws.iter().filter(|law| law.applies(call)) {
         let mut other = scene.clone();
         law.change(random, &mut other);
         let other = other.call();

@@ -1,8 +1,10 @@
-//! The direct shading factor of one step: the specification's checks and the published Rust against
-//! Rattle, number and factor, bit for bit; and the factor's laws on the same calls.
+//! The direct shading factor of one step, in both editions: the specification's checks and the
+//! published Rust against Rattle, number and factor, bit for bit; and the factor's laws on the same
+//! calls.
 
 pub mod call;
 pub mod edges;
+pub mod editions;
 pub mod laws;
 pub mod scenes;
 pub mod self_test;
@@ -15,6 +17,7 @@ use crate::pilgartze::{factor_by, FactorAnswer, FactorCall, Shading, Surface};
 use crate::published::shading::{Judge, Judged, Numbers, MOST_SECTORS, SECTOR_WORDS};
 use crate::random::Random;
 use call::{Call, Scene, COUNT, TRIPLES};
+use editions::{has_fins_on_both_sides, other_edition, FinsMet, Seen};
 use laws::{try_laws, Law, Pairs, LAWS};
 use walks::Walks;
 
@@ -60,6 +63,7 @@ impl Lent {
             std::slice::from_raw_parts(start.cast_const(), list.len())
         };
         let shading = Shading {
+            edition: call.edition,
             sectors: lent(sectors, &call.sectors),
             window: lent(window, &call.window),
         };
@@ -86,16 +90,22 @@ fn call_with(function: FactorCall, numbers: &Numbers, shading: Shading) -> Facto
     unsafe { factor_by(function, altitude, azimuth, &surface, shading) }
 }
 
+fn judged(judge: &mut Judge, call: &Call) -> Judged {
+    judge.answer(call.edition, &call.numbers, &call.sectors, &call.window)
+}
+
 /// How many calls came out in each way.
 #[derive(Default)]
 struct Met {
-    numbers: [u64; 13],
+    numbers: [u64; 15],
     outside: u64,
     one: u64,
     zero: u64,
     between: u64,
     nan: u64,
     walks: Walks,
+    /// Of the random calls.
+    fins: FinsMet,
 }
 
 impl Met {
@@ -114,6 +124,19 @@ impl Met {
         }
     }
 
+    /// Notes the fins of a random call.
+    fn note_fins(&mut self, judge: &Judge, call: &Call, judged: &Judged) {
+        let mut seen = Seen::default();
+        if has_fins_on_both_sides(&call.window) {
+            seen.note(&call.numbers, judged.walked.is_some());
+            if judged.answer.number == 0 && judged.walked.is_some() {
+                let other = judge.factor_in(other_edition(call.edition));
+                seen.other = !other.is_ok_and(|other| same(judged.answer.factor, other));
+            }
+        }
+        self.fins.note(call.edition, &seen);
+    }
+
     fn report(&self, settings: &Settings) -> Outcome {
         let number = |number: usize, word: &str| {
             let words = format!("number {number}{word}");
@@ -127,6 +150,7 @@ impl Met {
             number(9, ", turned"),
             number(10, ", no sector"),
             number(11, ", reveal"),
+            number(14, ", edition"),
             (String::from("outside the beam, 1"), self.outside),
             (String::from("inside the beam, exactly 1"), self.one),
             (String::from("inside the beam, exactly 0"), self.zero),
@@ -142,6 +166,7 @@ impl Met {
             settings.detail(what, *count);
         }
         settings.detail("NaN factor", self.nan);
+        self.fins.report(settings, "factor")?;
         self.walks.report(settings, "factor")
     }
 }
@@ -150,9 +175,7 @@ impl Met {
 /// is a difference without them.
 fn difference(call: &Call, judge: &mut Judge, lent: &mut Lent) -> String {
     let mut differ = |call: &Call| {
-        let right = judge
-            .answer(&call.numbers, &call.sectors, &call.window)
-            .answer;
+        let right = judged(judge, call).answer;
         let got = lent.call(call).ok()?;
         let same = right.number == got.number && same(right.factor, got.factor);
         (!same).then_some((right, got))
@@ -203,26 +226,44 @@ pub fn smaller(call: &Call) -> Vec<Call> {
     all
 }
 
-/// All edges, then random calls up to the count.
-fn calls(random: &mut Random, count: usize) -> impl Iterator<Item = Call> + '_ {
-    let edges = edges::edges();
-    let more = count.saturating_sub(edges.len());
-    edges
-        .into_iter()
-        .chain((0..more).map(|_| scenes::any_call(random)))
+/// What is to be tried.
+#[derive(Clone, Copy)]
+pub struct Plan<'a> {
+    /// The calls at the edges, which come first.
+    pub edges: &'a [Call],
+    /// Whether answers are compared; else the laws are tried alone.
+    pub compared: bool,
+    pub laws: &'a [Law],
 }
 
-fn run(settings: &Settings, function: FactorCall, compared: bool, laws: &[Law]) -> Outcome {
+/// All edges, then random calls up to the count, with a word for these.
+fn calls<'a>(
+    random: &'a mut Random,
+    edges: &'a [Call],
+    count: usize,
+) -> impl Iterator<Item = (Call, bool)> + 'a {
+    let more = count.saturating_sub(edges.len());
+    let edges = edges.iter().map(|call| (call.clone(), false));
+    edges.chain((0..more).map(|_| (scenes::any_call_of_any_edition(random), true)))
+}
+
+pub fn run(settings: &Settings, function: FactorCall, plan: Plan) -> Outcome {
+    let Plan {
+        edges,
+        compared,
+        laws,
+    } = plan;
     let mut judge = Judge::new();
     let mut lent = Lent::new(function);
     let mut met = Met::default();
     let mut tally = Tally::default();
     let mut pairs = Pairs::default();
     let mut random = settings.random("laws of the factor");
-    for call in calls(&mut settings.random("factor"), TIMES * settings.count) {
+    let mut factor_random = settings.random("factor");
+    for (call, by_chance) in calls(&mut factor_random, edges, TIMES * settings.count) {
         let got = lent.call(&call)?;
         if compared {
-            let judged = judge.answer(&call.numbers, &call.sectors, &call.window);
+            let judged = judged(&mut judge, &call);
             let right = judged.answer;
             if right.number != got.number || !same(right.factor, got.factor) {
                 let words = difference(&call, &mut judge, &mut lent);
@@ -230,6 +271,9 @@ fn run(settings: &Settings, function: FactorCall, compared: bool, laws: &[Law]) 
                 return Err(format!("factor differs after {cases} cases\n{words}"));
             }
             met.note(&judged);
+            if by_chance {
+                met.note_fins(&judge, &call, &judged);
+            }
             tally.both_nan += right.factor.is_nan() as u64;
         }
         tally.compared += 1;
@@ -247,15 +291,10 @@ fn run(settings: &Settings, function: FactorCall, compared: bool, laws: &[Law]) 
 
 pub fn section(settings: &Settings, function: FactorCall) -> Outcome {
     settings.heading("the direct shading factor of one step: published Rust against Rattle");
-    run(settings, function, true, &LAWS)
-}
-
-/// The comparison without the laws, for the self-test.
-pub fn compared_alone(settings: &Settings, function: FactorCall) -> Outcome {
-    run(settings, function, true, &[])
-}
-
-/// One law without the comparison, for the self-test.
-pub fn law_alone(settings: &Settings, function: FactorCall, law: Law) -> Outcome {
-    run(settings, function, false, &[law])
+    let plan = Plan {
+        edges: &edges::all(),
+        compared: true,
+        laws: &LAWS,
+    };
+    run(settings, function, plan)
 }

@@ -1,7 +1,9 @@
 //! Random calls of the factor, most of them accepted, inside the beam and partly in the shade.
 
 use super::call::*;
+use super::editions::any_edition;
 use super::walks::{all_ends, sectors_ending};
+use crate::pilgartze::EDITION_1;
 use crate::published::shading::*;
 use crate::published::walk::Walked;
 use crate::random::{ulps_from, Random, NAN_PATTERNS};
@@ -152,7 +154,7 @@ fn any_angle(random: &mut Random, low: f64, high: f64) -> f64 {
 }
 
 /// One turn brings it into −180..180, where sectors are.
-fn turned_back(azimuth: f64) -> f64 {
+pub fn turned_back(azimuth: f64) -> f64 {
     match azimuth {
         a if a > 180.0 => a - 360.0,
         a if a < -180.0 => a + 360.0,
@@ -293,9 +295,59 @@ fn any_scene(random: &mut Random) -> Scene {
     let numbers = any_numbers(random);
     let aim = Aim::new(random, &numbers);
     Scene {
+        edition: EDITION_1,
         numbers,
         sectors: any_sectors(random, &aim),
         window: any_window(random, &aim),
+    }
+}
+
+/// A surface that faces north, about, and the sun on the other side of it, so that the difference is
+/// beyond 180 before it is brought into −180..180.
+fn numbers_across_the_north(random: &mut Random) -> Numbers {
+    let mut numbers = any_numbers(random);
+    let side = [1.0, -1.0][random.below(2)];
+    // what a surface to the north lacks of it, and how far beyond the sun stands
+    let lacks = match random.below(8) {
+        0 => 0.0,
+        1 => random.below(90) as f64,
+        _ => random.uniform(0.0, 90.0),
+    };
+    let beyond = match random.below(8) {
+        0 => 90.0,
+        1 => ulps_from(lacks, 1 + random.below(3) as i64),
+        _ => random.uniform(lacks, 90.0),
+    };
+    let from_south = side * (180.0 - lacks);
+    numbers[ORIENTATION] = 180.0 - from_south;
+    numbers[AZIMUTH] = match random.below(32) {
+        0 => -side * ulps_from(180.0, -(random.below(3) as i64)),
+        _ => turned_back(from_south + side * beyond),
+    };
+    numbers
+}
+
+/// Puts a fin of each side among the objects at the window.
+pub fn fins_put_in(random: &mut Random, aim: &Aim, window: &mut Vec<WindowObject>) {
+    window.truncate(MOST_WINDOW_OBJECTS - 2);
+    for kind in [RIGHT_FIN, LEFT_FIN] {
+        let fin = aim.window_object(random, kind);
+        window.insert(random.below(window.len() + 1), fin);
+    }
+}
+
+/// Such a sun, and fins on both sides.
+fn across_the_north(random: &mut Random) -> Scene {
+    let numbers = numbers_across_the_north(random);
+    let aim = Aim::new(random, &numbers);
+    let sectors = any_sectors(random, &aim);
+    let mut window = any_window(random, &aim);
+    fins_put_in(random, &aim, &mut window);
+    Scene {
+        edition: EDITION_1,
+        numbers,
+        sectors,
+        window,
     }
 }
 
@@ -479,8 +531,26 @@ pub fn length_damaged(random: &mut Random, call: &mut Call) {
     }
 }
 
+/// A call of edition 1.
 pub fn any_call(random: &mut Random) -> Call {
-    let mut scene = any_scene(random);
+    let scene = any_scene(random);
+    damaged(random, scene)
+}
+
+/// A call of any edition, five in eight of them with fins on both sides and the sun across the north:
+/// half of all when some of these are damaged.
+pub fn any_call_of_any_edition(random: &mut Random) -> Call {
+    let scene = match random.below(8) {
+        0..=4 => across_the_north(random),
+        _ => any_scene(random),
+    };
+    let mut call = damaged(random, scene);
+    call.edition = any_edition(random);
+    call
+}
+
+/// The scene as it is, or with something done to it.
+fn damaged(random: &mut Random, mut scene: Scene) -> Call {
     match random.below(32) {
         0 | 1 => number_at_an_edge(random, &mut scene),
         2 => azimuth_at_a_turn(random, &mut scene),

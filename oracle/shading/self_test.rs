@@ -3,20 +3,16 @@
 
 use super::laws::LAWS;
 use super::walks::{all_ends, Walks};
-use super::{compared_alone, law_alone, wrong};
+use super::{edges, run as section, wrong, Plan};
 use crate::comparison::{Outcome, Settings};
-use crate::pilgartze::FactorCall;
 use crate::published::interface;
 
 /// A section finds each of these functions, and lets the published Rust pass. How many they are.
-fn found(
-    section: impl Fn(FactorCall) -> Outcome,
-    functions: &[wrong::Wrong],
-) -> Result<usize, String> {
-    section(interface::factor)
+fn found(settings: &Settings, plan: Plan, functions: &[wrong::Wrong]) -> Result<usize, String> {
+    section(settings, interface::factor, plan)
         .map_err(|words| format!("self-test, the published factor: {words}"))?;
     for (name, what, function) in functions {
-        match section(*function) {
+        match section(settings, *function, plan) {
             Ok(()) => return Err(format!("self-test: {what} was not found")),
             Err(words) if words.starts_with(&format!("{name} ")) => {}
             Err(words) => {
@@ -50,13 +46,25 @@ pub fn run(seed: u64) -> Outcome {
         print: false,
     };
     every_place_is_asked_for(settings)?;
-    compared_alone(settings, wrong::without_flaw())
+    let edges = edges::all();
+    let plan = Plan {
+        edges: &edges,
+        compared: true,
+        laws: &[],
+    };
+    let by_chance = Plan { edges: &[], ..plan };
+    section(settings, wrong::without_flaw(), plan)
         .map_err(|words| format!("self-test, the plain factor: {words}"))?;
-    let compared = |function| compared_alone(settings, function);
-    let mut count = found(compared, &wrong::factor())?;
+    let mut count = found(settings, plan, &wrong::factor())?;
+    count += found(settings, plan, &wrong::about_editions())?;
+    found(settings, by_chance, &wrong::about_editions())?;
     for law in LAWS {
-        let alone = |function| law_alone(settings, function, law);
-        count += found(alone, &wrong::lawless(law))?;
+        let alone = Plan {
+            compared: false,
+            laws: &[law],
+            ..plan
+        };
+        count += found(settings, alone, &wrong::lawless(law))?;
     }
     println!("self-test: {count} wrong factors found");
     Ok(())

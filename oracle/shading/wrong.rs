@@ -4,13 +4,13 @@
 
 use super::call::*;
 use super::laws::Law;
-use crate::pilgartze::{FactorAnswer, FactorCall};
+use crate::pilgartze::{FactorAnswer, FactorCall, EDITION_1, EDITION_2};
 use crate::published::shading::*;
 use crate::random::ulps_from;
 use crate::stand_ins::{cos, float_max, float_min, max_of_2, min_of_2, tan, to_radians};
 
 #[derive(Clone, Copy, PartialEq)]
-enum Flaw {
+pub enum Flaw {
     /// None: the plain form itself has to pass.
     Nothing,
 
@@ -40,6 +40,18 @@ enum Flaw {
     TransparencyUnchecked,
     FactorKeptWhereRefused,
     ListWrittenTo,
+
+    // the edition
+    EditionNotLookedAt,
+    EditionZeroTaken,
+    EditionThreeTaken,
+    EditionOneForTwo,
+    EditionTwoForOne,
+    EditionOfFourBytes,
+    EditionAfterSurface,
+    EditionAfterObjects,
+    EditionAfterTheWalk,
+    WrongEditionFactorOne,
 
     // the beam
     BeamEndOpen,
@@ -79,6 +91,16 @@ enum Flaw {
     PartsMultipliedLast,
     SixteenthLeftOut,
 
+    // the fins of edition 2
+    RightFinTangentNotTurned,
+    FinSidesExchanged,
+    FinDifferenceNotWrapped,
+    RightFinDifferenceNotWrapped,
+    LeftFinDifferenceNotWrapped,
+    RightFinAsInEdition1,
+    FinDistanceLeftOut,
+    OverhangCosineWrapped,
+
     // what breaks a law
     LastObjectCounts,
     ExtentsAdded,
@@ -93,12 +115,13 @@ use Flaw::*;
 const LAST: usize = MOST_SECTORS - 1;
 
 /// The factor with a flaw.
-struct Plain {
-    flaw: Flaw,
+pub struct Plain {
+    pub flaw: Flaw,
 }
 
-/// The sun on the surface.
+/// The sun on the surface, and the edition by which fins shade.
 struct Sun {
+    edition: u64,
     tan_altitude: f64,
     difference: f64,
 }
@@ -133,6 +156,23 @@ impl Plain {
     }
 
     // --- The checks ---
+
+    /// The edition that is taken, if one is.
+    fn edition(&self, named: u64) -> Option<u64> {
+        let named = match self.is(EditionOfFourBytes) {
+            true => named as u32 as u64,
+            false => named,
+        };
+        match named {
+            0 if self.is(EditionZeroTaken) => Some(EDITION_1),
+            3 if self.is(EditionThreeTaken) => Some(EDITION_2),
+            EDITION_1 if self.is(EditionTwoForOne) => Some(EDITION_2),
+            EDITION_2 if self.is(EditionOneForTwo) => Some(EDITION_1),
+            _ if self.is(EditionNotLookedAt) => Some(EDITION_1),
+            EDITION_1 | EDITION_2 => Some(named),
+            _ => None,
+        }
+    }
 
     fn numbers_fine(&self, numbers: &Numbers) -> bool {
         numbers
@@ -341,38 +381,83 @@ impl Plain {
         }
     }
 
-    fn add_at_the_window(&self, shade: &mut Shade, sun: &Sun, object: &WindowObject) {
-        let [kind, depth, distance, _] = *object;
-        let (depth, distance) = (double(depth), double(distance));
+    /// The width of a fin's shade, right or left, in edition 1.
+    fn first_fin(&self, sun: &Sun, right: bool, depth: f64, distance: f64) -> f64 {
         let difference = match self.is(FinDifferenceWrapped) {
             true => wrapped(sun.difference),
             false => sun.difference,
         };
-        let fin = |elsewhere: bool, tangent: f64| match elsewhere {
-            true => 0.0,
-            false => depth * tangent - distance,
+        let elsewhere = match right {
+            true => difference > 0.0,
+            false => difference < 0.0,
         };
         let tangent = tan(to_radians(difference));
+        match elsewhere {
+            true => 0.0,
+            false if right && self.is(RightFinMended) => depth * -tangent - distance,
+            false => depth * tangent - distance,
+        }
+    }
+
+    /// The same in edition 2.
+    fn second_fin(&self, sun: &Sun, right: bool, depth: f64, distance: f64) -> f64 {
+        let as_it_is = self.is(FinDifferenceNotWrapped)
+            || self.is(RightFinDifferenceNotWrapped) && right
+            || self.is(LeftFinDifferenceNotWrapped) && !right;
+        let difference = match as_it_is {
+            true => sun.difference,
+            false => wrapped(sun.difference),
+        };
+        let beside = match right != self.is(FinSidesExchanged) {
+            true => -difference,
+            false => difference,
+        };
+        let angle = match right && self.is(RightFinTangentNotTurned) {
+            true => difference,
+            false => beside,
+        };
+        match beside > 0.0 {
+            true if self.is(FinDistanceLeftOut) => depth * tan(to_radians(angle)),
+            true => depth * tan(to_radians(angle)) - distance,
+            false => 0.0,
+        }
+    }
+
+    fn fin(&self, sun: &Sun, right: bool, depth: f64, distance: f64) -> f64 {
+        match sun.edition {
+            EDITION_2 if right && self.is(RightFinAsInEdition1) => {
+                self.first_fin(sun, right, depth, distance)
+            }
+            EDITION_2 => self.second_fin(sun, right, depth, distance),
+            _ => self.first_fin(sun, right, depth, distance),
+        }
+    }
+
+    /// The cosine by which an overhang shades.
+    fn overhang_cosine(&self, sun: &Sun) -> f64 {
+        match () {
+            _ if self.is(OverhangWithoutCosine) => 1.0,
+            _ if self.is(OverhangCosineWrapped) && sun.edition == EDITION_2 => {
+                cos(to_radians(wrapped(sun.difference)))
+            }
+            _ => cos(to_radians(sun.difference)),
+        }
+    }
+
+    fn add_at_the_window(&self, shade: &mut Shade, sun: &Sun, object: &WindowObject) {
+        let [kind, depth, distance, _] = *object;
+        let (depth, distance) = (double(depth), double(distance));
         match kind {
             OVERHANG => {
-                let cosine = match self.is(OverhangWithoutCosine) {
-                    true => 1.0,
-                    false => cos(to_radians(sun.difference)),
-                };
-                let extent = depth * sun.tan_altitude / cosine - distance;
+                let extent = depth * sun.tan_altitude / self.overhang_cosine(sun) - distance;
                 shade.overhang = self.larger(shade.overhang, extent);
             }
             RIGHT_FIN => {
-                let tangent = if self.is(RightFinMended) {
-                    -tangent
-                } else {
-                    tangent
-                };
-                let width = fin(difference > 0.0, tangent);
+                let width = self.fin(sun, true, depth, distance);
                 shade.right = self.larger(shade.right, width);
             }
             LEFT_FIN => {
-                let width = fin(difference < 0.0, tangent);
+                let width = self.fin(sun, false, depth, distance);
                 shade.left = self.larger(shade.left, width);
             }
             _ => {}
@@ -471,8 +556,15 @@ impl Plain {
         }
     }
 
-    fn in_sector(&self, numbers: &Numbers, sector: &Sector, window: &[WindowObject]) -> f64 {
+    fn in_sector(
+        &self,
+        edition: u64,
+        numbers: &Numbers,
+        sector: &Sector,
+        window: &[WindowObject],
+    ) -> f64 {
         let sun = Sun {
+            edition,
             tan_altitude: tan(to_radians(numbers[ALTITUDE])),
             difference: difference(numbers),
         };
@@ -505,18 +597,23 @@ impl Plain {
 
     /// The number that a call is refused with by its numbers or lists alone, if it is.
     fn refusal(&self, call: &Call, scene: &Scene) -> Option<u64> {
-        let numbers_fine = self.numbers_fine(&call.numbers);
-        let lists_fine = self.lists_fine(call, scene);
-        match (numbers_fine, lists_fine) {
-            (false, false) if self.is(ListsBeforeSurface) => Some(4),
-            (false, _) => Some(3),
-            (_, false) => Some(4),
-            _ => None,
+        let mut checks = [
+            (self.edition(call.edition).is_none(), WRONG_EDITION),
+            (!self.numbers_fine(&call.numbers), 3),
+            (!self.lists_fine(call, scene), 4),
+        ];
+        match self.flaw {
+            ListsBeforeSurface => checks.swap(1, 2),
+            EditionAfterSurface => checks.swap(0, 1),
+            EditionAfterObjects => checks.rotate_left(1),
+            EditionAfterTheWalk => checks[0].0 = false,
+            _ => {}
         }
+        checks.iter().find(|(holds, _)| *holds).map(|&(_, n)| n)
     }
 
     /// The factor, or the number of a refusal.
-    fn factor(&self, call: &Call) -> Result<f64, u64> {
+    pub fn factor(&self, call: &Call) -> Result<f64, u64> {
         let numbers = &call.numbers;
         let scene = Scene::of(call);
         if let Some(number) = self.refusal(call, &scene) {
@@ -537,7 +634,8 @@ impl Plain {
             return Err(11);
         }
         let place = place - (self.is(SectorBefore) && place > 0) as usize;
-        Ok(self.in_sector(numbers, &scene.sectors[place], &scene.window))
+        let edition = self.edition(call.edition).ok_or(WRONG_EDITION)?;
+        Ok(self.in_sector(edition, numbers, &scene.sectors[place], &scene.window))
     }
 
     fn answer(&self, call: &Call) -> FactorAnswer {
@@ -545,9 +643,10 @@ impl Plain {
             Ok(factor) => FactorAnswer { number: 0, factor },
             Err(number) => FactorAnswer {
                 number,
-                factor: match self.is(FactorKeptWhereRefused) {
-                    true => 1.0,
-                    false => 0.0,
+                factor: match self.flaw {
+                    FactorKeptWhereRefused => 1.0,
+                    WrongEditionFactorOne if number == WRONG_EDITION => 1.0,
+                    _ => 0.0,
                 },
             },
         }
@@ -556,12 +655,14 @@ impl Plain {
 
 fn answer_of(
     flaw: Flaw,
+    edition: u64,
     numbers: Numbers,
     (sectors, sectors_len): (*const u8, usize),
     (window, window_len): (*const u8, usize),
 ) -> FactorAnswer {
     let list = |start, len| unsafe { std::slice::from_raw_parts(start, len) }.to_vec();
     let call = Call {
+        edition,
         numbers,
         sectors: list(sectors, sectors_len),
         window: list(window, window_len),
@@ -580,6 +681,7 @@ macro_rules! flawed {
     ($name:expr; $($flaw:ident),* $(,)?) => {
         vec![$({
             unsafe extern "C" fn wrong(
+                edition: u64,
                 altitude: f64,
                 azimuth: f64,
                 tilt: f64,
@@ -593,7 +695,7 @@ macro_rules! flawed {
                 window_len: usize,
             ) -> FactorAnswer {
                 let numbers = [altitude, azimuth, tilt, orientation, base_height, height, width];
-                answer_of($flaw, numbers, (sectors, sectors_len), (window, window_len))
+                answer_of($flaw, edition, numbers, (sectors, sectors_len), (window, window_len))
             }
             ($name, stringify!($flaw), wrong as FactorCall)
         }),*]
@@ -634,6 +736,37 @@ fn wrong_checks() -> Vec<Wrong> {
         TransparencyUnchecked,
         FactorKeptWhereRefused,
         ListWrittenTo,
+    }
+}
+
+/// Flaws of the edition.
+fn wrong_editions() -> Vec<Wrong> {
+    flawed! { "factor";
+        EditionNotLookedAt,
+        EditionZeroTaken,
+        EditionThreeTaken,
+        EditionOneForTwo,
+        EditionTwoForOne,
+        EditionOfFourBytes,
+        EditionAfterSurface,
+        EditionAfterObjects,
+        EditionAfterTheWalk,
+        WrongEditionFactorOne,
+    }
+}
+
+/// Flaws of the fins of edition 2. That a fin gives −distance where the difference is 0, and that
+/// the turn is made at ±180 too, shows in no factor.
+fn wrong_fins() -> Vec<Wrong> {
+    flawed! { "factor";
+        RightFinTangentNotTurned,
+        FinSidesExchanged,
+        FinDifferenceNotWrapped,
+        RightFinDifferenceNotWrapped,
+        LeftFinDifferenceNotWrapped,
+        RightFinAsInEdition1,
+        FinDistanceLeftOut,
+        OverhangCosineWrapped,
     }
 }
 
@@ -691,6 +824,11 @@ pub fn factor() -> Vec<Wrong> {
     [wrong_checks(), wrong_walks(), wrong_shades()].concat()
 }
 
+/// The same about editions and fins, which has to find each among random calls alone too.
+pub fn about_editions() -> Vec<Wrong> {
+    [wrong_editions(), wrong_fins()].concat()
+}
+
 /// What each law has to find, tried alone.
 pub fn lawless(law: Law) -> Vec<Wrong> {
     let name = law.name();
@@ -700,5 +838,6 @@ pub fn lawless(law: Law) -> Vec<Wrong> {
         Law::Repeated => flawed!(name; ExtentsAdded, SixteenthLeftOut),
         Law::Enlarged => flawed!(name; LastObjectCounts, NearObstacleReplaces),
         Law::Emptied => flawed!(name; OneByAQuotient, SkyNeverWhole),
+        Law::OtherEdition => flawed!(name; FinSidesExchanged, FinDistanceLeftOut),
     }
 }
