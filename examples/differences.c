@@ -274,9 +274,13 @@ static void fins(void)
                                              pilgartze_right_fin(0.2, 0.05)};
     check(behind(&right, 1, 30.0, -45.0, upright).factor == 1.0, 7, "a right fin, the sun to the right");
     check(about(behind(&left, 1, 30.0, 45.0, upright).factor, 0.5), 7, "a left fin, the sun to the left");
+    check(about(behind_in(PILGARTZE_EDITION_2, &right, 1, 30.0, -45.0, upright).factor, 0.5), 7, "it in edition 2");
     check(behind(&right, 1, 30.0, -150.0, east).factor < 1.0, 7, "a right fin, a difference below -270");
     check(behind(&reveal, 1, 30.0, 20.0, upright).number == PILGARTZE_REFUSED_REVEAL, 29, "a reveal");
     check(about(behind(parts, 3, 30.0, 20.0, upright).factor, 0.9178564), 29, "an overhang and fins in its place");
+    check(about(behind_in(PILGARTZE_EDITION_2, parts, 3, 30.0, 20.0, upright).factor, 0.9178564), 29, "in edition 2");
+    check(about(behind_in(PILGARTZE_EDITION_2, parts, 3, 30.0, -20.0, upright).factor, 0.9178564), 29, "the other way");
+    check(about(behind(parts, 3, 30.0, -20.0, upright).factor, 0.9392661), 29, "the right fin does not shade");
 }
 
 /* One fin, the sun at altitude 0 before a window 1 m wide and 1 m high: the factors of both editions, to the bit. */
@@ -288,7 +292,7 @@ static void check_fin(pilgartze_window_object fin, double azimuth, double orient
     check(behind_in(PILGARTZE_EDITION_2, &fin, 1, 0.0, azimuth, window).factor == second, 38, what);
 }
 
-/* To the north, a sun 30 degrees to the left has the difference -330, by which right fins shade in edition 1; the
+/* About north, a sun 30 degrees to the left has the difference -330, by which right fins shade in edition 1; the
  * tangent's last bits are others there. */
 static void mended_fins(void)
 {
@@ -299,21 +303,25 @@ static void mended_fins(void)
     check_fin(left, 30.0, 180.0, shaded, shaded, "a left fin, a difference of 30");
     check_fin(right, 30.0, 180.0, 1.0, 1.0, "a right fin, a difference of 30");
     check_fin(right, 0.0, 180.0, 1.0, 1.0, "a right fin, no difference");
-    check_fin(left, -150.0, 0.0, 1.0, shaded, "a left fin, a difference of -330");
-    check_fin(right, -150.0, 0.0, 0.7113248654051867, 1.0, "a right fin, a difference of -330");
+    check_fin(right, -160.0, 10.0, 0.7113248654051867, 1.0, "a right fin, a difference of -330");
+    check_fin(left, -160.0, 10.0, 1.0, shaded, "a left fin, a difference of -330");
+    check_fin(right, 160.0, 350.0, 1.0, shaded, "a right fin, a difference of 330");
+    check_fin(left, 160.0, 350.0, 1.0, 1.0, "a left fin, a difference of 330");
 }
 
-/* The overhang's cosine is that of the difference as it is, also in edition 2: at -270 it is just below 0, at 90 just
- * above, and these are the same sun by the two orientations of the north. */
+/* The overhang's cosine is that of the difference as it is, also in edition 2: at -270 it is just below 0, at -90 just
+ * above. */
 static void overhang_not_wrapped(void)
 {
     const pilgartze_window_object overhang = pilgartze_overhang(0.5, 0.0);
     const pilgartze_surface north = facing(90.0, 0.0, 0.0, 1.0);
-    const pilgartze_surface north_too = facing(90.0, 360.0, 0.0, 1.0);
+    const pilgartze_surface flat = facing(0.0, 0.0, 0.0, 1.0);
     uint64_t edition;
     for (edition = PILGARTZE_EDITION_1; edition <= PILGARTZE_EDITION_2; edition++) {
-        check(behind_in(edition, &overhang, 1, 45.0, -90.0, north).factor == 1.0, 38, "an overhang at -270");
-        check(behind_in(edition, &overhang, 1, 45.0, -90.0, north_too).factor == 0.0, 38, "an overhang at 90");
+        check(behind_in(edition, &overhang, 1, 30.0, -90.0, north).factor == 1.0, 38, "an overhang at -270");
+        check(behind_in(edition, &overhang, 1, 30.0, 90.0, north).factor == 0.0, 38, "an overhang at -90");
+        check(behind_in(edition, &overhang, 1, 90.0, -90.0, flat).factor == 1.0, 38, "an overhang over a rooflight");
+        check(behind_in(edition, &overhang, 1, 90.0, 90.0, flat).factor == 0.0, 38, "the same, the sun in the east");
     }
 }
 
