@@ -125,7 +125,7 @@ pub struct Plan<'a> {
     pub jobs: usize,
     /// Whole years, each in both editions.
     pub years: usize,
-    /// Short random jobs that are all aimed at the sun.
+    /// Short random jobs, fifteen in sixteen of them aimed at the sun.
     pub aimed: usize,
     /// Whether answers are compared; else what follows is tried alone.
     pub compared: bool,
@@ -778,7 +778,11 @@ impl Comparison<'_> {
         }
         for turn in 0..self.plan.aimed {
             maker.across_the_north = turn % 5 != 0 && turn % 5 != 2;
-            let job = maker.aimed_job(Aims::Squarely, 6);
+            let aims = match turn % 16 {
+                0 => Aims::Seldom,
+                _ => Aims::Squarely,
+            };
+            let job = maker.aimed_job(aims, 6);
             self.random_job(maker, job, turn % SHORT_BY_NEW == 0)?;
         }
         maker.aims = Aims::Seldom;
