@@ -365,70 +365,33 @@ fn in_both_editions(
     })
 }
 
-/// Half a metre of fin takes half the tangent of 30 degrees where the sun is on its side.
+const SHADED: f64 = 0.711_324_865_405_187_1;
+
+/// Half a metre of fin takes half the tangent of 30 degrees where the sun is on its side: azimuth,
+/// orientation, the fin, and the factors in both editions.
+#[rustfmt::skip] // a line for each
+const FINS: [(&str, [f64; 2], WindowShadingObject, [f64; 2]); 9] = [
+    ("difference -30, right fin", [-30.0, 180.0], RIGHT_FIN, [1.0, SHADED]),
+    ("difference -30, left fin", [-30.0, 180.0], LEFT_FIN, [1.0, 1.0]),
+    ("difference 30, right fin", [30.0, 180.0], RIGHT_FIN, [1.0, 1.0]),
+    ("difference 30, left fin", [30.0, 180.0], LEFT_FIN, [SHADED, SHADED]),
+    ("difference 330, right fin", [165.0, 345.0], RIGHT_FIN, [1.0, SHADED]),
+    ("difference 330, left fin", [165.0, 345.0], LEFT_FIN, [1.0, 1.0]),
+    ("difference -330, left fin", [-165.0, 15.0], LEFT_FIN, [1.0, SHADED]),
+    ("difference 0, right fin", [0.0, 180.0], RIGHT_FIN, [1.0, 1.0]),
+    ("difference 0, left fin", [0.0, 180.0], LEFT_FIN, [1.0, 1.0]),
+];
+
 fn fins(checks: &mut Checks) -> Outcome {
-    const SHADED: f64 = 0.711_324_865_405_187_1;
-    let known = [
-        (
-            "difference -30, right fin",
-            [-30.0, 180.0],
-            RIGHT_FIN,
-            [1.0, SHADED],
-        ),
-        (
-            "difference -30, left fin",
-            [-30.0, 180.0],
-            LEFT_FIN,
-            [1.0, 1.0],
-        ),
-        (
-            "difference 30, right fin",
-            [30.0, 180.0],
-            RIGHT_FIN,
-            [1.0, 1.0],
-        ),
-        (
-            "difference 30, left fin",
-            [30.0, 180.0],
-            LEFT_FIN,
-            [SHADED, SHADED],
-        ),
-        (
-            "difference 330, right fin",
-            [165.0, 345.0],
-            RIGHT_FIN,
-            [1.0, SHADED],
-        ),
-        (
-            "difference 330, left fin",
-            [165.0, 345.0],
-            LEFT_FIN,
-            [1.0, 1.0],
-        ),
-        (
-            "difference -330, left fin",
-            [-165.0, 15.0],
-            LEFT_FIN,
-            [1.0, SHADED],
-        ),
-        (
-            "difference 0, right fin",
-            [0.0, 180.0],
-            RIGHT_FIN,
-            [1.0, 1.0],
-        ),
-        ("difference 0, left fin", [0.0, 180.0], LEFT_FIN, [1.0, 1.0]),
-    ];
-    for (what, [azimuth, orientation], fin, expected) in known {
+    for (what, [azimuth, orientation], fin, expected) in FINS {
         let got = in_both_editions([0.0, azimuth, orientation], fin);
         checks.equal(what, got[0], expected[0])?;
         checks.equal(what, got[1], expected[1])?;
     }
+    // here the right fin of edition 1 shades, by another turn's tangent
     let [first, second] = in_both_editions([0.0, -165.0, 15.0], RIGHT_FIN);
-    checks.holds(
-        "difference -330, right fin, edition 1",
-        (first - SHADED).abs() < 1e-12,
-    )?;
+    let about = (first - SHADED).abs() < 1e-12;
+    checks.holds("difference -330, right fin, edition 1", about)?;
     checks.equal("difference -330, right fin, edition 2", second, 1.0)
 }
 

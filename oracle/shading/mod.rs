@@ -251,11 +251,7 @@ fn calls<'a>(
 }
 
 pub fn run(settings: &Settings, function: FactorCall, plan: Plan) -> Outcome {
-    let Plan {
-        edges,
-        compared,
-        laws,
-    } = plan;
+    let (compared, laws) = (plan.compared, plan.laws);
     let mut judge = Judge::new();
     let mut lent = Lent::new(function);
     let mut met = Met::default();
@@ -263,7 +259,7 @@ pub fn run(settings: &Settings, function: FactorCall, plan: Plan) -> Outcome {
     let mut pairs = Pairs::default();
     let mut random = settings.random("laws of the factor");
     let mut factor_random = settings.random("factor");
-    for (call, by_chance) in calls(&mut factor_random, edges, TIMES * settings.count) {
+    for (call, by_chance) in calls(&mut factor_random, plan.edges, TIMES * settings.count) {
         let got = lent.call(&call)?;
         if compared {
             let judged = judged(&mut judge, &call);
