@@ -17,7 +17,7 @@ use crate::guarded::Side;
 use crate::pilgartze::{DAY, EDITION_2, TOTALS};
 use crate::published::beyond::{Aimed, Sums};
 use crate::published::jobs::*;
-use crate::published::shading::{edition_fine, outside_beam};
+use crate::published::shading::{outside_beam, Judge as FactorJudge, Numbers};
 use crate::published::walk::End;
 use crate::random::Random;
 use crate::shading::call::Call;
@@ -125,7 +125,7 @@ pub struct Plan<'a> {
     pub jobs: usize,
     /// Whole years, each in both editions.
     pub years: usize,
-    /// Short random jobs that are all aimed at the sun.
+    /// Short random jobs, fifteen in sixteen of them aimed at the sun.
     pub aimed: usize,
     /// Whether answers are compared; else what follows is tried alone.
     pub compared: bool,
@@ -637,8 +637,15 @@ impl Met {
     }
 }
 
+/// Whether the editions have another factor at a step.
+fn editions_part(judge: &mut FactorJudge, job: &Job, numbers: &Numbers) -> bool {
+    let judged = judge.answer(EDITION_1, numbers, &job.sectors, &job.window);
+    let other = || judge.factor_in(EDITION_2);
+    judged.answer.number == 0 && !other().is_ok_and(|other| same(judged.answer.factor, other))
+}
+
 /// What a job with fins on both sides has for them, at any of its steps inside the beam.
-fn seen(judge: &mut Judge, job: &Job) -> Seen {
+fn seen(judge: &mut Judge, factors: &mut FactorJudge, job: &Job) -> Seen {
     let mut seen = Seen::default();
     if !has_fins_on_both_sides(&job.window) {
         return seen;
@@ -646,11 +653,8 @@ fn seen(judge: &mut Judge, job: &Job) -> Seen {
     for numbers in judge.suns(&job.site, &job.times, &job.surface) {
         if !outside_beam(&numbers) {
             seen.note(&numbers, true);
+            seen.other |= !seen.other && editions_part(factors, job, &numbers);
         }
-    }
-    if seen.inside && edition_fine(job.edition) {
-        let [one, other] = edges::in_both_editions(job).map(|job| judge.run_on_copies(&job));
-        seen.other = one.results != other.results;
     }
     seen
 }
@@ -660,6 +664,7 @@ fn seen(judge: &mut Judge, job: &Job) -> Seen {
 struct Comparison<'a> {
     plan: Plan<'a>,
     judge: Judge,
+    factors: FactorJudge,
     lent: Lent,
     met: Met,
     pairs: Pairs,
@@ -778,7 +783,11 @@ impl Comparison<'_> {
         }
         for turn in 0..self.plan.aimed {
             maker.across_the_north = turn % 5 != 0 && turn % 5 != 2;
-            let job = maker.aimed_job(Aims::Squarely, 6);
+            let aims = match turn % 16 {
+                0 => Aims::Seldom,
+                _ => Aims::Squarely,
+            };
+            let job = maker.aimed_job(aims, 6);
             self.random_job(maker, job, turn % SHORT_BY_NEW == 0)?;
         }
         maker.aims = Aims::Seldom;
@@ -791,7 +800,7 @@ impl Comparison<'_> {
         job.edition = any_edition(&mut self.editions_random);
         self.job_and_singles(maker, &job, also_by_new)?;
         if self.plan.compared {
-            let seen = seen(&mut self.judge, &job);
+            let seen = seen(&mut self.judge, &mut self.factors, &job);
             self.met.fins.note(job.edition, &seen);
         }
         Ok(())
@@ -884,6 +893,7 @@ pub fn section(settings: &Settings, library: &Library, plan: Plan) -> Outcome {
     let mut all = Comparison {
         plan,
         judge: Judge::new(),
+        factors: FactorJudge::new(),
         lent: Lent::new(*library, MOST_BYTES),
         met: Met::default(),
         pairs: Pairs::default(),

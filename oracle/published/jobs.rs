@@ -183,15 +183,19 @@ pub fn lists_of(sectors: &[u8], window: &[u8]) -> Option<Lists> {
     })
 }
 
-/// Checks 14, then 1 to 7 of a run, in number order: its steps with their readings and its lists, or
-/// the number. Days, totals and results are the lengths that are lent.
-fn checked(
-    job: &Job,
-    [days, totals, results]: [usize; 3],
-) -> Result<(Vec<(Step, Readings)>, Lists), u64> {
-    if !edition_fine(job.edition) {
-        return Err(WRONG_EDITION);
+/// The steps of a run with their readings, and its lists.
+type Checked = (Vec<(Step, Readings)>, Lists);
+
+/// Checks 14, then 1 to 7 of a run, in number order: what passes them, or the number. Days, totals and
+/// results are the lengths that are lent.
+fn checked(job: &Job, lengths: [usize; 3]) -> Result<Checked, u64> {
+    match edition_fine(job.edition) {
+        true => others_checked(job, lengths),
+        false => Err(WRONG_EDITION),
     }
+}
+
+fn others_checked(job: &Job, [days, totals, results]: [usize; 3]) -> Result<Checked, u64> {
     if !site_fine(&job.site) {
         return Err(1);
     }

@@ -5,9 +5,11 @@ use super::conditions::{
     angle, hours_of_a_year, sector, sun_at, whole_year, OneHour, Series, Site, FIRST_STEP,
 };
 use super::days::{day_in, day_table};
+use super::shading::factor_by;
 use super::totals::{days_of, month_of};
 use super::*;
 use crate::comparison::{same, shown, Outcome, Settings};
+use crate::pilgartze::{EDITION_1, EDITION_2};
 use crate::random::{ulps_from, Random, NAN_PATTERNS};
 use crate::stand_ins::{self, beyond_in};
 use crate::support::refusal_number;
@@ -324,7 +326,84 @@ fn all_around(objects: Vec<ShadingObject>) -> ExternalConditions {
 fn factor(checks: &mut Checks) -> Outcome {
     obstacles_and_overhangs(checks)?;
     reveals(checks)?;
-    checks.done("factor")
+    checks.done("factor")?;
+    fins(checks)?;
+    overhang_across_the_north(checks)?;
+    checks.done("fins, both editions")
+}
+
+const RIGHT_FIN: WindowShadingObject = WindowShadingObject::SideFinRight {
+    depth: 0.5,
+    distance: 0.0,
+};
+const LEFT_FIN: WindowShadingObject = WindowShadingObject::SideFinLeft {
+    depth: 0.5,
+    distance: 0.0,
+};
+const OVERHANG: WindowShadingObject = WindowShadingObject::Overhang {
+    depth: 0.5,
+    distance: 0.0,
+};
+
+/// The factors in both editions of a window 1 by 1 with one object, under a sun of that altitude and
+/// azimuth, the window facing that way.
+fn in_both_editions(
+    [altitude, azimuth, orientation]: [f64; 3],
+    object: WindowShadingObject,
+) -> [f64; 2] {
+    let conditions = sun_at(altitude, azimuth, vec![sector(0.0, 360.0, vec![])]);
+    let surface = [90.0, orientation, 0.0, 1.0, 1.0];
+    [EDITION_1, EDITION_2].map(|edition| {
+        let factor = factor_by(
+            &conditions,
+            edition,
+            &surface,
+            &[object.clone()],
+            FIRST_STEP,
+        );
+        factor.unwrap_or(f64::NAN)
+    })
+}
+
+const SHADED: f64 = 0.711_324_865_405_187_1;
+
+/// Half a metre of fin takes half the tangent of 30 degrees where the sun is on its side: azimuth,
+/// orientation, the fin, and the factors in both editions.
+#[rustfmt::skip] // a line for each
+const FINS: [(&str, [f64; 2], WindowShadingObject, [f64; 2]); 9] = [
+    ("difference -30, right fin", [-30.0, 180.0], RIGHT_FIN, [1.0, SHADED]),
+    ("difference -30, left fin", [-30.0, 180.0], LEFT_FIN, [1.0, 1.0]),
+    ("difference 30, right fin", [30.0, 180.0], RIGHT_FIN, [1.0, 1.0]),
+    ("difference 30, left fin", [30.0, 180.0], LEFT_FIN, [SHADED, SHADED]),
+    ("difference 330, right fin", [165.0, 345.0], RIGHT_FIN, [1.0, SHADED]),
+    ("difference 330, left fin", [165.0, 345.0], LEFT_FIN, [1.0, 1.0]),
+    ("difference -330, left fin", [-165.0, 15.0], LEFT_FIN, [1.0, SHADED]),
+    ("difference 0, right fin", [0.0, 180.0], RIGHT_FIN, [1.0, 1.0]),
+    ("difference 0, left fin", [0.0, 180.0], LEFT_FIN, [1.0, 1.0]),
+];
+
+fn fins(checks: &mut Checks) -> Outcome {
+    for (what, [azimuth, orientation], fin, expected) in FINS {
+        let got = in_both_editions([0.0, azimuth, orientation], fin);
+        checks.equal(what, got[0], expected[0])?;
+        checks.equal(what, got[1], expected[1])?;
+    }
+    // here the right fin of edition 1 shades, by another turn's tangent
+    let [first, second] = in_both_editions([0.0, -165.0, 15.0], RIGHT_FIN);
+    let about = (first - SHADED).abs() < 1e-12;
+    checks.holds("difference -330, right fin, edition 1", about)?;
+    checks.equal("difference -330, right fin, edition 2", second, 1.0)
+}
+
+/// The overhang's cosine is that of the difference as it is, in both editions: with the sun overhead it
+/// is below 0 at 270, and above 0 at -90.
+fn overhang_across_the_north(checks: &mut Checks) -> Outcome {
+    for ([azimuth, orientation], expected) in [([90.0, 360.0], 1.0), ([-90.0, 180.0], 0.0)] {
+        let got = in_both_editions([90.0, azimuth, orientation], OVERHANG);
+        checks.equal("an overhang, edition 1", got[0], expected)?;
+        checks.equal("an overhang, edition 2", got[1], expected)?;
+    }
+    Ok(())
 }
 
 fn obstacles_and_overhangs(checks: &mut Checks) -> Outcome {

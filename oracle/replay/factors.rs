@@ -41,6 +41,20 @@ fn short(call: &Call) -> bool {
     WORDS + lists <= LONGEST
 }
 
+/// Calls of edition 2 and of none.
+fn with_editions(file: &mut File, settings: &Settings) -> Result<(), String> {
+    let mut judge = Judge::new();
+    let mut numbers = [0; 15];
+    for call in editions::calls(settings, short)? {
+        let (record, judged) = record_of(&mut judge, &call);
+        numbers[judged.answer.number as usize] += 1;
+        file.push(&record);
+    }
+    let more: usize = numbers.iter().sum();
+    println!("  {more} of edition 2 or none, numbers {numbers:?}");
+    Ok(())
+}
+
 pub fn file(settings: &Settings) -> Result<File, String> {
     let mut random = settings.random("replayed factors");
     let mut judge = Judge::new();
@@ -69,15 +83,7 @@ pub fn file(settings: &Settings) -> Result<File, String> {
         file.push(&record);
     }
     walks.report(settings, "kept")?;
-    let first = file.records;
-    let mut of_editions = [0; 15];
-    for call in editions::calls(settings, short)? {
-        let (record, judged) = record_of(&mut judge, &call);
-        of_editions[judged.answer.number as usize] += 1;
-        file.push(&record);
-    }
-    let more = file.records - first;
-    println!("  {more} of edition 2 or none, numbers {of_editions:?}");
+    with_editions(&mut file, settings)?;
     match [0, 3, 4, 8, 9, 10, 11].iter().all(|&k| numbers[k] > 10) {
         true => Ok(file),
         false => Err(String::from("too few calls of some number")),

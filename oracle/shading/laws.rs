@@ -56,7 +56,7 @@ impl Law {
             Law::Repeated => "law: objects repeated, the same",
             Law::Enlarged => "law: objects added, no larger",
             Law::Emptied => "law: no objects, exactly 1",
-            Law::OtherEdition => "law: left fins, 0 to 180, both editions",
+            Law::OtherEdition => "law: other edition, the same",
         }
     }
 

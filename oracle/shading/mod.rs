@@ -24,6 +24,9 @@ use walks::Walks;
 /// For each case of other functions, this many calls.
 const TIMES: usize = 5;
 
+/// However many calls there are at the edges, this many random ones at least.
+const LEAST: usize = 20_000;
+
 /// The function with the lists between guard pages.
 struct Lent {
     function: FactorCall,
@@ -236,23 +239,19 @@ pub struct Plan<'a> {
     pub laws: &'a [Law],
 }
 
-/// All edges, then random calls up to the count, with a word for these.
+/// All edges, then random calls up to the count; which of both each is.
 fn calls<'a>(
     random: &'a mut Random,
     edges: &'a [Call],
     count: usize,
 ) -> impl Iterator<Item = (Call, bool)> + 'a {
-    let more = count.saturating_sub(edges.len());
+    let more = count.saturating_sub(edges.len()).max(LEAST);
     let edges = edges.iter().map(|call| (call.clone(), false));
     edges.chain((0..more).map(|_| (scenes::any_call_of_any_edition(random), true)))
 }
 
 pub fn run(settings: &Settings, function: FactorCall, plan: Plan) -> Outcome {
-    let Plan {
-        edges,
-        compared,
-        laws,
-    } = plan;
+    let (compared, laws) = (plan.compared, plan.laws);
     let mut judge = Judge::new();
     let mut lent = Lent::new(function);
     let mut met = Met::default();
@@ -260,7 +259,7 @@ pub fn run(settings: &Settings, function: FactorCall, plan: Plan) -> Outcome {
     let mut pairs = Pairs::default();
     let mut random = settings.random("laws of the factor");
     let mut factor_random = settings.random("factor");
-    for (call, by_chance) in calls(&mut factor_random, edges, TIMES * settings.count) {
+    for (call, by_chance) in calls(&mut factor_random, plan.edges, TIMES * settings.count) {
         let got = lent.call(&call)?;
         if compared {
             let judged = judged(&mut judge, &call);

@@ -537,12 +537,12 @@ pub fn any_call(random: &mut Random) -> Call {
     damaged(random, scene)
 }
 
-/// A call of any edition, five in eight of them with fins on both sides and the sun across the north:
+/// A call of any edition, two in three of them with fins on both sides and the sun across the north:
 /// half of all when some of these are damaged.
 pub fn any_call_of_any_edition(random: &mut Random) -> Call {
-    let scene = match random.below(8) {
-        0..=4 => across_the_north(random),
-        _ => any_scene(random),
+    let scene = match random.below(3) {
+        0 => any_scene(random),
+        _ => across_the_north(random),
     };
     let mut call = damaged(random, scene);
     call.edition = any_edition(random);
