@@ -671,8 +671,6 @@ struct Comparison<'a> {
     laws_random: Random,
     editions_random: Random,
     tally: Tally,
-    /// Accepted jobs of each edition.
-    accepted: [usize; 2],
     by_new: u64,
     years_accepted: u64,
     by_the_hour: u64,
@@ -707,20 +705,10 @@ impl Comparison<'_> {
             if self.plan.by_the_hour {
                 self.by_the_hour += keeps_its_figure(job, &got)? as u64;
             }
-            if self.tries_laws(job.edition) {
-                let (pairs, random) = (&mut self.pairs, &mut self.laws_random);
-                try_laws(self.plan.laws, pairs, random, job, &got, &mut self.lent)?;
-            }
+            let (pairs, random) = (&mut self.pairs, &mut self.laws_random);
+            try_laws(self.plan.laws, pairs, random, job, &got, &mut self.lent)?;
         }
         Ok(())
-    }
-
-    /// Whether the laws are tried on a job of that edition: on every other one, so that of jobs that
-    /// come in both editions they are tried in either by turns.
-    fn tries_laws(&mut self, edition: u64) -> bool {
-        let place = (edition == EDITION_2) as usize;
-        self.accepted[place] += 1;
-        (self.accepted[place] + place) % 2 == 1
     }
 
     fn job_and_singles(&mut self, maker: &mut Maker, job: &Job, also_by_new: bool) -> Outcome {
@@ -900,7 +888,6 @@ pub fn section(settings: &Settings, library: &Library, plan: Plan) -> Outcome {
         laws_random: settings.random("laws of jobs"),
         editions_random: settings.random("editions of jobs"),
         tally: Tally::default(),
-        accepted: [0; 2],
         by_new: 0,
         years_accepted: 0,
         by_the_hour: 0,

@@ -26,7 +26,7 @@ finWidth NoShade depth distance = whole 0
 
 -- ---- edition 1, the Rust's: by the difference as it is
 
--- a right fin shades where it is not above 0, by its tangent, which is negative from −90 on
+-- a right fin shades where it is not above 0, by its tangent, which is negative from −90 to 0
 unfoldable pub rightFin1 : Float → FinShade
 unfolding whole
 rightFin1 difference = cond (lt (whole 0) difference) NoShade (Tangent (tangent (toRadians difference)))
