@@ -30,6 +30,15 @@ square tilt orientation = record { tilt = tilt; orientation = orientation; «bas
 unfoldable pub part : WindowShadingType → WindowShadingObject
 part kind = record { «object_type» = kind; size = decimal 5 1; distance = whole 0; transparency = whole 0 }
 
+-- all that a factor is computed from: to unfold this name unfolds it
+factors : ℕ
+unfolding square part same isFactor horizon
+    add sub mul div neg lt le eq isNan toUnsigned ofInt ofBits toBits whole decimal bits floorOf toRadians floatMax
+    sine cosine tangent isAngle quarterTurns quadrant remainder sineSeries sineSum sineAt cosineSeries cosineSum cosineAt clamp
+    orientation180 wrappedOnce finWidth rightFin1 leftFin1 rightFin2 leftFin2 finsOf
+    counted outsideSolarBeam segmentOf sunOn reductionFactor hasReveal factorIn shadingFactor
+factors = 0
+
 -- the factor of an upright window at altitude 0
 unfoldable pub finned : ℕ → WindowShadingType → Float → Float → FactorAnswer
 finned edition kind orientation azimuth = shadingFactor edition (square (whole 90) orientation) (whole 0) azimuth (horizon []) (part kind ∷ [])
@@ -67,11 +76,7 @@ finValues =
     && same (leftWidth 1 (whole 0)) (neg (decimal 25 2))
 
 pub fin-values : finValues ≡ true
-unfolding finValues square part finned partly rightWidth leftWidth same isFactor horizon
-    add sub mul div neg lt le eq isNan toUnsigned ofInt ofBits toBits whole decimal bits floorOf toRadians floatMax
-    sine cosine tangent isAngle quarterTurns quadrant remainder sineSeries sineSum sineAt cosineSeries cosineSum cosineAt clamp
-    orientation180 wrappedOnce finWidth rightFin1 leftFin1 rightFin2 leftFin2 finsOf
-    counted outsideSolarBeam segmentOf sunOn reductionFactor hasReveal factorIn shadingFactor
+unfolding finValues factors finned partly rightWidth leftWidth
 fin-values = refl
 
 -- ---- the overhang at the window keeps the unwrapped difference: with the sun overhead and at azimuth −90, on a rooflight that faces
@@ -84,9 +89,5 @@ overhangValues =
     && lt (whole 1) (windowOverhangHeight (decimal 5 1) (whole 0) (tangent (toRadians (whole 90))) (cosine (toRadians (wrappedOnce (neg (whole 270))))))
 
 pub overhang-values : overhangValues ≡ true
-unfolding overhangValues square part same isFactor horizon windowOverhangHeight
-    add sub mul div neg lt le eq isNan toUnsigned ofInt ofBits toBits whole decimal bits floorOf toRadians floatMax
-    sine cosine tangent isAngle quarterTurns quadrant remainder sineSeries sineSum sineAt cosineSeries cosineSum cosineAt clamp
-    orientation180 wrappedOnce finWidth rightFin1 leftFin1 rightFin2 leftFin2 finsOf
-    counted outsideSolarBeam segmentOf sunOn reductionFactor hasReveal factorIn shadingFactor
+unfolding overhangValues factors windowOverhangHeight
 overhang-values = refl
