@@ -1,5 +1,5 @@
-// The calls of the examples on shading and on runs, in edition 1 where none is named. The sun has altitude 0; the surface faces south, upright, with base 0, height 2
-// and width 1.
+// The calls of the examples on shading and on runs, in edition 1 where none is named. The sun has altitude 0; the surface faces
+// south, upright, with base 0, height 2 and width 1.
 ghost use mathlib.Core.Path.{_≡_};
 ghost use mathlib.Core.List.{[]};
 ghost use lib.ListN.{replicate};

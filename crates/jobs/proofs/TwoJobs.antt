@@ -19,7 +19,6 @@ use Rattle.simulation_time.specs.declared.run.Run.{Run}
 use Rattle.simulation_time.specs.Timestep.{seriesIndex}
 use Rattle.simulation_time.proofs.Accepted.{step-nonneg, step-finite}
 use Rattle.simulation_time.proofs.Times.{count-few}
-use Rattle.objects.specs.declared.surface.Surface.{Surface}
 use Rattle.objects.specs.declared.sectors.ShadingSegment.{ShadingSegment}
 use Rattle.objects.specs.declared.window.WindowShadingObject.{WindowShadingObject}
 use Rattle.objects.specs.declared.answers.FactorAnswer.the-variants.{Factor}

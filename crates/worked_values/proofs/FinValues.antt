@@ -2,9 +2,9 @@
 -- definitions.
 use mathlib.Core.Path.{_≡_, refl}
 use mathlib.Core.Bool.{Bool, true, _&&_}
-use mathlib.Core.List.{List, [], _∷_}
+use mathlib.Core.List.{[], _∷_}
 use Prim.Native.Nat.{ℕ}
-use lib.Ieee.{Float, nan, add, sub, mul, div, neg, lt, le, eq, isNan, toUnsigned, ofInt, toBits, ofBits}
+use lib.Ieee.{Float, add, sub, mul, div, neg, lt, le, eq, isNan, toUnsigned, ofInt, toBits, ofBits}
 use Rattle.doubles.specs.Arithmetic.{whole, decimal, bits}
 use Rattle.doubles.specs.Functions.{clamp, floorOf, toRadians, floatMax}
 use Rattle.angles.specs.Sine.{isAngle, quarterTurns, quadrant, remainder, sineSum, cosineSum, sineSeries, cosineSeries, sineAt, cosineAt, sine, cosine, tangent}
