@@ -26,16 +26,19 @@
  *
  * Also proved: two jobs compared. A job is one call of the run; a shade extent is the height or width of shade that is
  * worked out for one object. Take two accepted jobs with
- * - the same edition, site, run and surface;
+ * - the same edition, site (so the same leaf days), run and surface;
  * - series of equally many values, and the same doubles in them;
- * - equally many sectors, and those at the same place start and end at the same numbers (0.0 and -0.0 are one number);
- * - no shade extent that is NaN, in either job, at any step.
+ * - equally many sectors, and those at the same place start and end at the same numbers (0.0 and -0.0 are one number):
+ *   in the summer lists, and in the winter lists, whether or not a step falls in that season;
+ * - no shade extent that is NaN, in either job, at any step, in the list of its day.
  * Then both have the same steps and the same direct values. Every factor lies from 0 to 1, and is exactly 1 with no
  * objects. Each sum lies from 0 to the unshaded sum, that of direct times step, and is that one, bit for bit, with no
- * objects. The same objects, in any order and number, give the same factors, sum and totals, bit for bit. Where either
- * job holds all objects of the other, sector by sector and at the window, its factors are nowhere larger, nor is its
- * sum, nor that of any day or month. Day by day and month by month both have the same count and the same largest total.
+ * objects, in either season. The same objects, in any order and number, give the same factors, sum and totals, bit for
+ * bit. Where either job holds all objects of the other, sector by sector in summer and in winter, and at the window,
+ * its factors are nowhere larger, nor is its sum, nor that of any day or month. Day by day and month by month both have
+ * the same count and the same largest total.
  * Objects are the same where all their words are. That no extent is NaN is measured, not proved: none is known to be.
+ * Also proved: a job with the same sectors in both lists is a job with one list, whatever the leaf days.
  *
  * What the library asks, as any C function does:
  * - A list's pointer and length name memory that is there, and no other thread writes to it during the call.
@@ -75,6 +78,10 @@
  * a fin shades where the sun stands on its side. In edition 1, which follows the Rust that this is a port of, right
  * fins seldom shade; it is there for quotes that were made with it. All else is the same in both.
  *
+ * Two lists of sectors: one for the days with leaves on the trees, one for the others. The site has the first and the
+ * last day with leaves, and each step goes by the list of its day. With the same sectors all the year name them twice:
+ * pilgartze_all_year does, and the leaf days do not matter then.
+ *
  * What gets past the shade is factor * direct + diffuse, not factor * total: diffuse light is never dimmed.
  *
  * DIFFERENCES.md (in docs, installed in share/doc/pilgartze) has an input for each of these, and where the standard has
@@ -108,7 +115,7 @@ extern "C" {
 
 /* The version of this header. The first part changes where a call, a record or a unit does, so that programs have to
  * change, the second where something is added, the third otherwise (docs/CHANGES.md). */
-#define PILGARTZE_VERSION_MAJOR 5
+#define PILGARTZE_VERSION_MAJOR 6
 #define PILGARTZE_VERSION_MINOR 0
 #define PILGARTZE_VERSION_PATCH 0
 #define PILGARTZE_VERSION \
@@ -126,12 +133,12 @@ uint64_t pilgartze_version(void);
 
 /* ---- Refusals ------------------------------------------------------------------------------------------------- */
 
-/* Why a call is turned down; 0 where it is not. Where several hold, the one that is tried first is given: 14, then 1 to
- * 7 in number order, over all steps, before anything is computed or stored; then 8 to 11, step by step. After the arrow
- * stands what to do. */
+/* Why a call is turned down; 0 where it is not. Where several hold, the one that is tried first is given: 14, 1, 15,
+ * then 2 to 7 in number order, over all steps, before anything is computed or stored; then 8 to 11, step by step. After
+ * the arrow stands what to do. */
 enum pilgartze_refusal {
     PILGARTZE_ACCEPTED = 0,
-    /* site: a field of the site is out of range.
+    /* site: a field of the site other than the leaf days is out of range.
      * -> Hold each field to the range beside it in pilgartze_site. */
     PILGARTZE_REFUSED_SITE = 1,
     /* run: a field of the run is out of range, or a step's hour is not in the year (8760 hours, in a leap year 8784);
@@ -142,7 +149,8 @@ enum pilgartze_refusal {
      * -> Hold each field to its range; an azimuth far beyond 360 is that of a sun overhead. */
     PILGARTZE_REFUSED_SURFACE = 3,
     /* object: in a sector or at the window a field is out of range, a kind is not known, a count is above 8, an unused
-     * object or word is not all bits zero, or a list is too long or ends amid a record.
+     * object or word is not all bits zero, or a list is too long or ends amid a record. Both lists of sectors are
+     * looked at, also that of a season in which no step falls.
      * -> Begin each sector by pilgartze_free_sector and each object by its function below; leave out an object of
      *    height or depth 0. */
     PILGARTZE_REFUSED_OBJECT = 4,
@@ -158,8 +166,8 @@ enum pilgartze_refusal {
      *    pilgartze_year_totals. */
     PILGARTZE_REFUSED_RESULTS = 7,
     /* gap: a sector does not start where the one before it ends. 8 to 10 come only where the sun is inside the beam,
-     * and go by the sectors in their order, up to the one with the sun: at each gap, then turned, then whether the sun
-     * is in it.
+     * and go by the sectors of the step's day in their order, up to the one with the sun: at each gap, then turned,
+     * then whether the sun is in it.
      * -> Start each sector at just the double at which the one before ends. */
     PILGARTZE_REFUSED_GAP = 8,
     /* turned: a sector ends below its start.
@@ -178,14 +186,18 @@ enum pilgartze_refusal {
     PILGARTZE_REFUSED_LINE = 12,
     /* edition: neither 1 nor 2. Tried before all others, in each call that has an edition. No number is 13.
      * -> Set shading.edition to PILGARTZE_EDITION_2. */
-    PILGARTZE_REFUSED_EDITION = 14
+    PILGARTZE_REFUSED_EDITION = 14,
+    /* leaf day: the first or the last leaf day is not 0..365. Tried after 1 and before 2, in each call that has a site.
+     * -> Count days from 0: pilgartze_day_of gives a date's. */
+    PILGARTZE_REFUSED_LEAF_DAY = 15
 };
 
 /* The word of a number: "accepted" for 0, "unknown" for a number that no call gives. */
 static inline const char *pilgartze_refusal_word(uint64_t number)
 {
     static const char *const words[] = {"accepted", "site", "run", "surface", "object", "series", "reading", "results",
-                                        "gap", "turned", "no sector", "reveal", "line", "unknown", "edition"};
+                                        "gap", "turned", "no sector", "reveal", "line", "unknown", "edition",
+                                        "leaf day"};
     return number < sizeof words / sizeof words[0] ? words[number] : "unknown";
 }
 
@@ -203,6 +215,11 @@ typedef struct pilgartze_site {
                                         1: it is the beam on the horizontal plane, and is converted: divided by the
                                         sine of the altitude, so that 10 W/m2 with the sun just above the horizon can
                                         come to millions. Prefer 0 where the series can be had */
+    uint64_t first_leaf_day;         /* 0..365, the first day of the year, from 0, with leaves on the trees; */
+    uint64_t last_leaf_day;          /* 0..365, the last. If the first is not above the last, summer is the days from
+                                        the first to the last, both included; otherwise, as south of the tropics, the
+                                        days from the first on and those up to the last. So the first just above the
+                                        last is summer always. pilgartze_day_of gives a date's day */
 } pilgartze_site;
 
 /* The steps of a run, in hours from the start of the year. The first step is at start; after a step at time t another
@@ -300,11 +317,15 @@ enum pilgartze_edition {
     PILGARTZE_EDITION_2 = 2  /* fins of both sides shade: take this one */
 };
 
-/* All that may shade the surface, and by which edition. One that is zeroed names no edition and is refused (14). */
+/* All that may shade the surface, in summer and in winter, and by which edition. One that is zeroed names no edition
+ * and is refused (14). What stands there all the year is in both lists; they need not have the same sectors, nor
+ * equally many. With one list for all the year begin it by pilgartze_all_year. */
 typedef struct pilgartze_shading {
-    uint64_t edition; /* an enum pilgartze_edition */
-    const pilgartze_sector *sectors;
-    size_t sector_count; /* 0..36 */
+    uint64_t edition;               /* an enum pilgartze_edition */
+    const pilgartze_sector *summer; /* on days with leaves, see first_leaf_day of pilgartze_site */
+    size_t summer_count;            /* 0..36 */
+    const pilgartze_sector *winter; /* on all other days */
+    size_t winter_count;            /* 0..36 */
     const pilgartze_window_object *window;
     size_t window_count; /* 0..16 */
 } pilgartze_shading;
@@ -336,7 +357,7 @@ typedef struct pilgartze_day_values {
 
 /* The table of days: a run works each day out once, into this, and its hours read it. days[0] is 1 January; in a common
  * year days[364] is 31 December and days[365] is one day more, which is filled too. Filled before the first step, in
- * every run that is not refused 14 or 1 to 7, also in one with no steps or refused later. */
+ * every run that is not refused 14, 15 or 1 to 7, also in one with no steps or refused later. */
 typedef struct pilgartze_day_table {
     pilgartze_day_values days[PILGARTZE_DAYS];
 } pilgartze_day_table;
@@ -364,8 +385,8 @@ typedef struct pilgartze_totals {
 /* Totals of a year: its 365 or 366 days, 1 January first, and right behind them its 12 months. So January stands at
  * PILGARTZE_DAYS_IN_YEAR(leap_year), and in a common year the last of the 378 is not touched; pilgartze_day_totals and
  * pilgartze_month_totals below find them. Emptied (0, NaN, 0) before the first step and kept from step to step, in
- * every run that is not refused 14 or 1 to 7: also in one with no steps, and where a step is refused they are those of
- * the rows before it. */
+ * every run that is not refused 14, 15 or 1 to 7: also in one with no steps, and where a step is refused they are those
+ * of the rows before it. */
 typedef struct pilgartze_year_totals {
     pilgartze_totals totals[PILGARTZE_MOST_TOTALS];
 } pilgartze_year_totals;
@@ -423,43 +444,47 @@ PILGARTZE_SIZE(pilgartze_factor_answer, 16);
  */
 
 /* A run over all steps. Accepted: one row of 48 bytes for each step, in order; bytes past the last row are untouched.
- * Refused 14 or 1 to 7: nothing is stored. Refused 8 to 11 at a step: the rows of the steps before it are stored, all
- * other bytes of the results are untouched.
+ * Refused 14, 15 or 1 to 7: nothing is stored. Refused 8 to 11 at a step: the rows of the steps before it are stored,
+ * all other bytes of the results are untouched.
+ * Summer and winter may be the same memory.
  * Days is room for the table of days, PILGARTZE_DAYS_LENGTH bytes or more; where it is shorter the run is refused 7, as
- * for short results. Where the run is not refused 14 or 1 to 7 all of the table is stored, before the first step; bytes
- * past it are untouched. What was in it before does not matter.
+ * for short results. Where the run is not refused 14, 15 or 1 to 7 all of the table is stored, before the first step;
+ * bytes past it are untouched. What was in it before does not matter.
  * Totals is room for the totals of the year, PILGARTZE_TOTALS_LENGTH(leap_year) bytes or more; where it is shorter the
- * run is refused 7. Where the run is not refused 14 or 1 to 7 all of them are emptied before the first step, and each
- * step's row is added to its day's and to its month's; bytes past them are untouched. What was in them before does not
- * matter. Where a step is refused 8 to 11 they are those of the rows that are stored, though count and sum of the
+ * run is refused 7. Where the run is not refused 14, 15 or 1 to 7 all of them are emptied before the first step, and
+ * each step's row is added to its day's and to its month's; bytes past them are untouched. What was in them before does
+ * not matter. Where a step is refused 8 to 11 they are those of the rows that are stored, though count and sum of the
  * answer are 0. */
 pilgartze_answer pilgartze_run(
     uint64_t edition, double latitude, double longitude, int64_t timezone, uint64_t start_day, double series_step,
-    uint64_t leap_year, uint64_t direct_beam_conversion, double start, double end, double step, double tilt,
-    double orientation, double base_height, double height, double width, const uint8_t *diffuse, size_t diffuse_length,
-    const uint8_t *direct, size_t direct_length, const uint8_t *reflectivity, size_t reflectivity_length,
-    const uint8_t *sectors, size_t sectors_length, const uint8_t *window, size_t window_length, uint8_t *days,
+    uint64_t leap_year, uint64_t direct_beam_conversion, uint64_t first_leaf_day, uint64_t last_leaf_day, double start,
+    double end, double step, double tilt, double orientation, double base_height, double height, double width,
+    const uint8_t *diffuse, size_t diffuse_length, const uint8_t *direct, size_t direct_length,
+    const uint8_t *reflectivity, size_t reflectivity_length, const uint8_t *summer, size_t summer_length,
+    const uint8_t *winter, size_t winter_length, const uint8_t *window, size_t window_length, uint8_t *days,
     size_t days_length, uint8_t *totals, size_t totals_length, uint8_t *results, size_t results_length);
 
 /* One step: the row that a run has at that time, with these values of the series. Time is 0..8784 with its hour in the
- * year, else it is refused 2. Gives the number: 0, or 14, 1, 2, 3, 4, 6, 7, 8 to 11, tried in this order. Accepted: 48
- * bytes are stored, the rest is untouched. Refused: nothing is stored. */
+ * year, else it is refused 2. Gives the number: 0, or 14, 1, 15, 2, 3, 4, 6, 7, 8 to 11, tried in this order. Accepted:
+ * 48 bytes are stored, the rest is untouched. Refused: nothing is stored. */
 uint64_t pilgartze_step(
     uint64_t edition, double latitude, double longitude, int64_t timezone, uint64_t start_day, double series_step,
-    uint64_t leap_year, uint64_t direct_beam_conversion, double time, double tilt, double orientation,
-    double base_height, double height, double width, double diffuse, double direct, double reflectivity,
-    const uint8_t *sectors, size_t sectors_length, const uint8_t *window, size_t window_length, uint8_t *results,
-    size_t results_length);
+    uint64_t leap_year, uint64_t direct_beam_conversion, uint64_t first_leaf_day, uint64_t last_leaf_day, double time,
+    double tilt, double orientation, double base_height, double height, double width, double diffuse, double direct,
+    double reflectivity, const uint8_t *summer, size_t summer_length, const uint8_t *winter, size_t winter_length,
+    const uint8_t *window, size_t window_length, uint8_t *results, size_t results_length);
 
-/* The sun and the irradiance of one step, with its breakdown and without shade. Gives the number: 0, or 1, 2, 3, 6, 7,
- * tried in this order. Accepted: 72 bytes are stored, the rest is untouched. Refused: nothing is stored. */
+/* The sun and the irradiance of one step, with its breakdown and without shade. The leaf days change nothing in it, but
+ * are checked as in the other calls. Gives the number: 0, or 1, 15, 2, 3, 6, 7, tried in this order. Accepted: 72 bytes
+ * are stored, the rest is untouched. Refused: nothing is stored. */
 uint64_t pilgartze_irradiance(
     double latitude, double longitude, int64_t timezone, uint64_t start_day, double series_step, uint64_t leap_year,
-    uint64_t direct_beam_conversion, double time, double tilt, double orientation, double base_height, double height,
-    double width, double diffuse, double direct, double reflectivity, uint8_t *results, size_t results_length);
+    uint64_t direct_beam_conversion, uint64_t first_leaf_day, uint64_t last_leaf_day, double time, double tilt,
+    double orientation, double base_height, double height, double width, double diffuse, double direct,
+    double reflectivity, uint8_t *results, size_t results_length);
 
-/* The factor for a sun at altitude 0..90 and azimuth -360..360. The number is 0, or 14, 3, 4, 8 to 11, tried in this
- * order; 3 is also an altitude or azimuth out of range. Nothing is stored. */
+/* The factor for a sun at altitude 0..90 and azimuth -360..360. It has no day, and so one list of sectors. The number
+ * is 0, or 14, 3, 4, 8 to 11, tried in this order; 3 is also an altitude or azimuth out of range. Nothing is stored. */
 pilgartze_factor_answer pilgartze_factor(uint64_t edition, double altitude, double azimuth, double tilt,
                                          double orientation, double base_height, double height, double width,
                                          const uint8_t *sectors, size_t sectors_length, const uint8_t *window,
@@ -555,6 +580,45 @@ static inline pilgartze_window_object pilgartze_reveal(double depth, double dist
     return pilgartze_window_part(PILGARTZE_REVEAL, depth, distance);
 }
 
+/* ---- Seasons -------------------------------------------------------------------------------------------------- */
+
+/* The shading of a job with the same sectors all the year: both lists are the same memory. (No version before 6 had two
+ * lists: a program made for those begins its shading by this, and may leave both leaf days 0.) */
+static inline pilgartze_shading pilgartze_all_year(uint64_t edition, const pilgartze_sector *sectors,
+                                                   size_t sector_count, const pilgartze_window_object *window,
+                                                   size_t window_count)
+{
+    pilgartze_shading shading;
+    shading.edition = edition;
+    shading.summer = sectors;
+    shading.summer_count = sector_count;
+    shading.winter = sectors;
+    shading.winter_count = sector_count;
+    shading.window = window;
+    shading.window_count = window_count;
+    return shading;
+}
+
+/* What pilgartze_day_of gives for a date that is not in the year. As a leaf day it is refused 15. */
+#define PILGARTZE_NO_DAY 366
+
+/* The day of the year, from 0, of a day (1..31) of a month (1..12): in a common year 20 April is 109, in a leap year
+ * 110. */
+static inline uint64_t pilgartze_day_of(uint64_t leap_year, uint64_t month, uint64_t day)
+{
+    static const unsigned char lengths[2][12] = {{31, 28, 31, 30, 31, 30, 31, 31, 30, 31, 30, 31},
+                                                 {31, 29, 31, 30, 31, 30, 31, 31, 30, 31, 30, 31}};
+    const unsigned char *const length = lengths[leap_year != 0];
+    uint64_t before = 0, m;
+    if (month - 1 >= 12 || day - 1 >= length[month - 1]) {
+        return PILGARTZE_NO_DAY;
+    }
+    for (m = 1; m < month; m++) {
+        before += length[m - 1];
+    }
+    return before + day - 1;
+}
+
 /* ---- Calls with structs --------------------------------------------------------------------------------------- */
 
 /* The two that follow are for the calls below. */
@@ -574,8 +638,8 @@ static inline size_t pilgartze_length(size_t count, size_t size)
 
 /* pilgartze_run with structs. The rows are room for row_count results. For series of different lengths call
  * pilgartze_run itself. (Version 1 had no days, and no version before 4 had totals: declare a pilgartze_day_table and a
- * pilgartze_year_totals, and pass their addresses before the rows. No version before 5 had editions: set
- * shading.edition.) */
+ * pilgartze_year_totals, and pass their addresses before the rows. No version before 5 had editions, and none before 6
+ * two lists of sectors: begin the shading by pilgartze_all_year.) */
 static inline pilgartze_answer pilgartze_run_job(const pilgartze_site *site, const pilgartze_run_times *run,
                                                  const pilgartze_surface *surface, const pilgartze_weather *weather,
                                                  const pilgartze_shading *shading, pilgartze_day_table *days,
@@ -586,13 +650,15 @@ static inline pilgartze_answer pilgartze_run_job(const pilgartze_site *site, con
     const size_t series_length = pilgartze_length(weather->count, sizeof(double));
     return pilgartze_run(
         shading->edition, site->latitude, site->longitude, site->timezone, site->start_day, site->series_step,
-        site->leap_year, site->direct_beam_conversion, run->start, run->end, run->step, surface->tilt,
-        surface->orientation, surface->base_height, surface->height, surface->width,
+        site->leap_year, site->direct_beam_conversion, site->first_leaf_day, site->last_leaf_day, run->start, run->end,
+        run->step, surface->tilt, surface->orientation, surface->base_height, surface->height, surface->width,
         pilgartze_bytes(weather->diffuse, weather->count, &nothing), series_length,
         pilgartze_bytes(weather->direct, weather->count, &nothing), series_length,
         pilgartze_bytes(weather->reflectivity, weather->count, &nothing), series_length,
-        pilgartze_bytes(shading->sectors, shading->sector_count, &nothing),
-        pilgartze_length(shading->sector_count, sizeof(pilgartze_sector)),
+        pilgartze_bytes(shading->summer, shading->summer_count, &nothing),
+        pilgartze_length(shading->summer_count, sizeof(pilgartze_sector)),
+        pilgartze_bytes(shading->winter, shading->winter_count, &nothing),
+        pilgartze_length(shading->winter_count, sizeof(pilgartze_sector)),
         pilgartze_bytes(shading->window, shading->window_count, &nothing),
         pilgartze_length(shading->window_count, sizeof(pilgartze_window_object)),
         (uint8_t *)days, sizeof *days, (uint8_t *)totals, sizeof *totals,
@@ -622,10 +688,13 @@ static inline uint64_t pilgartze_step_at(const pilgartze_site *site, double time
     const uint8_t nothing = 0;
     return pilgartze_step(
         shading->edition, site->latitude, site->longitude, site->timezone, site->start_day, site->series_step,
-        site->leap_year, site->direct_beam_conversion, time, surface->tilt, surface->orientation, surface->base_height,
-        surface->height, surface->width, reading->diffuse, reading->direct, reading->reflectivity,
-        pilgartze_bytes(shading->sectors, shading->sector_count, &nothing),
-        pilgartze_length(shading->sector_count, sizeof(pilgartze_sector)),
+        site->leap_year, site->direct_beam_conversion, site->first_leaf_day, site->last_leaf_day, time, surface->tilt,
+        surface->orientation, surface->base_height, surface->height, surface->width, reading->diffuse, reading->direct,
+        reading->reflectivity,
+        pilgartze_bytes(shading->summer, shading->summer_count, &nothing),
+        pilgartze_length(shading->summer_count, sizeof(pilgartze_sector)),
+        pilgartze_bytes(shading->winter, shading->winter_count, &nothing),
+        pilgartze_length(shading->winter_count, sizeof(pilgartze_sector)),
         pilgartze_bytes(shading->window, shading->window_count, &nothing),
         pilgartze_length(shading->window_count, sizeof(pilgartze_window_object)), (uint8_t *)row, sizeof *row);
 }
@@ -637,23 +706,23 @@ static inline uint64_t pilgartze_irradiance_at(const pilgartze_site *site, doubl
 {
     return pilgartze_irradiance(
         site->latitude, site->longitude, site->timezone, site->start_day, site->series_step, site->leap_year,
-        site->direct_beam_conversion, time, surface->tilt, surface->orientation, surface->base_height, surface->height,
-        surface->width, reading->diffuse, reading->direct, reading->reflectivity, (uint8_t *)breakdown,
-        sizeof *breakdown);
+        site->direct_beam_conversion, site->first_leaf_day, site->last_leaf_day, time, surface->tilt,
+        surface->orientation, surface->base_height, surface->height, surface->width, reading->diffuse, reading->direct,
+        reading->reflectivity, (uint8_t *)breakdown, sizeof *breakdown);
 }
 
-/* pilgartze_factor with structs. */
-static inline pilgartze_factor_answer pilgartze_factor_at(double altitude, double azimuth,
+/* pilgartze_factor with structs. It has no day: pass the sectors of the season that is meant. */
+static inline pilgartze_factor_answer pilgartze_factor_at(uint64_t edition, double altitude, double azimuth,
                                                           const pilgartze_surface *surface,
-                                                          const pilgartze_shading *shading)
+                                                          const pilgartze_sector *sectors, size_t sector_count,
+                                                          const pilgartze_window_object *window, size_t window_count)
 {
     const uint8_t nothing = 0;
-    return pilgartze_factor(shading->edition, altitude, azimuth, surface->tilt, surface->orientation,
-                            surface->base_height, surface->height, surface->width,
-                            pilgartze_bytes(shading->sectors, shading->sector_count, &nothing),
-                            pilgartze_length(shading->sector_count, sizeof(pilgartze_sector)),
-                            pilgartze_bytes(shading->window, shading->window_count, &nothing),
-                            pilgartze_length(shading->window_count, sizeof(pilgartze_window_object)));
+    return pilgartze_factor(edition, altitude, azimuth, surface->tilt, surface->orientation, surface->base_height,
+                            surface->height, surface->width, pilgartze_bytes(sectors, sector_count, &nothing),
+                            pilgartze_length(sector_count, sizeof(pilgartze_sector)),
+                            pilgartze_bytes(window, window_count, &nothing),
+                            pilgartze_length(window_count, sizeof(pilgartze_window_object)));
 }
 
 #ifdef __cplusplus
