@@ -17,7 +17,7 @@ use Rattle.doubles.proofs.Ranges.{both-of, within-range}
 use Rattle.words.specs.Words.{wordCount}
 use Rattle.calendar.specs.Calendar.{daysInYear}
 use Rattle.sun.specs.declared.site.Site.{Site}
-use Rattle.sun.specs.Site.{siteFine, leapYear, hoursInYear}
+use Rattle.sun.specs.Site.{siteFine, leafDaysFine, leapYear, hoursInYear}
 use Rattle.simulation_time.specs.declared.run.Run.{Run}
 use Rattle.simulation_time.specs.Steps.{runFine, stepCount, timeAt, times, atAll}
 use Rattle.simulation_time.specs.Timestep.{currentHour}
@@ -67,7 +67,8 @@ pub record Passed (job : Job) (room : Bool) : Type 0 where
   pub site-fine : T (siteFine (job .site))
   pub run-fine : T (runAccepted (hoursInYear (job .site)) (job .run))
   pub surface-fine : T (surfaceFine (job .surface))
-  pub sectors-fine : T (sectorsFine (job .sectors))
+  pub summer-fine : T (sectorsFine (job .summer))
+  pub winter-fine : T (sectorsFine (job .winter))
   pub window-fine : T (windowFine (job .window))
   pub readings-fine : T (atAll (λ (time : Float). readingFine (readingAt job time)) (times (job .run)))
   pub room-fine : T room
@@ -77,9 +78,11 @@ unfolding checked stepsIn indicesFine readingsFine readingAt indexAt
 passed job room n e =
     let p0 = passed-test (editionFine (job .edition)) refusal.Edition _ n e in
     let p1 = passed-test (siteFine (job .site)) refusal.Site _ n (p0 .1) in
-    let p2 = passed-test (runAccepted (hoursInYear (job .site)) (job .run)) refusal.Run _ n (p1 .1) in
+    let p15 = passed-test (leafDaysFine (job .site)) refusal.LeafDay _ n (p1 .1) in
+    let p2 = passed-test (runAccepted (hoursInYear (job .site)) (job .run)) refusal.Run _ n (p15 .1) in
     let p3 = passed-test (surfaceFine (job .surface)) refusal.Surface _ n (p2 .1) in
-    let p4 = passed-test (sectorsFine (job .sectors) && windowFine (job .window)) refusal.Object _ n (p3 .1) in
+    let p4 = passed-test (sectorsFine (job .summer) && sectorsFine (job .winter) && windowFine (job .window)) refusal.Object _ n (p3 .1) in
+    let sectors = and-l (sectorsFine (job .summer) && sectorsFine (job .winter)) (windowFine (job .window)) (p4 .0) in
     let site = job .site in
     let indices = indicesFine (site .«start_day») (site .«time_series_step») (job .diffuse) (job .direct) (job .reflectivity) (times (job .run)) in
     let p5 = passed-test indices refusal.Series _ n (p4 .1) in
@@ -89,8 +92,9 @@ passed job room n e =
         site-fine = p1 .0;
         run-fine = p2 .0;
         surface-fine = p3 .0;
-        sectors-fine = and-l (sectorsFine (job .sectors)) (windowFine (job .window)) (p4 .0);
-        window-fine = and-r (sectorsFine (job .sectors)) (windowFine (job .window)) (p4 .0);
+        summer-fine = and-l (sectorsFine (job .summer)) (sectorsFine (job .winter)) sectors;
+        winter-fine = and-r (sectorsFine (job .summer)) (sectorsFine (job .winter)) sectors;
+        window-fine = and-r (sectorsFine (job .summer) && sectorsFine (job .winter)) (windowFine (job .window)) (p4 .0);
         readings-fine = p6 .0;
         room-fine = p7 .0;
       },

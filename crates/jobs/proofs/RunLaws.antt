@@ -213,6 +213,7 @@ number-above refusal.NoSector = omega arith
 number-above refusal.Reveal = omega arith
 number-above refusal.Line = omega arith
 number-above refusal.Edition = omega arith
+number-above refusal.LeafDay = omega arith
 
 -- its steps all have rows, and it comes to this
 unfoldable pub done : Job → List ℕ → Ran

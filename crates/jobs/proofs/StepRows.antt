@@ -26,7 +26,7 @@ use Rattle.jobs.specs.declared.answers.Row.{Row}
 use Rattle.jobs.specs.declared.answers.StepAnswer.{StepAnswer}
 use Rattle.jobs.specs.declared.answers.StepAnswer.the-variants as step
 use Rattle.jobs.specs.Job.{Job, readingAt}
-use Rattle.jobs.specs.Step.{sunAt, irradianceAt, shadingAt, rowWith, stepWith, stepAt}
+use Rattle.jobs.specs.Step.{sunAt, irradianceAt, jobSectors, shadingAt, rowWith, stepWith, stepAt}
 use Rattle.jobs.proofs.RowStores.{RowFits}
 
 -- ---- a step's answer is a row or a refusal
@@ -61,11 +61,11 @@ pub record StepRow (job : Job) (time : Float) (row : Row) : Type 0 where
   pub direct : row .direct ≡ irradianceAt (job .site) (job .surface) time (readingAt job time) .direct
   pub diffuse : row .diffuse ≡ irradianceAt (job .site) (job .surface) time (readingAt job time) .diffuse
   pub total : row .total ≡ irradianceAt (job .site) (job .surface) time (readingAt job time) .total
-  pub factor : shadingAt (job .edition) (job .surface) (sunAt (job .site) time) (job .sectors) (job .window) ≡ factor.Factor (row .factor)
+  pub factor : shadingAt (job .edition) (job .surface) (sunAt (job .site) time) (jobSectors job time) (job .window) ≡ factor.Factor (row .factor)
 
 pub step-row : (job : Job) (time : Float) (row : Row) → stepAt job time ≡ step.Row row → StepRow job time row
 unfolding stepAt stepWith
-step-row job time row e = go (shadingAt (job .edition) (job .surface) (sunAt (job .site) time) (job .sectors) (job .window)) refl e
+step-row job time row e = go (shadingAt (job .edition) (job .surface) (sunAt (job .site) time) (jobSectors job time) (job .window)) refl e
   where
     sun : Hour
     sun = sunAt (job .site) time
@@ -73,7 +73,7 @@ step-row job time row e = go (shadingAt (job .edition) (job .surface) (sunAt (jo
     parts : Irradiance
     parts = irradianceAt (job .site) (job .surface) time (readingAt job time)
 
-    go : (f : FactorAnswer) → shadingAt (job .edition) (job .surface) sun (job .sectors) (job .window) ≡ f → rowWith sun parts f ≡ step.Row row → StepRow job time row
+    go : (f : FactorAnswer) → shadingAt (job .edition) (job .surface) sun (jobSectors job time) (job .window) ≡ f → rowWith sun parts f ≡ step.Row row → StepRow job time row
     go (factor.Refused r) s e = unfold rowWith in not-refused e
     go (factor.Factor f) s e = unfold rowWith in let p = same-row e in record {
       altitude = sym (ap (λ (x : Row). x .altitude) p);
@@ -141,5 +141,5 @@ module _ {job : Job} {time : Float} {row : Row} (r : StepRow job time row) where
     direct = subst Fits (sym (r .direct)) (direct-fits (job .site) time (job .surface) (readingAt job time));
     diffuse = subst Fits (sym (r .diffuse)) (diffuse-fits (job .site) time (job .surface) (readingAt job time));
     total = subst Fits (sym (r .total)) (total-fits (job .site) time (job .surface) (readingAt job time));
-    factor = answer-fits (job .edition) (job .surface) (sunAt (job .site) time .altitude) (sunAt (job .site) time .azimuth) (sectorsOf (job .sectors)) (windowObjectsOf (job .window)) (row .factor) (r .factor);
+    factor = answer-fits (job .edition) (job .surface) (sunAt (job .site) time .altitude) (sunAt (job .site) time .azimuth) (sectorsOf (jobSectors job time)) (windowObjectsOf (job .window)) (row .factor) (r .factor);
   }

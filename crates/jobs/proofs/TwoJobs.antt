@@ -3,7 +3,7 @@
 use mathlib.Core.Path.{_≡_, refl, sym, ap, ap₂, _∙_, subst, subst₂}
 use mathlib.Core.Bool.{Bool, true}
 use mathlib.Core.List.{List, []}
-use Prim.Native.Nat.{ℕ, zero, suc, _+_, _*_, _<_}
+use Prim.Native.Nat.{ℕ, zero, suc, _+_, _*_, _/_, _<_}
 use native.Mathlib.Nat.{lt-of-le-of-lt}
 use lib.Dec.{lit<}
 use lib.ListN.{take}
@@ -16,7 +16,7 @@ use Rattle.sun.specs.declared.site.Site.{Site}
 use Rattle.sun.specs.Site.{leapYear}
 use Rattle.simulation_time.specs.Steps.{stepCount, timeAt}
 use Rattle.simulation_time.specs.declared.run.Run.{Run}
-use Rattle.simulation_time.specs.Timestep.{seriesIndex}
+use Rattle.simulation_time.specs.Timestep.{currentHour, seriesIndex}
 use Rattle.simulation_time.proofs.Accepted.{step-nonneg, step-finite}
 use Rattle.simulation_time.proofs.Times.{count-few}
 use Rattle.objects.specs.declared.sectors.ShadingSegment.{ShadingSegment}
@@ -25,16 +25,18 @@ use Rattle.objects.specs.declared.answers.FactorAnswer.the-variants.{Factor}
 use Rattle.objects.specs.Objects.{counted}
 use Rattle.shading.specs.Factor.{shadingFactor}
 use Rattle.objects.specs.Records.{sectorsOf, windowObjectsOf}
-use Rattle.shading_laws.specs.Premises.{NoNanAt}
+use Rattle.segments.specs.SameSectors.{PlaceByPlace}
+use Rattle.seasons.proofs.Parts.{of-day, of-two-days}
+use Rattle.shading_laws.specs.Premises.{NoNanAt, MoreInSector, SameInSector}
 use Rattle.shading_laws.proofs.Answers.{answer-nonneg, answer-le-one, answer-no-objects, answers-more-objects, answers-same-objects}
 use Rattle.weather.specs.Weather.{readSeries}
 use Rattle.jobs.specs.Job.{Job, indexAt, readingAt}
-use Rattle.jobs.specs.Step.{sunAt, irradianceAt, shadingAt}
+use Rattle.jobs.specs.Step.{sunAt, irradianceAt, sectorsAt, jobSectors, shadingAt}
 use Rattle.jobs.specs.declared.answers.Totals.{Totals}
 use Rattle.jobs.specs.Rows.{storedRow, withRow}
 use Rattle.jobs.specs.Totals.{dayOfStep, totalsOf, totalsCount, inPart, totalsAtPart, totalsAt, totalsRecords, withTotals}
 use Rattle.jobs.specs.Run.{Ran, Lent, rowsStored, runOf, countFor, sumFor}
-use Rattle.jobs.specs.Comparison.{factorAt, directAt, countOf, sumOf, unshadedSum, SameSeries, Alike, BoundedAlike, HoldsAll, SameObjects, NoObjects, NoNan, Doubles, Lawful, NoLarger, RunsCompared, TotalsCompared, TwoJobsCompared}
+use Rattle.jobs.specs.Comparison.{factorAt, directAt, countOf, sumOf, unshadedSum, SameSeries, Alike, BoundedAlike, SeasonsBoundedAlike, HoldsAll, SameObjects, NoneInSectors, NoObjects, NoNan, Doubles, Lawful, NoLarger, RunsCompared, TotalsCompared, TwoJobsCompared}
 use Rattle.jobs.proofs.StepRows.{StepRow, step-row, row-fits}
 use Rattle.jobs.proofs.PassedChecks.{step-accepted, surface-accepted, near-accepted}
 use Rattle.jobs.proofs.EveryHour.{step-irradiance}
@@ -93,7 +95,7 @@ module _ {job : Job} {lists : Lent} (a : AcceptedRun job lists) where
 
   -- its factor is the answer of the lists' records
   factor-answer : (i : ℕ) → i < stepCount (job .run)
-      → shadingFactor (job .edition) (job .surface) (sunAt (job .site) (timeAt (job .run) i) .altitude) (sunAt (job .site) (timeAt (job .run) i) .azimuth) (sectorsOf (job .sectors)) (windowObjectsOf (job .window))
+      → shadingFactor (job .edition) (job .surface) (sunAt (job .site) (timeAt (job .run) i) .altitude) (sunAt (job .site) (timeAt (job .run) i) .azimuth) (sectorsOf (jobSectors job (timeAt (job .run) i))) (windowObjectsOf (job .window))
       ≡ Factor (rowAt job i .factor)
   unfolding shadingAt
   factor-answer i h = row-of i h .factor
@@ -107,13 +109,20 @@ module _ {job : Job} {lists : Lent} (a : AcceptedRun job lists) (d : Doubles (jo
     high = answer-le-one (surface-accepted (a .checks) d) (n .at-step i h) (near-accepted (a .checks)) (rowAt job i .factor) (factor-answer a i h);
   }
 
+  -- no objects in either season, none on a day
+  none-today : NoObjects job → (time : Float) → NoneInSectors (jobSectors job time)
+  unfolding sectorsAt
+  none-today o time =
+      of-day (job .summer) (job .winter) (a .checks .summer-fine) (a .checks .winter-fine) NoneInSectors (o .in-summer) (o .in-winter) _ _ (currentHour time / 24)
+
   one : NoObjects job → (i : ℕ) → i < stepCount (job .run) → rowAt job i .factor ≡ whole 1
   one o i h =
       let sun = sunAt (job .site) (timeAt (job .run) i) in
-      answer-no-objects (job .edition) (sun .altitude) (sun .azimuth) (sectorsOf (job .sectors)) (surface-accepted (a .checks) d)
-      (found-has (λ (s : ShadingSegment). counted s ≡ []) (sun .azimuth) (sectorsOf (job .sectors)) (none-counted (job .sectors) (o .in-sectors)))
+      let sectors = jobSectors job (timeAt (job .run) i) in
+      answer-no-objects (job .edition) (sun .altitude) (sun .azimuth) (sectorsOf sectors) (surface-accepted (a .checks) d)
+      (found-has (λ (s : ShadingSegment). counted s ≡ []) (sun .azimuth) (sectorsOf sectors) (none-counted sectors (none-today o (timeAt (job .run) i))))
       (rowAt job i .factor)
-      (subst (λ (ws : List WindowShadingObject). shadingFactor (job .edition) (job .surface) (sun .altitude) (sun .azimuth) (sectorsOf (job .sectors)) ws ≡ Factor (rowAt job i .factor))
+      (subst (λ (ws : List WindowShadingObject). shadingFactor (job .edition) (job .surface) (sun .altitude) (sun .azimuth) (sectorsOf sectors) ws ≡ Factor (rowAt job i .factor))
       (no-window (job .window) (o .at-window)) (factor-answer a i h))
 
   -- its direct value is finite and not negative
@@ -200,28 +209,41 @@ module _ {j k : Job} {r s : Lent} (l : Alike j k) (a : AcceptedRun j r) (b : Acc
       row-of a i h .total ∙ ap (λ (p : Irradiance). p .total) (parts-alike i) ∙ sym (row-of b i (rw (← counts-alike) h) .total)
 
   -- the second job's answer and extents, at the first one's site, times and surface
-  module _ (d : Doubles (j .surface)) (n : NoNan j) (m : NoNan k) (c : BoundedAlike (j .sectors) (k .sectors)) where
+  module _ (d : Doubles (j .surface)) (n : NoNan j) (m : NoNan k) (c : SeasonsBoundedAlike j k) where
     second-answer : (i : ℕ) → i < stepCount (j .run)
-        → shadingFactor (j .edition) (j .surface) (sunAt (j .site) (timeAt (j .run) i) .altitude) (sunAt (j .site) (timeAt (j .run) i) .azimuth) (sectorsOf (k .sectors)) (windowObjectsOf (k .window))
+        → shadingFactor (j .edition) (j .surface) (sunAt (j .site) (timeAt (j .run) i) .altitude) (sunAt (j .site) (timeAt (j .run) i) .azimuth) (sectorsOf (sectorsAt (j .site) (k .summer) (k .winter) (timeAt (j .run) i))) (windowObjectsOf (k .window))
         ≡ Factor (rowAt k i .factor)
     second-answer i h = rw (l .editions, l .sites, l .runs, l .surfaces) (factor-answer b i (rw (← counts-alike) h))
 
     second-extents : (i : ℕ) → i < stepCount (j .run)
-        → NoNanAt (j .edition) (j .surface) (sunAt (j .site) (timeAt (j .run) i) .altitude) (sunAt (j .site) (timeAt (j .run) i) .azimuth) (sectorsOf (k .sectors)) (windowObjectsOf (k .window))
+        → NoNanAt (j .edition) (j .surface) (sunAt (j .site) (timeAt (j .run) i) .altitude) (sunAt (j .site) (timeAt (j .run) i) .azimuth) (sectorsOf (sectorsAt (j .site) (k .summer) (k .winter) (timeAt (j .run) i))) (windowObjectsOf (k .window))
     second-extents i h = rw (l .editions, l .sites, l .runs, l .surfaces) (m .at-step i (rw (← counts-alike) h))
+
+    -- what relates the lists of both in each season relates those of a day
+    on-both-days : (P : List ℕ → List ℕ → Type 0) → P (j .summer) (k .summer) → P (j .winter) (k .winter) → (time : Float)
+        → P (jobSectors j time) (sectorsAt (j .site) (k .summer) (k .winter) time)
+    unfolding sectorsAt
+    on-both-days P p q time =
+        of-two-days (j .summer) (j .winter) (k .summer) (k .winter) (a .checks .summer-fine) (a .checks .winter-fine) (b .checks .summer-fine)
+        (b .checks .winter-fine) P p q (j .site .«first_leaf_day») (j .site .«last_leaf_day») (currentHour time / 24)
 
     factors-more : HoldsAll k j → (i : ℕ) → i < stepCount (j .run) → rowAt k i .factor ≼ rowAt j i .factor
     factors-more o i h =
         answers-more-objects (surface-accepted (a .checks) d) (n .at-step i h) (second-extents i h) (near-accepted (a .checks)) (near-accepted (b .checks))
         (rowAt j i .factor) (rowAt k i .factor) (factor-answer a i h) (second-answer i h)
-        (more-in-sectors (j .sectors) (k .sectors) (a .checks .sectors-fine) (b .checks .sectors-fine) c (o .in-sectors))
+        (on-both-days (λ (l m : List ℕ). PlaceByPlace MoreInSector (sectorsOf l) (sectorsOf m))
+        (more-in-sectors (j .summer) (k .summer) (a .checks .summer-fine) (b .checks .summer-fine) (c .in-summer) (o .in-summer))
+        (more-in-sectors (j .winter) (k .winter) (a .checks .winter-fine) (b .checks .winter-fine) (c .in-winter) (o .in-winter)) (timeAt (j .run) i))
         (window-holds (j .window) (k .window) (o .at-window))
 
     factors-same : SameObjects j k → (i : ℕ) → i < stepCount (j .run) → rowAt j i .factor ≡ rowAt k i .factor
     factors-same o i h =
         answers-same-objects (surface-accepted (a .checks) d) (n .at-step i h) (second-extents i h) (near-accepted (a .checks)) (near-accepted (b .checks))
         (rowAt j i .factor) (rowAt k i .factor) (factor-answer a i h) (second-answer i h)
-        (same-in-sectors (j .sectors) (k .sectors) (a .checks .sectors-fine) (b .checks .sectors-fine) c (o .there .in-sectors) (o .back .in-sectors))
+        (on-both-days (λ (l m : List ℕ). PlaceByPlace SameInSector (sectorsOf l) (sectorsOf m))
+        (same-in-sectors (j .summer) (k .summer) (a .checks .summer-fine) (b .checks .summer-fine) (c .in-summer) (o .there .in-summer) (o .back .in-summer))
+        (same-in-sectors (j .winter) (k .winter) (a .checks .winter-fine) (b .checks .winter-fine) (c .in-winter) (o .there .in-winter) (o .back .in-winter))
+        (timeAt (j .run) i))
         (window-holds (j .window) (k .window) (o .there .at-window)) (window-holds (k .window) (j .window) (o .back .at-window))
 
     shaded-same : SameObjects j k → (i : ℕ) → i < stepCount (j .run) → shaded j i ≡ shaded k i
@@ -278,8 +300,11 @@ bounded-back b = record {
   ends = λ i h. level-back (b .ends i (rw (b .lengths) h));
 }
 
+seasons-back : {j k : Job} → SeasonsBoundedAlike j k → SeasonsBoundedAlike k j
+seasons-back c = record { in-summer = bounded-back (c .in-summer); in-winter = bounded-back (c .in-winter) }
+
 module _ {j k : Job} {r s : Lent} (l : Alike j k) (a : AcceptedRun j r) (b : AcceptedRun k s) (d : Doubles (j .surface)) (n : NoNan j) (m : NoNan k)
-    (c : BoundedAlike (j .sectors) (k .sectors)) where
+    (c : SeasonsBoundedAlike j k) where
   runs-compared : RunsCompared j k (done j (r .results)) (done k (s .results))
   unfolding countOf countFor done
   runs-compared =
@@ -293,7 +318,7 @@ module _ {j k : Job} {r s : Lent} (l : Alike j k) (a : AcceptedRun j r) (b : Acc
         same-factors = λ o i h. factor-is a i h ∙ factors-same l a b d n m c o i h ∙ sym (factor-is b i (rw (← same) h));
         same-sums = λ o. sum-done a ∙ total-same every (shaded j) (shaded k) count (shaded-same l a b d n m c o) ∙ ap (total every (shaded k)) same ∙ sym (sum-done b);
         second-more = no-larger l a b d n m c;
-        first-more = no-larger (alike-back l) b a (second-doubles l a b d n m c) m n (bounded-back c);
+        first-more = no-larger (alike-back l) b a (second-doubles l a b d n m c) m n (seasons-back c);
       }
 
 -- ---- totals
@@ -378,7 +403,7 @@ module _ {j k : Job} {r s : Lent} (l : Alike j k) (a : AcceptedRun j r) (b : Acc
   unfolding totalsAtPart
   second-sum p = part-sum-is b (inPart (leapYear (k .site)) p)
 
-  module _ (d : Doubles (j .surface)) (n : NoNan j) (m : NoNan k) (c : BoundedAlike (j .sectors) (k .sectors)) where
+  module _ (d : Doubles (j .surface)) (n : NoNan j) (m : NoNan k) (c : SeasonsBoundedAlike j k) where
     -- the same objects
     parts-same : SameObjects j k → (p : ℕ) → first p ≡ second p
     parts-same o p =
@@ -409,7 +434,7 @@ module _ {j k : Job} {r s : Lent} (l : Alike j k) (a : AcceptedRun j r) (b : Acc
         ∙ ap (λ (count : ℕ). take (24 * count) (runOf k s .totals)) (sym records-alike)
 
 module _ {j k : Job} {r s : Lent} (l : Alike j k) (a : AcceptedRun j r) (b : AcceptedRun k s) (d : Doubles (j .surface)) (n : NoNan j) (m : NoNan k)
-    (c : BoundedAlike (j .sectors) (k .sectors)) where
+    (c : SeasonsBoundedAlike j k) where
   totals-compared : TotalsCompared j k (runOf j r .totals) (runOf k s .totals)
   totals-compared = record {
     counts = λ p h. ap (λ (t : Totals). t .count) (first-is l a b p h) ∙ parts-count l a b p ∙ ap (λ (t : Totals). t .count) (sym (second-is l a b p h));
@@ -417,7 +442,7 @@ module _ {j k : Job} {r s : Lent} (l : Alike j k) (a : AcceptedRun j r) (b : Acc
     same-bytes = same-bytes l a b d n m c;
     second-more = parts-more l a b d n m c;
     first-more = λ o p h.
-        parts-more (alike-back l) b a (second-doubles l a b d n m c) m n (bounded-back c) o p (rw (← records-alike l a b) h);
+        parts-more (alike-back l) b a (second-doubles l a b d n m c) m n (seasons-back c) o p (rw (← records-alike l a b) h);
   }
 
 -- ---- the claim

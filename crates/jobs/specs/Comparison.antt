@@ -14,7 +14,7 @@ use Rattle.objects.specs.declared.surface.Surface.{Surface}
 use Rattle.objects.specs.Records.{recordsFrom, sectorCount, sectorsOf, windowCount, windowObjectsOf}
 use Rattle.shading_laws.specs.Premises.{Holds, NoNanAt}
 use Rattle.jobs.specs.Job.{Job}
-use Rattle.jobs.specs.Step.{sunAt}
+use Rattle.jobs.specs.Step.{sunAt, jobSectors}
 use Rattle.jobs.specs.Totals.{totalsCount, totalsAt}
 use Rattle.jobs.specs.Run.{Ran, Lent, Left, runOf, numberFor, countFor, sumFor}
 
@@ -50,7 +50,7 @@ pub record SameSeries (l m : List ℕ) : Type 0 where
   pub lengths : wordCount l ≡ wordCount m
   pub values : (i : ℕ) → doubleAt l i ≡ doubleAt m i
 
--- alike in all but their shading objects: edition, site, run, surface and series are the same
+-- alike in all but their shading objects: edition, site (its leaf days too), run, surface and series are the same
 pub record Alike (j k : Job) : Type 0 where
   pub editions : j .edition ≡ k .edition
   pub sites : j .site ≡ k .site
@@ -66,6 +66,11 @@ pub record BoundedAlike (l m : List ℕ) : Type 0 where
   pub starts : (i : ℕ) → i < sectorCount l → doubleAt l (27 * i) ≈ doubleAt m (27 * i)
   pub ends : (i : ℕ) → i < sectorCount l → doubleAt l (27 * i + 1) ≈ doubleAt m (27 * i + 1)
 
+-- in each season, whether or not a step falls there
+pub record SeasonsBoundedAlike (j k : Job) : Type 0 where
+  pub in-summer : BoundedAlike (j .summer) (k .summer)
+  pub in-winter : BoundedAlike (j .winter) (k .winter)
+
 -- An object is a counted triple of a sector, or a window object. Two are the same where all their words are: so it is its words.
 unfoldable pub triple : List ℕ → ℕ → List ℕ
 triple l k = wordAt l k ∷ wordAt l (k + 1) ∷ wordAt l (k + 2) ∷ []
@@ -79,9 +84,14 @@ windowObject l i = wordAt l (4 * i) ∷ wordAt l (4 * i + 1) ∷ wordAt l (4 * i
 unfoldable pub windowObjects : List ℕ → List (List ℕ)
 windowObjects l = recordsFrom (windowObject l) 0 (windowCount l)
 
--- k holds all objects of j, sector by sector, and window with window: each of those is somewhere in its list
+-- sector by sector, m holds all objects of l: each of those is somewhere in its list
+abbrev pub HoldsSectors : List ℕ → List ℕ → Type 0
+HoldsSectors m l = (i : ℕ) → i < sectorCount l → Holds (sectorObjects m i) (sectorObjects l i)
+
+-- k holds all objects of j, summer with summer and winter with winter, whether or not a step falls there, and window with window
 pub record HoldsAll (k j : Job) : Type 0 where
-  pub in-sectors : (i : ℕ) → i < sectorCount (j .sectors) → Holds (sectorObjects (k .sectors) i) (sectorObjects (j .sectors) i)
+  pub in-summer : HoldsSectors (k .summer) (j .summer)
+  pub in-winter : HoldsSectors (k .winter) (j .winter)
   pub at-window : Holds (windowObjects (k .window)) (windowObjects (j .window))
 
 -- the same objects: each holds all of the other's
@@ -89,16 +99,22 @@ pub record SameObjects (j k : Job) : Type 0 where
   pub there : HoldsAll k j
   pub back : HoldsAll j k
 
+abbrev pub NoneInSectors : List ℕ → Type 0
+NoneInSectors l = (i : ℕ) → i < sectorCount l → sectorObjects l i ≡ []
+
+-- none in either season, nor at the window
 pub record NoObjects (job : Job) : Type 0 where
-  pub in-sectors : (i : ℕ) → i < sectorCount (job .sectors) → sectorObjects (job .sectors) i ≡ []
+  pub in-summer : NoneInSectors (job .summer)
+  pub in-winter : NoneInSectors (job .winter)
   pub at-window : windowObjects (job .window) ≡ []
 
--- No shade extent is NaN, at any step: the height or width computed for each object at the window and in the sector that is found,
--- where the sun is inside the beam.
+-- No shade extent is NaN, at any step: the height or width computed for each object at the window and in the sector that is found among
+-- those of the day, where the sun is inside the beam.
 pub record NoNan (job : Job) : Type 0 where
   pub at-step : (i : ℕ) → i < stepCount (job .run)
       → let sun = sunAt (job .site) (timeAt (job .run) i) in
-      NoNanAt (job .edition) (job .surface) (sun .altitude) (sun .azimuth) (sectorsOf (job .sectors)) (windowObjectsOf (job .window))
+      let sectors = jobSectors job (timeAt (job .run) i) in
+      NoNanAt (job .edition) (job .surface) (sun .altitude) (sun .azimuth) (sectorsOf sectors) (windowObjectsOf (job .window))
 
 -- The surface's height and width are doubles. `pilgartze_run` ensures this of every surface that it is passed, so that nobody has to see
 -- to it; it stands here because the type `Float` has other values too, which no double is.
@@ -155,7 +171,7 @@ pub record Compared (j k : Job) (a b : Left) : Type 0 where
 -- two jobs that may be compared, whatever lists were lent
 pub record Comparable (j k : Job) (r s : Lent) : Type 0 where
   pub alike : Alike j k
-  pub bounded : BoundedAlike (j .sectors) (k .sectors)
+  pub bounded : SeasonsBoundedAlike j k
   pub first-accepted : IsAccepted (runOf j r .ran)
   pub second-accepted : IsAccepted (runOf k s .ran)
   pub first-extents : NoNan j

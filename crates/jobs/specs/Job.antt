@@ -1,4 +1,5 @@
--- A job: one call of the run, with what goes in. The series, sectors and window objects are lists of bytes, as they were lent.
+-- A job: one call of the run, with what goes in. The series, the sectors of summer and winter and the window objects are lists of bytes,
+-- as they were lent.
 use mathlib.Core.List.{List}
 use Prim.Native.Nat.{ℕ}
 use lib.Ieee.{Float}
@@ -17,11 +18,12 @@ pub record Job : Type 0 where
   pub diffuse : List ℕ
   pub direct : List ℕ
   pub reflectivity : List ℕ
-  pub sectors : List ℕ
+  pub summer : List ℕ
+  pub winter : List ℕ
   pub window : List ℕ
 
-abbrev pub jobOf : ℕ → Site → Run → Surface → List ℕ → List ℕ → List ℕ → List ℕ → List ℕ → Job
-jobOf edition site run surface diffuse direct reflectivity sectors window = record {
+abbrev pub jobOf : ℕ → Site → Run → Surface → List ℕ → List ℕ → List ℕ → List ℕ → List ℕ → List ℕ → Job
+jobOf edition site run surface diffuse direct reflectivity summer winter window = record {
   edition = edition;
   site = site;
   run = run;
@@ -29,7 +31,8 @@ jobOf edition site run surface diffuse direct reflectivity sectors window = reco
   diffuse = diffuse;
   direct = direct;
   reflectivity = reflectivity;
-  sectors = sectors;
+  summer = summer;
+  winter = winter;
   window = window;
 }
 

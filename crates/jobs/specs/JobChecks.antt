@@ -1,4 +1,4 @@
--- The checks before the first step: the edition (refusal 14), then 1 to 7 in number order.
+-- The checks before the first step: the edition (refusal 14), the site (1), its leaf days (15), then 2 to 7 in number order.
 use mathlib.Core.Bool.{Bool, cond, _&&_}
 use mathlib.Core.List.{List}
 use Prim.Native.Nat.{ℕ, _*_}
@@ -8,7 +8,7 @@ use lib.Ieee.{Float}
 use Rattle.words.specs.Words.{wordCount}
 use Rattle.weather.specs.Weather.{inSeries, readSeries, readingFine}
 use Rattle.fins.specs.Fins.{editionFine}
-use Rattle.sun.specs.Site.{siteFine, hoursInYear}
+use Rattle.sun.specs.Site.{siteFine, leafDaysFine, hoursInYear}
 use Rattle.simulation_time.specs.declared.run.Run.{Run}
 use Rattle.simulation_time.specs.Steps.{stepCount, times, atAll}
 use Rattle.simulation_time.specs.Timestep.{seriesIndex}
@@ -58,16 +58,17 @@ seriesChecked day step run diffuse direct reflectivity room =
     (tried Refused room refusal.Results
     (Steps (stepCount run))))
 
--- ---- all eight
+-- ---- all nine
 
--- the number of steps, or the first refusal
+-- the number of steps, or the first refusal; the objects of both seasons are tried, whether or not a step falls there
 unfoldable pub checked : Job → Bool → Checked
 unfolding tried seriesChecked
 checked job room =
     let site = job .site in
     tried Refused (editionFine (job .edition)) refusal.Edition
     (tried Refused (siteFine site) refusal.Site
+    (tried Refused (leafDaysFine site) refusal.LeafDay
     (tried Refused (runAccepted (hoursInYear site) (job .run)) refusal.Run
     (tried Refused (surfaceFine (job .surface)) refusal.Surface
-    (tried Refused (sectorsFine (job .sectors) && windowFine (job .window)) refusal.Object
-    (seriesChecked (site .«start_day») (site .«time_series_step») (job .run) (job .diffuse) (job .direct) (job .reflectivity) room)))))
+    (tried Refused (sectorsFine (job .summer) && sectorsFine (job .winter) && windowFine (job .window)) refusal.Object
+    (seriesChecked (site .«start_day») (site .«time_series_step») (job .run) (job .diffuse) (job .direct) (job .reflectivity) room))))))

@@ -1,4 +1,4 @@
--- One step: the sun in its hour, the irradiance by the series' values, and the factor.
+-- One step: the sun in its hour, the irradiance by the series' values, and the factor, by the sectors of its day.
 use mathlib.Core.List.{List}
 use Prim.Native.Nat.{ℕ, _+_, _/_}
 use lib.Dec.{eqb}
@@ -17,6 +17,7 @@ use Rattle.simulation_time.specs.Timestep.{currentHour}
 use Rattle.objects.specs.declared.surface.Surface.{Surface}
 use Rattle.objects.specs.declared.answers.FactorAnswer.{FactorAnswer}
 use Rattle.objects.specs.declared.answers.FactorAnswer.the-variants as factor
+use Rattle.seasons.specs.Seasons.{sectorsFor}
 use Rattle.shading.specs.Factor.{shadingFactor}
 use Rattle.objects.specs.Records.{sectorsOf, windowObjectsOf}
 use Rattle.weather.specs.declared.Reading.{Reading}
@@ -42,6 +43,13 @@ unfoldable pub irradianceAt : Site → Surface → Float → Reading → Irradia
 unfolding irradianceByDay
 irradianceAt site surface time reading = irradianceByDay site surface (dayOf (currentHour time / 24 + 1)) (sunAt site time) reading
 
+-- the sectors at a time: of two lists the one for its day, which counts from 0
+unfoldable pub sectorsAt : Site → List ℕ → List ℕ → Float → List ℕ
+sectorsAt site summer winter time = sectorsFor summer winter (site .«first_leaf_day») (site .«last_leaf_day») (currentHour time / 24)
+
+abbrev pub jobSectors : Job → Float → List ℕ
+jobSectors job time = sectorsAt (job .site) (job .summer) (job .winter) time
+
 -- the factor by an edition, of lists of bytes
 unfoldable pub shadingAt : ℕ → Surface → Hour → List ℕ → List ℕ → FactorAnswer
 shadingAt edition surface sun sectors window = shadingFactor edition surface (sun .altitude) (sun .azimuth) (sectorsOf sectors) (windowObjectsOf window)
@@ -58,11 +66,11 @@ rowWith sun parts (factor.Factor f) = step.Row (record {
 })
 rowWith sun parts (factor.Refused r) = step.Refused r
 
--- the step at a time, the values of its series being given
+-- the step at a time, the sectors of its day and the values of its series being given
 unfoldable pub stepWith : ℕ → Site → Surface → List ℕ → List ℕ → Float → Reading → StepAnswer
 stepWith edition site surface sectors window time reading =
     rowWith (sunAt site time) (irradianceAt site surface time reading) (shadingAt edition surface (sunAt site time) sectors window)
 
 -- a job's step at a time
 unfoldable pub stepAt : Job → Float → StepAnswer
-stepAt job time = stepWith (job .edition) (job .site) (job .surface) (job .sectors) (job .window) time (readingAt job time)
+stepAt job time = stepWith (job .edition) (job .site) (job .surface) (jobSectors job time) (job .window) time (readingAt job time)

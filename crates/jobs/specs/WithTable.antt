@@ -25,7 +25,7 @@ use Rattle.jobs.specs.declared.answers.RunAnswer.the-variants as run
 use Rattle.jobs.specs.declared.answers.Checked.the-variants.{Steps, Refused}
 use Rattle.jobs.specs.Job.{Job, readingAt}
 use Rattle.jobs.specs.JobChecks.{daysFine, totalsFine, checked}
-use Rattle.jobs.specs.Step.{irradianceByDay, shadingAt, rowWith, stepAt}
+use Rattle.jobs.specs.Step.{irradianceByDay, jobSectors, shadingAt, rowWith, stepAt}
 use Rattle.jobs.specs.Rows.{putRow, withRow}
 use Rattle.jobs.specs.Totals.{dayOfStep}
 use Rattle.jobs.specs.Run.{Ran, ran, onRow, Lent, roomFor, runOf, plainRun}
@@ -42,7 +42,7 @@ unfoldable pub stepByTable : List ℕ → Job → Float → StepAnswer
 stepByTable days job time =
     let day = dayAt days (currentHour time / 24) in
     let sun = sunByDay (job .site) day (currentHour time) in
-    rowWith sun (irradianceByDay (job .site) (job .surface) day sun (readingAt job time)) (shadingAt (job .edition) (job .surface) sun (job .sectors) (job .window))
+    rowWith sun (irradianceByDay (job .site) (job .surface) day sun (readingAt job time)) (shadingAt (job .edition) (job .surface) sun (jobSectors job time) (job .window))
 
 -- n steps like that, from the i-th on: as `runFrom`, but for the table
 unfoldable pub runByTable : ℕ → List ℕ → Job → ℕ → Float → Float → List ℕ → Ran

@@ -17,3 +17,4 @@ numberOf refusal.NoSector = 10
 numberOf refusal.Reveal = 11
 numberOf refusal.Line = 12
 numberOf refusal.Edition = 14
+numberOf refusal.LeafDay = 15

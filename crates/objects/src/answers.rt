@@ -16,6 +16,7 @@ pub enum Refusal {
     Reveal,
     Line,
     Edition,
+    LeafDay,
 }
 
 // The factor of one step, or why there is none.
@@ -42,5 +43,6 @@ pub fn number_of(refusal: Refusal) -> u64
         Refusal::Reveal => 11,
         Refusal::Line => 12,
         Refusal::Edition => 14,
+        Refusal::LeafDay => 15,
     }
 }

@@ -1,4 +1,4 @@
--- When a site is turned down (refusal 1), and how long its year is.
+-- When a site is turned down (refusals 1 and 15), and how long its year is.
 use mathlib.Core.Bool.{Bool, cond, _&&_}
 use Prim.Native.Nat.{ℕ}
 use lib.Dec.{leb, eqb}
@@ -20,6 +20,10 @@ siteFine site =
     && within (decimal 25 2) (whole 24) (site .«time_series_step»)
     && leb (site .«leap_year») 1
     && leb (site .«direct_beam_conversion») 1
+
+-- first and last leaf day 0..365, in either year
+unfoldable pub leafDaysFine : Site → Bool
+leafDaysFine site = leb (site .«first_leaf_day») 365 && leb (site .«last_leaf_day») 365
 
 abbrev pub leapYear : Site → Bool
 leapYear site = eqb (site .«leap_year») 1

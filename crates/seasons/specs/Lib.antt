@@ -1,0 +1,3 @@
+pub mod Seasons
+pub mod Table
+pub mod Parts

@@ -1,0 +1,61 @@
+// The sectors of a season in a table, which is kept from day to day.
+ghost use mathlib.Core.Path.{_≡_};
+ghost use mathlib.Core.Bool.{true};
+ghost use Rattle.object_checks.specs.Checks.{sectorsFine};
+ghost use Rattle.seasons.specs.Seasons.{inLeaf};
+ghost use Rattle.seasons.specs.Table.{seasonTable};
+use crate::in_leaf;
+use crate::sectors_for;
+use objects::records::sector_count;
+use objects::records::sectors_of;
+use objects::sectors::ShadingSegment;
+
+// Whether it is summer's, how many sectors there are, and the sectors.
+pub struct SeasonTable {
+    pub summer: bool,
+    pub count: usize,
+    pub places: [ShadingSegment; 36],
+}
+
+// The table for a day, read from the part of the lists that is for it.
+pub fn read_season<'a>(
+    summer: &'a [u8],
+    winter: &'a [u8],
+    first: u64,
+    last: u64,
+    day: u64,
+) -> SeasonTable
+    requires { ⌜ sectorsFine (now summer) ≡ true ⌝ }
+    requires { ⌜ sectorsFine (now winter) ≡ true ⌝ }
+    ensures { λ r. ⌜ r ≡ seasonTable (inLeaf first last day) (now (summer .entry)) (now (winter .entry)) ⌝ }
+{
+    let season = in_leaf(first, last, day);
+    let part = sectors_for(summer, winter, first, last, day);
+    let count = sector_count(part);
+    let places = sectors_of(part, count);
+    SeasonTable {
+        summer: season,
+        count: count,
+        places: places,
+    }
+}
+
+// The same table where the season is still the same.
+pub fn season_for<'a>(
+    summer: &'a [u8],
+    winter: &'a [u8],
+    first: u64,
+    last: u64,
+    day: u64,
+    kept: SeasonTable,
+) -> SeasonTable
+    requires { ⌜ sectorsFine (now summer) ≡ true ⌝ }
+    requires { ⌜ sectorsFine (now winter) ≡ true ⌝ }
+    requires { ⌜ kept ≡ seasonTable (kept .summer) (now summer) (now winter) ⌝ }
+    ensures { λ r. ⌜ r ≡ seasonTable (inLeaf first last day) (now (summer .entry)) (now (winter .entry)) ⌝ }
+{
+    if in_leaf(first, last, day) == kept.summer {
+        return kept;
+    }
+    read_season(summer, winter, first, last, day)
+}
