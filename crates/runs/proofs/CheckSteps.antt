@@ -11,7 +11,7 @@ use Rattle.doubles.specs.Arithmetic.{whole, decimal}
 use Rattle.doubles.specs.Ranges.{within}
 use lib.Ieee.Fits.{and-l, and-r}
 use Rattle.sun.specs.declared.site.Site.{Site}
-use Rattle.sun.specs.Site.{siteFine, hoursInYear}
+use Rattle.sun.specs.Site.{siteFine, leafDaysFine, hoursInYear}
 use Rattle.simulation_time.specs.declared.run.Run.{Run}
 use Rattle.simulation_time.specs.Steps.{stepCount, times}
 use Rattle.simulation_time.specs.RunChecks.{runAccepted}
@@ -61,24 +61,30 @@ module _ (job : Job) (room : Bool) where
     site-refused e = rw (edition, e) refl
 
     module _ (site : siteFine (job .site) ≡ true) where
-      pub run-refused : runAccepted (hoursInYear (job .site)) (job .run) ≡ false → Refused refusal.Run ≡ checked job room
+      pub leaf-day-refused : leafDaysFine (job .site) ≡ false → Refused refusal.LeafDay ≡ checked job room
       unfolding checked tried
-      run-refused e = rw (edition, site, e) refl
+      leaf-day-refused e = rw (edition, site, e) refl
 
-      module _ (steps : runAccepted (hoursInYear (job .site)) (job .run) ≡ true) where
-        pub surface-refused : surfaceFine (job .surface) ≡ false → Refused refusal.Surface ≡ checked job room
+      module _ (leaf-days : leafDaysFine (job .site) ≡ true) where
+        pub run-refused : runAccepted (hoursInYear (job .site)) (job .run) ≡ false → Refused refusal.Run ≡ checked job room
         unfolding checked tried
-        surface-refused e = rw (edition, site, steps, e) refl
+        run-refused e = rw (edition, site, leaf-days, e) refl
 
-        module _ (surface : surfaceFine (job .surface) ≡ true) where
-          pub object-refused : sectorsFine (job .sectors) && windowFine (job .window) ≡ false → Refused refusal.Object ≡ checked job room
+        module _ (steps : runAccepted (hoursInYear (job .site)) (job .run) ≡ true) where
+          pub surface-refused : surfaceFine (job .surface) ≡ false → Refused refusal.Surface ≡ checked job room
           unfolding checked tried
-          object-refused e = rw (edition, site, steps, surface, e) refl
+          surface-refused e = rw (edition, site, leaf-days, steps, e) refl
 
-          pub first-passed : sectorsFine (job .sectors) && windowFine (job .window) ≡ true
-              → seriesChecked (job .site .«start_day») (job .site .«time_series_step») (job .run) (job .diffuse) (job .direct) (job .reflectivity) room ≡ checked job room
-          unfolding checked tried
-          first-passed e = rw (edition, site, steps, surface, e) refl
+          module _ (surface : surfaceFine (job .surface) ≡ true) where
+            pub object-refused : sectorsFine (job .summer) && sectorsFine (job .winter) && windowFine (job .window) ≡ false
+                → Refused refusal.Object ≡ checked job room
+            unfolding checked tried
+            object-refused e = rw (edition, site, leaf-days, steps, surface, e) refl
+
+            pub first-passed : sectorsFine (job .summer) && sectorsFine (job .winter) && windowFine (job .window) ≡ true
+                → seriesChecked (job .site .«start_day») (job .site .«time_series_step») (job .run) (job .diffuse) (job .direct) (job .reflectivity) room ≡ checked job room
+            unfolding checked tried
+            first-passed e = rw (edition, site, leaf-days, steps, surface, e) refl
 
 -- the start day of an accepted site
 fourth : (a b c d e f g : Bool) → T (a && b && c && d && e && f && g) → T d

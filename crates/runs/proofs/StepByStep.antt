@@ -9,17 +9,24 @@ use lib.Ieee.{Float}
 use Rattle.doubles.specs.Arithmetic.{_⊕_, whole}
 use Rattle.words.specs.Words.{wordCount}
 use Rattle.calendar.specs.Calendar.{daysInYear}
+use Rattle.sun.specs.declared.site.Site.{Site}
 use Rattle.sun.specs.Site.{leapYear}
+use Rattle.sun.specs.Hour.{hourOf}
+use Rattle.seasons.specs.declared.table.SeasonTable.{SeasonTable}
+use Rattle.seasons.specs.Seasons.{inLeaf, sectorsFor}
+use Rattle.seasons.specs.Table.{seasonTable}
 use Rattle.simulation_time.specs.declared.run.Run.{Run}
 use Rattle.simulation_time.specs.Steps.{timeAt}
 use Rattle.simulation_time.specs.Timestep.{currentHour}
+use Rattle.objects.specs.declared.surface.Surface.{Surface}
+use Rattle.objects.specs.declared.answers.FactorAnswer.{FactorAnswer}
 use Rattle.objects.specs.declared.answers.Refusal.{Refusal}
 use Rattle.jobs.specs.declared.answers.Row.{Row}
 use Rattle.jobs.specs.declared.answers.StepAnswer.{StepAnswer}
 use Rattle.jobs.specs.declared.answers.StepAnswer.the-variants as step
 use Rattle.jobs.specs.declared.answers.RunAnswer.the-variants.{Accepted, Refused}
 use Rattle.jobs.specs.Job.{Job, readingAt}
-use Rattle.jobs.specs.Step.{stepWith, stepAt}
+use Rattle.jobs.specs.Step.{jobSectors, shadingAt, stepWith, stepAt}
 use Rattle.jobs.specs.Rows.{putRow, withRow}
 use Rattle.jobs.specs.Totals.{dayOfStep, totalsCount, monthPart, totalsAt, withTotals}
 use Rattle.jobs.specs.declared.answers.RunAnswer.{RunAnswer}
@@ -32,7 +39,20 @@ use Rattle.totals.specs.declared.KeptTotals.{KeptTotals}
 use Rattle.totals.specs.Kept.{emptied, partsOf, keptTotals, withRowAdded, HasRecords, putKept}
 use Rattle.totals.proofs.Kept.{few-added, kept-over, kept-stored, kept-added, row-added, over-emptied}
 
-pub job-step : (job : Job) (time : Float) (answer : StepAnswer) → answer ≡ stepWith (job .edition) (job .site) (job .surface) (job .sectors) (job .window) time (readingAt job time)
+-- ---- the sectors: those of the season are kept in a table, and read anew where the season changes
+
+-- the table for a day
+abbrev pub dayTable : Site → List ℕ → List ℕ → ℕ → SeasonTable
+dayTable site summer winter day = seasonTable (inLeaf (site .«first_leaf_day») (site .«last_leaf_day») day) summer winter
+
+-- the factor in an hour, by the sectors of its day
+abbrev pub hourFactor : ℕ → Site → Surface → List ℕ → List ℕ → List ℕ → ℕ → FactorAnswer
+hourFactor edition site surface summer winter window hour =
+    shadingAt edition surface (hourOf site hour) (sectorsFor summer winter (site .«first_leaf_day») (site .«last_leaf_day») (hour / 24)) window
+
+-- ---- from step to step
+
+pub job-step : (job : Job) (time : Float) (answer : StepAnswer) → answer ≡ stepWith (job .edition) (job .site) (job .surface) (jobSectors job time) (job .window) time (readingAt job time)
     → answer ≡ stepAt job time
 unfolding stepAt
 job-step job time answer e = e

@@ -2,9 +2,11 @@
 ghost use mathlib.Core.Path.{_≡_};
 ghost use mathlib.Core.Bool.{true};
 ghost use Prim.Native.Nat.{_*_, _≤_};
-ghost use lib.ListN.{length};
+ghost use lib.ListN.{length, take};
 ghost use Rattle.doubles.specs.Arithmetic.{whole};
 ghost use Rattle.object_checks.specs.Checks.{sectorsFine, windowFine};
+ghost use Rattle.objects.specs.Objects.{placed};
+ghost use Rattle.shading.specs.Factor.{shadingFactor};
 ghost use Rattle.words.specs.Words.{wordCount};
 ghost use Rattle.days.specs.Table.{HoldsDays};
 ghost use Rattle.sun.specs.Site.{siteFine, leapYear, hoursInYear};
@@ -27,11 +29,13 @@ use object_checks::sectors_fine;
 use object_checks::window_fine;
 use objects::answers::FactorAnswer;
 use objects::answers::Refusal;
-use objects::records::sector_count;
-use objects::records::sectors_of;
 use objects::records::window_of;
 use objects::surface::Surface;
 use objects::surface::surface_fine;
+use objects::window::WindowShading;
+use seasons::table::SeasonTable;
+use seasons::table::read_season;
+use seasons::table::season_for;
 use segments::place_index;
 use shading::step::factor_at;
 use shading::step::sun_place;
@@ -47,6 +51,7 @@ use steps::rows::store_row;
 use steps::rows::with_row;
 use sun::site::Site;
 use sun::site::hours_in_year;
+use sun::site::leaf_days_fine;
 use sun::site::site_fine;
 use totals::add_row;
 use totals::empty_totals;
@@ -103,7 +108,7 @@ fn check_series(
     Checked::Steps(count)
 }
 
-// Refusal 14, then 1 to 7 in number order, or how many steps the job has.
+// Refusals 14, 1, 15, then 2 to 7 in number order, or how many steps the job has.
 fn check_job(
     edition: u64,
     site: Site,
@@ -112,14 +117,15 @@ fn check_job(
     diffuse: &[u8],
     direct: &[u8],
     reflectivity: &[u8],
-    sectors: &[u8],
+    summer: &[u8],
+    winter: &[u8],
     window: &[u8],
     days: &[u8],
     totals: &[u8],
     results: &[u8],
 ) -> Checked
     ensures { λ r. ⌜ r ≡ checked
-        (jobOf edition site run surface (now (diffuse .entry)) (now (direct .entry)) (now (reflectivity .entry)) (now (sectors .entry)) (now (window .entry)))
+        (jobOf edition site run surface (now (diffuse .entry)) (now (direct .entry)) (now (reflectivity .entry)) (now (summer .entry)) (now (winter .entry)) (now (window .entry)))
         (roomFine (leapYear site) run (lent (now (days .entry)) (now (totals .entry)) (now (results .entry)))) ⌝ }
 {
     if !edition_fine(edition) {
@@ -128,6 +134,9 @@ fn check_job(
     if !site_fine(site) {
         return Checked::Refused(Refusal::Site);
     }
+    if !leaf_days_fine(site) {
+        return Checked::Refused(Refusal::LeafDay);
+    }
     let steps = check_run(run, hours_in_year(site));
     if !steps.fine {
         return Checked::Refused(Refusal::Run);
@@ -135,7 +144,7 @@ fn check_job(
     if !surface_fine(surface) {
         return Checked::Refused(Refusal::Surface);
     }
-    if !(sectors_fine(sectors) & window_fine(window)) {
+    if !(sectors_fine(summer) & sectors_fine(winter) & window_fine(window)) {
         return Checked::Refused(Refusal::Object);
     }
     check_series(
@@ -162,10 +171,29 @@ fn refused_at(refusal: Refusal, step: u64) -> RunAnswer
     }
 }
 
-// All steps of a job that has passed the checks. The sectors are read into a table once, a day is read from the table of days, and
-// the factor is worked out once an hour: `shaded` says that it is that of the hour which is kept. The totals of the day and its month
-// are stored where the day changes and at every way out.
-fn run_steps(
+// The factor where the sun stands, by the sectors of a season: the walk along them, and what shades in the one where it ends.
+fn season_factor(
+    edition: u64,
+    surface: Surface,
+    altitude: f64,
+    azimuth: f64,
+    season: SeasonTable,
+    window: WindowShading,
+) -> FactorAnswer
+    requires { ⌜ season .count ≤ 36 ⌝ }
+    ensures { λ r. ⌜ r ≡ shadingFactor edition surface altitude azimuth (take (season .count) (season .places)) (placed window) ⌝ }
+{
+    let places = season.places;
+    let sun = sun_place(surface, altitude, azimuth, places, season.count);
+    let place = sun.place;
+    let segment = places[place_index(place)];
+    factor_at(edition, surface, altitude, azimuth, sun, segment, window)
+}
+
+// All steps of a job that has passed the checks. The sectors are read into a table where the season changes, a day is read from the
+// table of days, and the factor is worked out once an hour: `shaded` says that it is that of the hour which is kept. The totals of the
+// day and its month are stored where the day changes and at every way out.
+fn run_steps<'a>(
     edition: u64,
     site: Site,
     run: Run,
@@ -174,7 +202,8 @@ fn run_steps(
     diffuse: &[u8],
     direct: &[u8],
     reflectivity: &[u8],
-    sectors: &[u8],
+    summer: &'a [u8],
+    winter: &'a [u8],
     window: &[u8],
     days: &[u8],
     totals: &mut [u8],
@@ -183,23 +212,23 @@ fn run_steps(
     requires { ⌜ siteFine site ≡ true ⌝ }
     requires { ⌜ runAccepted (hoursInYear site) run ≡ true ⌝ }
     requires { ⌜ count ≡ stepCount run ⌝ }
-    requires { ⌜ sectorsFine (now sectors) ≡ true ⌝ }
+    requires { ⌜ sectorsFine (now summer) ≡ true ⌝ }
+    requires { ⌜ sectorsFine (now winter) ≡ true ⌝ }
     requires { ⌜ windowFine (now window) ≡ true ⌝ }
     requires { ⌜ HoldsDays (now days) ⌝ }
     requires { ⌜ now totals ≡ emptied (leapYear site) (now totals) ⌝ }
     requires { ⌜ 24 * totalsCount (leapYear site) ≤ length (now totals) ⌝ }
     requires { ⌜ 6 * count ≤ wordCount (now results) ⌝ }
     ensures { λ r. ⌜ ran r (now (results .exit)) ≡ runFrom count
-        (jobOf edition site run surface (now (diffuse .entry)) (now (direct .entry)) (now (reflectivity .entry)) (now (sectors .entry)) (now (window .entry)))
+        (jobOf edition site run surface (now (diffuse .entry)) (now (direct .entry)) (now (reflectivity .entry)) (now (summer .entry)) (now (winter .entry)) (now (window .entry)))
         0 (run .start) (whole 0) (now (results .entry)) ⌝ }
     ensures { λ r. ⌜ now (totals .exit) ≡ withTotals (leapYear site) run (now (results .exit)) (rowsStored r) (now (totals .entry)) ⌝ }
 {
     let leap = site.leap_year == 1;
     let objects = window_of(window);
-    let n = sector_count(sectors);
-    let places = sectors_of(sectors, n);
     let fixed = fixed_of(site, surface);
     let mut day = read_day(days, 0);
+    let mut season = read_season(summer, winter, site.first_leaf_day, site.last_leaf_day, 0);
     let mut kept_totals = read_totals(totals, leap, 0);
     let mut kept = kept_hour(site, surface, fixed, day, 0);
     let mut factor = FactorAnswer::Factor(1.0);
@@ -213,22 +242,26 @@ fn run_steps(
             if hour / 24 != day.index {
                 store_kept(totals, kept_totals);
                 kept_totals = read_totals(totals, leap, hour / 24);
+                season = season_for(
+                    summer,
+                    winter,
+                    site.first_leaf_day,
+                    site.last_leaf_day,
+                    (hour / 24) as u64,
+                    season,
+                );
             }
             day = day_for(days, hour / 24, day);
             kept = kept_hour(site, surface, fixed, day, hour);
             shaded = false;
         }
         if !shaded {
-            let sun = sun_place(surface, kept.sun.altitude, kept.sun.azimuth, places, n);
-            let place = sun.place;
-            let segment = places[place_index(place)];
-            factor = factor_at(
+            factor = season_factor(
                 edition,
                 surface,
                 kept.sun.altitude,
                 kept.sun.azimuth,
-                sun,
-                segment,
+                season,
                 objects,
             );
             shaded = true;
@@ -265,7 +298,7 @@ fn run_steps(
 }
 
 // One call of the run: the answer, the table of days, the totals of days and months, and in the results a row for each step.
-pub fn run_job(
+pub fn run_job<'a>(
     edition: u64,
     site: Site,
     run: Run,
@@ -273,14 +306,15 @@ pub fn run_job(
     diffuse: &[u8],
     direct: &[u8],
     reflectivity: &[u8],
-    sectors: &[u8],
+    summer: &'a [u8],
+    winter: &'a [u8],
     window: &[u8],
     days: &mut [u8],
     totals: &mut [u8],
     results: &mut [u8],
 ) -> RunAnswer
     ensures { λ r. ⌜ left r (now (days .exit)) (now (totals .exit)) (now (results .exit)) ≡ runOf
-        (jobOf edition site run surface (now (diffuse .entry)) (now (direct .entry)) (now (reflectivity .entry)) (now (sectors .entry)) (now (window .entry)))
+        (jobOf edition site run surface (now (diffuse .entry)) (now (direct .entry)) (now (reflectivity .entry)) (now (summer .entry)) (now (winter .entry)) (now (window .entry)))
         (lent (now (days .entry)) (now (totals .entry)) (now (results .entry))) ⌝ }
 {
     let answer = check_job(
@@ -291,7 +325,8 @@ pub fn run_job(
         diffuse,
         direct,
         reflectivity,
-        sectors,
+        summer,
+        winter,
         window,
         days,
         totals,
@@ -311,7 +346,8 @@ pub fn run_job(
                 diffuse,
                 direct,
                 reflectivity,
-                sectors,
+                summer,
+                winter,
                 window,
                 days,
                 totals,

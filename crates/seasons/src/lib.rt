@@ -1,5 +1,6 @@
 // Trees in leaf: which days are, and the list of sectors for a day. Days count from 0.
 pub mod table;
+
 ghost use mathlib.Core.Path.{_≡_};
 ghost use Rattle.seasons.specs.Seasons.{inLeaf, wholeRecords, sectorsFor};
 

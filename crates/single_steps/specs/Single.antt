@@ -9,7 +9,7 @@ use Rattle.doubles.specs.Ranges.{within}
 use Rattle.words.specs.Words.{wordCount, putDouble}
 use Rattle.sun.specs.declared.site.Site.{Site}
 use Rattle.sun.specs.declared.hour.Hour.{Hour}
-use Rattle.sun.specs.Site.{siteFine, hoursInYear}
+use Rattle.sun.specs.Site.{siteFine, leafDaysFine, hoursInYear}
 use Rattle.irradiance.specs.declared.parts.Irradiance.{Irradiance}
 use Rattle.simulation_time.specs.Timestep.{currentHour}
 use Rattle.objects.specs.declared.surface.Surface.{Surface}
@@ -25,7 +25,7 @@ use Rattle.single_steps.specs.declared.Single.{Single}
 use Rattle.single_steps.specs.declared.Single.the-variants.{Accepted, Refused}
 use Rattle.weather.specs.Weather.{readingFine}
 use Rattle.jobs.specs.JobChecks.{tried}
-use Rattle.jobs.specs.Step.{sunAt, irradianceAt, stepWith}
+use Rattle.jobs.specs.Step.{sunAt, irradianceAt, sectorsAt, stepWith}
 use Rattle.jobs.specs.Rows.{putRow}
 
 -- 0 where the call is accepted: its results are then stored
@@ -40,29 +40,31 @@ unfoldable pub timeFine : Site → Float → Bool
 unfolding within whole
 timeFine site time = within (whole 0) (whole 8784) time && ltb (currentHour time) (hoursInYear site)
 
--- 14, 1, 2, 3, 4, 6, 7: six words for a row
-unfoldable pub stepChecked : ℕ → Site → Float → Surface → Reading → List ℕ → List ℕ → List ℕ → Single
+-- 14, 1, 15, 2, 3, 4, 6, 7: the objects of both seasons; six words for a row
+unfoldable pub stepChecked : ℕ → Site → Float → Surface → Reading → List ℕ → List ℕ → List ℕ → List ℕ → Single
 unfolding tried
-stepChecked edition site time surface reading sectors window results =
+stepChecked edition site time surface reading summer winter window results =
     tried Refused (editionFine edition) refusal.Edition
     (tried Refused (siteFine site) refusal.Site
+    (tried Refused (leafDaysFine site) refusal.LeafDay
     (tried Refused (timeFine site time) refusal.Run
     (tried Refused (surfaceFine surface) refusal.Surface
-    (tried Refused (sectorsFine sectors && windowFine window) refusal.Object
+    (tried Refused (sectorsFine summer && sectorsFine winter && windowFine window) refusal.Object
     (tried Refused (readingFine reading) refusal.Reading
     (tried Refused (leb 6 (wordCount results)) refusal.Results
-    Accepted))))))
+    Accepted)))))))
 
--- 1, 2, 3, 6, 7: nine words for the breakdown
+-- 1, 15, 2, 3, 6, 7: nine words for the breakdown
 unfoldable pub irradianceChecked : Site → Float → Surface → Reading → List ℕ → Single
 unfolding tried
 irradianceChecked site time surface reading results =
     tried Refused (siteFine site) refusal.Site
+    (tried Refused (leafDaysFine site) refusal.LeafDay
     (tried Refused (timeFine site time) refusal.Run
     (tried Refused (surfaceFine surface) refusal.Surface
     (tried Refused (readingFine reading) refusal.Reading
     (tried Refused (leb 9 (wordCount results)) refusal.Results
-    Accepted))))
+    Accepted)))))
 
 -- ---- the calls
 
@@ -85,10 +87,10 @@ unlessRefused Accepted results next = next
 unlessRefused (Refused r) results next = called (Refused r) results
 
 -- the step is the run's at that time
-unfoldable pub stepCall : ℕ → Site → Float → Surface → Reading → List ℕ → List ℕ → List ℕ → Called
-stepCall edition site time surface reading sectors window results =
-    unlessRefused (stepChecked edition site time surface reading sectors window results) results
-    (storedStep (stepWith edition site surface sectors window time reading) results)
+unfoldable pub stepCall : ℕ → Site → Float → Surface → Reading → List ℕ → List ℕ → List ℕ → List ℕ → Called
+stepCall edition site time surface reading summer winter window results =
+    unlessRefused (stepChecked edition site time surface reading summer winter window results) results
+    (storedStep (stepWith edition site surface (sectorsAt site summer winter time) window time reading) results)
 
 -- altitude, azimuth, direct, diffuse, total, then the breakdown: sky, circumsolar, horizontal, ground reflection
 unfoldable pub putBreakdown : List ℕ → Hour → Irradiance → List ℕ

@@ -3,7 +3,7 @@ ghost use mathlib.Core.Path.{_≡_};
 ghost use mathlib.Core.Bool.{true};
 ghost use Rattle.object_checks.specs.Checks.{sectorsFine, windowFine};
 ghost use Rattle.jobs.specs.JobChecks.{tried};
-ghost use Rattle.jobs.specs.Step.{sunAt, irradianceAt, stepWith};
+ghost use Rattle.jobs.specs.Step.{sunAt, irradianceAt, sectorsAt, stepWith};
 ghost use Rattle.single_steps.specs.declared.Single.the-variants.{Refused};
 ghost use Rattle.single_steps.specs.Single.{singleNumber, timeFine, stepChecked, irradianceChecked, called, storedStep};
 ghost use Rattle.single_steps.specs.Single.{stepCall, putBreakdown, irradianceCall};
@@ -16,6 +16,7 @@ use objects::answers::Refusal;
 use objects::answers::number_of;
 use objects::surface::Surface;
 use objects::surface::surface_fine;
+use seasons::sectors_for;
 use shading::step::direct_shading_reduction_factor;
 use simulation_time::timestep::current_hour;
 use steps::kept::fixed_of;
@@ -27,6 +28,7 @@ use steps::rows::store_row;
 use sun::hour::Hour;
 use sun::site::Site;
 use sun::site::hours_in_year;
+use sun::site::leaf_days_fine;
 use sun::site::site_fine;
 use weather::Reading;
 use weather::reading_fine;
@@ -72,19 +74,21 @@ fn check_step(
     time: f64,
     surface: Surface,
     reading: Reading,
-    sectors: &[u8],
+    summer: &[u8],
+    winter: &[u8],
     window: &[u8],
     results: &[u8],
 ) -> Single
-    ensures { λ r. ⌜ r ≡ stepChecked edition site time surface reading (now (sectors .entry)) (now (window .entry)) (now (results .entry)) ⌝ }
+    ensures { λ r. ⌜ r ≡ stepChecked edition site time surface reading (now (summer .entry)) (now (winter .entry)) (now (window .entry)) (now (results .entry)) ⌝ }
 {
     let room = first(6 <= word_count(results), Refusal::Results, Single::Accepted);
     let read = first(reading_fine(reading), Refusal::Reading, room);
-    let objects_fine = sectors_fine(sectors) & window_fine(window);
+    let objects_fine = sectors_fine(summer) & sectors_fine(winter) & window_fine(window);
     let shaded = first(objects_fine, Refusal::Object, read);
     let faced = first(surface_fine(surface), Refusal::Surface, shaded);
     let timed = first(time_fine(site, time), Refusal::Run, faced);
-    let sited = first(site_fine(site), Refusal::Site, timed);
+    let leafed = first(leaf_days_fine(site), Refusal::LeafDay, timed);
+    let sited = first(site_fine(site), Refusal::Site, leafed);
     first(edition_fine(edition), Refusal::Edition, sited)
 }
 
@@ -101,27 +105,37 @@ fn check_irradiance(
     let read = first(reading_fine(reading), Refusal::Reading, room);
     let faced = first(surface_fine(surface), Refusal::Surface, read);
     let timed = first(time_fine(site, time), Refusal::Run, faced);
-    first(site_fine(site), Refusal::Site, timed)
+    let leafed = first(leaf_days_fine(site), Refusal::LeafDay, timed);
+    first(site_fine(site), Refusal::Site, leafed)
 }
 
 // The step at a time, from lists that are checked.
-fn step_with(
+fn step_with<'a>(
     edition: u64,
     site: Site,
     time: f64,
     surface: Surface,
     reading: Reading,
-    sectors: &[u8],
+    summer: &'a [u8],
+    winter: &'a [u8],
     window: &[u8],
 ) -> StepAnswer
-    requires { ⌜ sectorsFine (now sectors) ≡ true ⌝ }
+    requires { ⌜ sectorsFine (now summer) ≡ true ⌝ }
+    requires { ⌜ sectorsFine (now winter) ≡ true ⌝ }
     requires { ⌜ windowFine (now window) ≡ true ⌝ }
-    ensures { λ r. ⌜ r ≡ stepWith edition site surface (now (sectors .entry)) (now (window .entry)) time reading ⌝ }
+    ensures { λ r. ⌜ r ≡ stepWith edition site surface (sectorsAt site (now (summer .entry)) (now (winter .entry)) time) (now (window .entry)) time reading ⌝ }
 {
     let fixed = fixed_of(site, surface);
     let hour = current_hour(time);
     let day = kept_day(hour / 24);
     let kept = kept_hour(site, surface, fixed, day, hour);
+    let sectors = sectors_for(
+        summer,
+        winter,
+        site.first_leaf_day,
+        site.last_leaf_day,
+        (hour / 24) as u64,
+    );
     let factor = direct_shading_reduction_factor(
         edition,
         surface,
@@ -146,18 +160,19 @@ fn store_step(answer: StepAnswer, results: &mut [u8]) -> Single
 }
 
 // The row of one step, in the first six words of the results.
-pub fn step_call(
+pub fn step_call<'a>(
     edition: u64,
     site: Site,
     time: f64,
     surface: Surface,
     reading: Reading,
-    sectors: &[u8],
+    summer: &'a [u8],
+    winter: &'a [u8],
     window: &[u8],
     results: &mut [u8],
 ) -> Single
     ensures { λ r. ⌜ called r (now (results .exit))
-        ≡ stepCall edition site time surface reading (now (sectors .entry)) (now (window .entry)) (now (results .entry)) ⌝ }
+        ≡ stepCall edition site time surface reading (now (summer .entry)) (now (winter .entry)) (now (window .entry)) (now (results .entry)) ⌝ }
 {
     let tested = check_step(
         edition,
@@ -165,14 +180,24 @@ pub fn step_call(
         time,
         surface,
         reading,
-        sectors,
+        summer,
+        winter,
         window,
         results,
     );
     match tested {
         Single::Refused(refusal) => Single::Refused(refusal),
         Single::Accepted => store_step(
-            step_with(edition, site, time, surface, reading, sectors, window),
+            step_with(
+                edition,
+                site,
+                time,
+                surface,
+                reading,
+                summer,
+                winter,
+                window,
+            ),
             results,
         ),
     }

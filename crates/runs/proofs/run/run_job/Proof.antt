@@ -25,7 +25,7 @@ use Rattle.runs.proofs.run.run_job.Tie as tie
 abbrev job : tie.Start → Job
 job c =
     let a = c .args in
-    jobOf (a .edition) (a .site) (a .run) (a .surface) (now (a .diffuse)) (now (a .direct)) (now (a .reflectivity)) (now (a .sectors)) (now (a .window))
+    jobOf (a .edition) (a .site) (a .run) (a .surface) (now (a .diffuse)) (now (a .direct)) (now (a .reflectivity)) (now (a .summer)) (now (a .winter)) (now (a .window))
 
 abbrev lists : tie.Start → Lent
 lists c = lent (now (c .args .days)) (now (c .args .totals)) (now (c .args .results))
@@ -44,19 +44,19 @@ enum-known-answer-2 c = search needs
 
 fill-days-requires : tie.Need-fill-days-requires
 fill-days-requires c κs =
-    let s = c .before .before .before .before .before .before .before .before .before .before .before .before .before .before .before .before in
+    let s = c .before .before .before .before .before .before .before .before .before .before .before .before .before .before .before .before .before in
     let checks = sym (c .before .before .before .before .check-job .ensures) ∙ c .before .before .answer2 .given .1 in
     days-fit (job s) (lists s) (passed (job s) (roomFor (job s) (lists s)) _ checks .0)
 
 empty-totals-requires : tie.Need-empty-totals-requires
 empty-totals-requires c κs =
-    let s = c .before .before .before .before .before .before .before .before .before .before .before .before .before .before .before .before .before .before .before .before .before in
+    let s = c .before .before .before .before .before .before .before .before .before .before .before .before .before .before .before .before .before .before .before .before .before .before in
     let checks = sym (c .before .before .before .before .before .before .before .before .before .check-job .ensures) ∙ c .before .before .before .before .before .before .before .answer2 .given .1 in
     totals-fit (job s) (lists s) (passed (job s) (roomFor (job s) (lists s)) _ checks .0)
 
 run-steps-requires : tie.Need-run-steps-requires
 run-steps-requires c κs =
-    let s = c .before .before .before .before .before .before .before .before .before .before .before .before .before .before .before .before .before .before .before .before .before .before .before .before .before .before .before in
+    let s = c .before .before .before .before .before .before .before .before .before .before .before .before .before .before .before .before .before .before .before .before .before .before .before .before .before .before .before .before in
     let checks = sym (c .before .before .before .before .before .before .before .before .before .before .before .before .before .before .before .check-job .ensures) ∙ c .before .before .before .before .before .before .before .before .before .before .before .before .before .answer2 .given .1 in
     let p = passed (job s) (roomFor (job s) (lists s)) _ checks in
     let leap = leapYear (s .args .site) in
@@ -73,8 +73,11 @@ run-steps-requires c κs =
         (
           p .1,
           (
-            is-true (sectorsFine (now (s .args .sectors))) (p .0 .sectors-fine),
-            (is-true (windowFine (now (s .args .window))) (p .0 .window-fine), (holds, (none, (wide, rows)))),
+            is-true (sectorsFine (now (s .args .summer))) (p .0 .summer-fine),
+            (
+              is-true (sectorsFine (now (s .args .winter))) (p .0 .winter-fine),
+              (is-true (windowFine (now (s .args .window))) (p .0 .window-fine), (holds, (none, (wide, rows)))),
+            ),
           ),
         ),
       ),
@@ -105,7 +108,7 @@ same-length-6 c = search needs
 returns-2 : tie.Need-returns-2
 unfolding runOf runChecked daysLeft totalsLeft
 returns-2 c =
-    let s = c .before .before .before .before .before .before .before .before .before .before .before .before .before .before .before .before .before .before .before .before .before .before .before .before .before .before .before .before .before .before .before .before in
+    let s = c .before .before .before .before .before .before .before .before .before .before .before .before .before .before .before .before .before .before .before .before .before .before .before .before .before .before .before .before .before .before .before .before .before in
     let a = s .args in
     let filled = c .before .before .before .before .before .before .before .before .before .before .before .before .before .before .before .fill-days .ensures in
     let empty = c .before .before .before .before .before .before .before .before .before .before .empty-totals .ensures in

@@ -10,23 +10,22 @@ use Prim.Native.Nat.{ℕ, suc, _+_, _-_, _*_, _/_, _≤_, _<_}
 use native.Mathlib.Omega.{arith}
 use borrow.Author.Needs.{needs}
 use denote.Ref.{now}
-use lib.ListN.{length, take, getD}
+use lib.ListN.{length}
 use Rattle.simulation_time.specs.declared.run.Run.{Run}
 use Rattle.simulation_time.specs.Timestep.{currentHour}
 use Rattle.simulation_time.specs.Steps.{timeAt}
 use Rattle.simulation_time.proofs.Times.{count-few}
 use Rattle.doubles.specs.Arithmetic.{_⊕_, whole}
-use Rattle.sun.specs.Hour.{hourOf}
 use Rattle.objects.specs.declared.answers.FactorAnswer.{FactorAnswer}
 use Rattle.objects.specs.Objects.{placed}
-use Rattle.objects.specs.Records.{sectorCount, sectorsOf, windowObjectsOf}
-use Rattle.objects.proofs.Places.{sectors-taken}
-use Rattle.object_checks.proofs.AcceptedSectors.{sector-count}
-use Rattle.object_checks.proofs.ReadableSectors.{readable}
+use Rattle.objects.specs.Records.{windowObjectsOf}
+use Rattle.object_checks.specs.Checks.{sectorsFine}
 use Rattle.object_checks.proofs.AcceptedWindow.{window-count, window-places}
-use Rattle.shading.proofs.SunPlaces.{index-fits, factor-by-table}
+use Rattle.seasons.specs.declared.table.SeasonTable.{SeasonTable}
+use Rattle.seasons.specs.Seasons.{sectorsFor}
+use Rattle.seasons.proofs.Parts.{few-kept, kept-sectors, of-its-season}
 use Rattle.jobs.specs.Job.{Job, jobOf, indexAt, readingAt}
-use Rattle.jobs.specs.Step.{shadingAt, stepAt}
+use Rattle.jobs.specs.Step.{sectorsAt, jobSectors, stepAt}
 use Rattle.jobs.specs.declared.answers.StepAnswer.the-variants as step
 use Rattle.jobs.specs.declared.answers.RunAnswer.{RunAnswer}
 use Rattle.words.specs.Words.{wordCount}
@@ -41,34 +40,36 @@ use Rattle.steps.proofs.StepKept.{kept-factor, by-kept, its-hour, its-index, of
 use Rattle.runs.proofs.CheckSteps.{start-day}
 use Rattle.totals.specs.Kept.{keptTotals, putKept}
 use Rattle.totals.proofs.Kept.{none-added, length-kept, kept-stored, year-starts}
-use Rattle.runs.proofs.StepByStep.{job-step, row-next, refused-here, at-end, at-start, has-records, new-day, kept-counted, totals-next, kept-next}
+use Rattle.runs.proofs.StepByStep.{dayTable, hourFactor, job-step, row-next, refused-here, at-end, at-start, has-records, new-day, kept-counted, totals-next, kept-next}
 use Rattle.runs.proofs.run.run_steps.Statement.{statement}
 use Rattle.runs.proofs.run.run_steps.Tie as tie
 
 abbrev Inv-loop : tie.InvT-loop
-Inv-loop edition site run count surface diffuse direct reflectivity sectors window days totals₀ results₀ leap objects n places fixed day₀ kept-totals₀ kept₀ factor₀ shaded₀ time₀ sum₀ i₀ totals results day kept-totals kept factor shaded time sum i =
+Inv-loop edition site run count surface diffuse direct reflectivity summer winter window days totals₀ results₀ leap objects fixed day₀ season₀ kept-totals₀ kept₀ factor₀ shaded₀ time₀ sum₀ i₀ totals results day season kept-totals kept factor shaded time sum i =
     (i ≤ count)
     × (length results ≡ length results₀)
     × (fixed ≡ fixedOf site surface)
     × (placed objects ≡ windowObjectsOf window)
-    × (n ≤ 36)
-    × (take n places ≡ sectorsOf sectors)
     × (day ≡ keptDay (kept .hour / 24))
+    × (season ≡ dayTable site summer winter (kept .hour / 24))
     × (kept ≡ keptHour site surface (kept .hour))
-    × (shaded ≡ true → factor ≡ shadingAt edition surface (hourOf site (kept .hour)) sectors window)
+    × (shaded ≡ true → factor ≡ hourFactor edition site surface summer winter window (kept .hour))
     × (time ≡ timeAt run i)
-    × (runFrom (count - i) (jobOf edition site run surface diffuse direct reflectivity sectors window) i time sum results
-    ≡ runFrom count (jobOf edition site run surface diffuse direct reflectivity sectors window) 0 (run .start) (whole 0) results₀)
+    × (runFrom (count - i) (jobOf edition site run surface diffuse direct reflectivity summer winter window) i time sum results
+    ≡ runFrom count (jobOf edition site run surface diffuse direct reflectivity summer winter window) 0 (run .start) (whole 0) results₀)
     × (length totals ≡ length totals₀)
     × (putKept totals kept-totals ≡ withTotals (leapYear site) run results i totals₀)
     × (kept-totals ≡ keptTotals (leapYear site) (kept .hour / 24) (withTotals (leapYear site) run results i totals₀))
     × (kept .hour / 24 < daysInYear (leapYear site))
 
 abbrev μ-loop : tie.MeasureT-loop
-μ-loop edition site run count surface diffuse direct reflectivity sectors window days totals₀ results₀ leap objects n places fixed day₀ kept-totals₀ kept₀ factor₀ shaded₀ time₀ sum₀ i₀ totals results day kept-totals kept factor shaded time sum i = count - i
+μ-loop edition site run count surface diffuse direct reflectivity summer winter window days totals₀ results₀ leap objects fixed day₀ season₀ kept-totals₀ kept₀ factor₀ shaded₀ time₀ sum₀ i₀ totals results day season kept-totals kept factor shaded time sum i = count - i
 
-few-sectors : (c : tie.Start Inv-loop μ-loop) (n : ℕ) → n ≡ sectorCount (now (c .args .sectors)) → n ≤ 36
-few-sectors c n e = subst (λ (m : ℕ). m ≤ 36) (sym e) (sector-count (now (c .args .sectors)) (subst T (sym (c .pre .1 .1 .1 .0)) tt))
+summer-fine : (c : tie.Start Inv-loop μ-loop) → T (sectorsFine (now (c .args .summer)))
+summer-fine c = subst T (sym (c .pre .1 .1 .1 .0)) tt
+
+winter-fine : (c : tie.Start Inv-loop μ-loop) → T (sectorsFine (now (c .args .winter)))
+winter-fine c = subst T (sym (c .pre .1 .1 .1 .1 .0)) tt
 
 few-steps : (c : tie.Start Inv-loop μ-loop) → c .args .count ≤ 35137
 few-steps c = subst (λ (n : ℕ). n ≤ 35137) (sym (c .pre .1 .1 .0)) (count-few (c .args .run))
@@ -76,28 +77,22 @@ few-steps c = subst (λ (n : ℕ). n ≤ 35137) (sym (c .pre .1 .1 .0)) (count-f
 abbrev job : tie.Start Inv-loop μ-loop → Job
 job c =
     let a = c .args in
-    jobOf (a .edition) (a .site) (a .run) (a .surface) (now (a .diffuse)) (now (a .direct)) (now (a .reflectivity)) (now (a .sectors)) (now (a .window))
+    jobOf (a .edition) (a .site) (a .run) (a .surface) (now (a .diffuse)) (now (a .direct)) (now (a .reflectivity)) (now (a .summer)) (now (a .winter)) (now (a .window))
 
 window-of-requires : tie.Need-window-of-requires Inv-loop μ-loop
-window-of-requires c κs = let s = c .before .before .before .before .before .before .before .before .before in window-count (now (s .args .window)) (subst T (sym (s .pre .1 .1 .1 .1 .0)) tt)
-
-sector-count-requires : tie.Need-sector-count-requires Inv-loop μ-loop
-sector-count-requires c κs = tt
-
-sectors-of-requires : tie.Need-sectors-of-requires Inv-loop μ-loop
-sectors-of-requires c κs =
-    let s = c .before .before .before .before .before .before .before .before .before .before .before in
-    let count = c .sector-count .ensures in
-    (readable (now (s .args .sectors)) (subst T (sym (s .pre .1 .1 .1 .0)) tt), omega (arith, count))
+window-of-requires c κs = let s = c .before .before .before .before .before .before .before .before .before .before in window-count (now (s .args .window)) (subst T (sym (s .pre .1 .1 .1 .1 .1 .0)) tt)
 
 fixed-of-requires : tie.Need-fixed-of-requires Inv-loop μ-loop
 fixed-of-requires c κs = tt
 
 read-day-requires : tie.Need-read-day-requires Inv-loop μ-loop
-read-day-requires c κs = (c .before .before .before .before .before .before .before .before .before .before .before .before .before .pre .1 .1 .1 .1 .1 .0, omega arith)
+read-day-requires c κs = (c .before .before .before .before .before .before .before .before .before .before .before .before .pre .1 .1 .1 .1 .1 .1 .0, omega arith)
+
+read-season-requires : tie.Need-read-season-requires Inv-loop μ-loop
+read-season-requires c κs = let s = c .before .before .before .before .before .before .before .before .before .before .before .before .before in (s .pre .1 .1 .1 .0, s .pre .1 .1 .1 .1 .0)
 
 kept-hour-requires : tie.Need-kept-hour-requires Inv-loop μ-loop
-kept-hour-requires c κs = (c .before .before .before .fixed-of .ensures, c .before .before .read-day .ensures)
+kept-hour-requires c κs = (c .before .before .before .before .fixed-of .ensures, c .before .before .before .read-day .ensures)
 
 read-totals-requires : tie.Need-read-totals-requires Inv-loop μ-loop
 read-totals-requires c κs = year-starts _
@@ -109,20 +104,17 @@ loop-holds : tie.Need-loop-holds Inv-loop μ-loop
 unfolding ofBits whole placed timeAt
 loop-holds c =
     let s = c .before .before .before .before .before .before .before .before .before .before .before .before .before .before .before .before .before in
-    let count = c .before .before .before .before .before .before .sector-count .ensures in
-    let few = few-sectors s _ count in
     let leap = leapYear (s .args .site) in
     let none : now (s .args .totals) ≡ withTotals leap (s .args .run) (now (s .args .results)) 0 (now (s .args .totals)) =
-    s .pre .1 .1 .1 .1 .1 .1 .0 ∙ none-added leap (s .args .run) (now (s .args .results)) (now (s .args .totals)) in
+    s .pre .1 .1 .1 .1 .1 .1 .1 .0 ∙ none-added leap (s .args .run) (now (s .args .results)) (now (s .args .totals)) in
     let known = c .before .read-totals .ensures in
     let hour = its-hour (s .args .site) (s .args .surface) _ _ (c .kept-hour .ensures) in (
       omega arith,
       refl,
-      c .before .before .before .before .fixed-of .ensures,
-      ap placed (c .before .before .before .before .before .before .before .window-of .ensures) ∙ window-places (now (s .args .window)) (subst T (sym (s .pre .1 .1 .1 .1 .0)) tt),
-      few,
-      sectors-taken (now (s .args .sectors)) _ _ count few (c .before .before .before .before .before .sectors-of .ensures),
-      day-of-its-hour _ _ _ _ _ (c .kept-hour .ensures) (c .before .before .before .read-day .ensures),
+      c .before .before .before .before .before .fixed-of .ensures,
+      ap placed (c .before .before .before .before .before .before .window-of .ensures) ∙ window-places (now (s .args .window)) (subst T (sym (s .pre .1 .1 .1 .1 .1 .0)) tt),
+      day-of-its-hour _ _ _ _ _ (c .kept-hour .ensures) (c .before .before .before .before .read-day .ensures),
+      c .before .before .before .read-season .ensures ∙ ap (λ (h : ℕ). dayTable (s .args .site) (now (s .args .summer)) (now (s .args .winter)) (h / 24)) (sym hour),
       of-its-hour _ _ _ _ (c .kept-hour .ensures),
       λ e. never e,
       refl,
@@ -135,7 +127,7 @@ loop-holds c =
 
 -- the list of totals stays as long as it was
 wide : (s : tie.Start Inv-loop μ-loop) (totals : List ℕ) → length totals ≡ length (now (s .args .totals)) → 24 * totalsCount (leapYear (s .args .site)) ≤ length totals
-wide s totals e = subst (λ (m : ℕ). 24 * totalsCount (leapYear (s .args .site)) ≤ m) (sym e) (s .pre .1 .1 .1 .1 .1 .1 .1 .0)
+wide s totals e = subst (λ (m : ℕ). 24 * totalsCount (leapYear (s .args .site)) ≤ m) (sym e) (s .pre .1 .1 .1 .1 .1 .1 .1 .1 .0)
 
 -- what the totals have where the loop goes on
 module _ (s : tie.Start Inv-loop μ-loop) (i : ℕ) (h : i < s .args .count) where
@@ -146,7 +138,7 @@ module _ (s : tie.Start Inv-loop μ-loop) (i : ℕ) (h : i < s .args .count) whe
   day-of = day-of-year (s .args .site) (s .args .run) (subst T (sym (s .pre .1 .0)) tt) i (subst (λ (n : ℕ). i < n) (s .pre .1 .1 .0) h)
 
   room : (results : List ℕ) → length results ≡ length (now (s .args .results)) → 6 * i + 6 ≤ wordCount results
-  room results e = let fits = s .pre .1 .1 .1 .1 .1 .1 .1 .1 in unfold wordCount in omega (arith, e, h, fits)
+  room results e = let fits = s .pre .1 .1 .1 .1 .1 .1 .1 .1 .1 in unfold wordCount in omega (arith, e, h, fits)
 
 current-hour-requires : tie.Need-current-hour-requires Inv-loop μ-loop
 current-hour-requires c κs = tt
@@ -157,19 +149,29 @@ day-there s i time e h =
     let below = hour-of-leap-year (s .args .site) (s .args .run) (subst T (sym (s .pre .1 .0)) tt) i (subst (λ (n : ℕ). i < n) (s .pre .1 .1 .0) h) in
     subst (λ (t : Float). currentHour t / 24 < 366) (sym e) (omega (arith, below))
 
+cast-season-for : tie.Need-cast-season-for Inv-loop μ-loop
+cast-season-for c = search needs
+
+season-for-requires : tie.Need-season-for-requires Inv-loop μ-loop
+season-for-requires c κs =
+    let l = c .before .before .before .before .before .before .before .before .before .before .before .before in
+    let s = l .before .before .before .before .before .before .before .before .before .before .before .before .before .before .before .before .before .before in
+    let a = s .args in
+    (s .pre .1 .1 .1 .0, (s .pre .1 .1 .1 .1 .0, of-its-season (now (a .summer)) (now (a .winter)) (summer-fine s) (winter-fine s) _ _ (l .loop .inv .5)))
+
 day-for-requires : tie.Need-day-for-requires Inv-loop μ-loop
 day-for-requires c κs =
     let l = c .before .before .before .before .before .before in
     let s = l .before .before .before .before .before .before .before .before .before .before .before .before .before .before .before .before .before .before in
-    let there = day-there s (l .loop .i) (l .loop .time) (l .loop .inv .9) (c .before .before .before .before .before .loop-test .taken) in
-    (s .pre .1 .1 .1 .1 .1 .0, (subst (λ (h : ℕ). h / 24 < 366) (sym (c .before .before .before .before .current-hour .ensures)) there, of-its-day _ _ (l .loop .inv .6)))
+    let there = day-there s (l .loop .i) (l .loop .time) (l .loop .inv .8) (c .before .before .before .before .before .loop-test .taken) in
+    (s .pre .1 .1 .1 .1 .1 .1 .0, (subst (λ (h : ℕ). h / 24 < 366) (sym (c .before .before .before .before .current-hour .ensures)) there, of-its-day _ _ (l .loop .inv .4)))
 
 store-kept-requires : tie.Need-store-kept-requires Inv-loop μ-loop
 store-kept-requires c κs =
     let l = c .before .before .before .before .before .before .before in
     let s = l .before .before .before .before .before .before .before .before .before .before .before .before .before .before .before .before .before .before in
     let q = l .loop .inv in
-    has-records _ _ _ _ _ (q .13) (q .14) (wide s (l .loop .totals) (q .11))
+    has-records _ _ _ _ _ (q .12) (q .13) (wide s (l .loop .totals) (q .10))
 
 read-totals-requires-2 : tie.Need-read-totals-requires-2 Inv-loop μ-loop
 read-totals-requires-2 c κs =
@@ -177,22 +179,24 @@ read-totals-requires-2 c κs =
     let s = l .before .before .before .before .before .before .before .before .before .before .before .before .before .before .before .before .before .before in
     let q = l .loop in
     let there = day-of s (q .i) (c .before .before .before .before .before .before .before .before .before .before .loop-test .taken) in
-    let day = ap (λ (h : ℕ). h / 24) (c .before .before .before .before .before .before .before .before .before .current-hour .ensures) ∙ ap (λ (t : Float). currentHour t / 24) (q .inv .9) in
+    let day = ap (λ (h : ℕ). h / 24) (c .before .before .before .before .before .before .before .before .before .current-hour .ensures) ∙ ap (λ (t : Float). currentHour t / 24) (q .inv .8) in
     subst (λ (d : ℕ). d < daysInYear (leapYear (s .args .site))) (sym day) there
 
 kept-hour-requires-2 : tie.Need-kept-hour-requires-2 Inv-loop μ-loop
 kept-hour-requires-2 c κs = (c .before .before .before .before .before .before .before .loop .inv .2, c .day-for .ensures)
 
--- the day and the hour that the step goes by, and its factor where it is shaded, whichever way they came
+-- the day, its sectors and the hour that the step goes by, and its factor where it is shaded, whichever way they came
 kept-now : (c : tie.Joined1 Inv-loop μ-loop)
     → let l = c .before .before .before .before in
     let s = l .before .before .before .before .before .before .before .before .before .before .before .before .before .before .before .before .before .before in
+    let a = s .args in
     (c .if1 .day ≡ keptDay (currentHour (l .loop .time) / 24))
-    × (c .if1 .kept ≡ keptHour (s .args .site) (s .args .surface) (currentHour (l .loop .time)))
-    × (c .if1 .shaded ≡ true → l .loop .factor ≡ shadingAt (s .args .edition) (s .args .surface) (hourOf (s .args .site) (currentHour (l .loop .time))) (now (s .args .sectors)) (now (s .args .window)))
-    × (putKept (c .if1 .totals) (c .if1 .kept-totals) ≡ withTotals (leapYear (s .args .site)) (s .args .run) (l .loop .results) (l .loop .i) (now (s .args .totals)))
-    × (c .if1 .kept-totals ≡ keptTotals (leapYear (s .args .site)) (currentHour (l .loop .time) / 24) (withTotals (leapYear (s .args .site)) (s .args .run) (l .loop .results) (l .loop .i) (now (s .args .totals))))
-    × (length (c .if1 .totals) ≡ length (now (s .args .totals)))
+    × (c .if1 .season ≡ dayTable (a .site) (now (a .summer)) (now (a .winter)) (currentHour (l .loop .time) / 24))
+    × (c .if1 .kept ≡ keptHour (a .site) (a .surface) (currentHour (l .loop .time)))
+    × (c .if1 .shaded ≡ true → l .loop .factor ≡ hourFactor (a .edition) (a .site) (a .surface) (now (a .summer)) (now (a .winter)) (now (a .window)) (currentHour (l .loop .time)))
+    × (putKept (c .if1 .totals) (c .if1 .kept-totals) ≡ withTotals (leapYear (a .site)) (a .run) (l .loop .results) (l .loop .i) (now (a .totals)))
+    × (c .if1 .kept-totals ≡ keptTotals (leapYear (a .site)) (currentHour (l .loop .time) / 24) (withTotals (leapYear (a .site)) (a .run) (l .loop .results) (l .loop .i) (now (a .totals))))
+    × (length (c .if1 .totals) ≡ length (now (a .totals)))
 kept-now c =
     let l = c .before .before .before .before in
     let s = l .before .before .before .before .before .before .before .before .before .before .before .before .before .before .before .before .before .before in
@@ -201,38 +205,48 @@ kept-now c =
     let same = c .before .before .current-hour .ensures in
     let hour = keptHour (a .site) (a .surface) in
     let leap = leapYear (a .site) in
+    let table : ℕ → SeasonTable = dayTable (a .site) (now (a .summer)) (now (a .winter)) in
     let so-far = withTotals leap (a .run) (l .loop .results) (l .loop .i) (now (a .totals)) in
-    let shade : ℕ → FactorAnswer = λ (h : ℕ). shadingAt (a .edition) (a .surface) (hourOf (a .site) h) (now (a .sectors)) (now (a .window)) in
+    let shade : ℕ → FactorAnswer = hourFactor (a .edition) (a .site) (a .surface) (now (a .summer)) (now (a .winter)) (now (a .window)) in
     let on = c .before .before .before .loop-test .taken in
-    let there : currentHour (l .loop .time) / 24 < daysInYear leap = subst (λ (t : Float). currentHour t / 24 < daysInYear leap) (sym (q .9)) (day-of s (l .loop .i) on) in
+    let there : currentHour (l .loop .time) / 24 < daysInYear leap = subst (λ (t : Float). currentHour t / 24 < daysInYear leap) (sym (q .8)) (day-of s (l .loop .i) on) in
     ⊎-elim
     (λ w.
     let turned : (putKept (c .if1 .totals) (c .if1 .kept-totals) ≡ so-far)
     × (c .if1 .kept-totals ≡ keptTotals leap (currentHour (l .loop .time) / 24) so-far)
-    × (length (c .if1 .totals) ≡ length (now (a .totals))) = ⊎-elim
+    × (length (c .if1 .totals) ≡ length (now (a .totals)))
+    × (c .if1 .season ≡ table (currentHour (l .loop .time) / 24)) = ⊎-elim
     (λ v.
-    let both = new-day (job s) (l .loop .i) (l .loop .results) (now (a .totals)) (few s (l .loop .i) on) (currentHour (l .loop .time) / 24) (l .loop .totals) _ _ _ there (q .12) (w .5 ∙ v .7 ∙ v .2 .ensures) (w .7 ∙ v .8 ∙ v .6 .ensures ∙ ap₂ (λ (h : ℕ) (m : List ℕ). keptTotals leap (h / 24) m) same (sym (w .5 ∙ v .7))) in
-    (both .0, both .1, ap length (w .5 ∙ v .7 ∙ v .2 .ensures) ∙ length-kept (l .loop .totals) (l .loop .kept-totals) ∙ q .11))
-    (λ v. (
-      ap₂ putKept (w .5 ∙ v .1) (w .7 ∙ v .2) ∙ q .12,
-      w .7 ∙ v .2 ∙ q .13 ∙ ap (λ (d : ℕ). keptTotals leap d so-far) (sym (v .0 .left ∙ its-index _ _ (q .6)) ∙ ap (λ (h : ℕ). h / 24) same),
-      ap length (w .5 ∙ v .1) ∙ q .11,
+    let both = new-day (job s) (l .loop .i) (l .loop .results) (now (a .totals)) (few s (l .loop .i) on) (currentHour (l .loop .time) / 24) (l .loop .totals) _ _ _ there (q .11) (w .5 ∙ v .8 ∙ v .2 .ensures) (w .8 ∙ v .10 ∙ v .6 .ensures ∙ ap₂ (λ (h : ℕ) (m : List ℕ). keptTotals leap (h / 24) m) same (sym (w .5 ∙ v .8))) in (
+      both .0,
+      both .1,
+      ap length (w .5 ∙ v .8 ∙ v .2 .ensures) ∙ length-kept (l .loop .totals) (l .loop .kept-totals) ∙ q .10,
+      w .7 ∙ v .9 ∙ v .7 .ensures ∙ ap (λ (h : ℕ). table (h / 24)) same,
+    ))
+    (λ v.
+    let same-day : l .loop .kept .hour / 24 ≡ currentHour (l .loop .time) / 24 = sym (v .0 .left ∙ its-index _ _ (q .4)) ∙ ap (λ (h : ℕ). h / 24) same in (
+      ap₂ putKept (w .5 ∙ v .1) (w .8 ∙ v .3) ∙ q .11,
+      w .8 ∙ v .3 ∙ q .12 ∙ ap (λ (d : ℕ). keptTotals leap d so-far) same-day,
+      ap length (w .5 ∙ v .1) ∙ q .10,
+      w .7 ∙ v .2 ∙ q .5 ∙ ap table same-day,
     ))
     (w .2 .came) in (
       w .6 ∙ w .3 .ensures ∙ ap (λ (h : ℕ). keptDay (h / 24)) same,
-      w .8 ∙ w .4 .ensures ∙ ap hour same,
-      λ e. never (sym (w .9) ∙ e),
+      turned .3,
+      w .9 ∙ w .4 .ensures ∙ ap hour same,
+      λ e. never (sym (w .10) ∙ e),
       turned .0,
       turned .1,
       turned .2,
     ))
     (λ w. (
-      w .2 ∙ q .6 ∙ ap (λ (h : ℕ). keptDay (h / 24)) (sym (w .0 .left) ∙ same),
-      w .4 ∙ q .7 ∙ ap hour (sym (w .0 .left) ∙ same),
-      λ e. q .8 (sym (w .5) ∙ e) ∙ ap shade (sym (w .0 .left) ∙ same),
-      ap₂ putKept (w .1) (w .3) ∙ q .12,
-      w .3 ∙ q .13 ∙ ap (λ (h : ℕ). keptTotals leap (h / 24) so-far) (sym (w .0 .left) ∙ same),
-      ap length (w .1) ∙ q .11,
+      w .2 ∙ q .4 ∙ ap (λ (h : ℕ). keptDay (h / 24)) (sym (w .0 .left) ∙ same),
+      w .3 ∙ q .5 ∙ ap (λ (h : ℕ). table (h / 24)) (sym (w .0 .left) ∙ same),
+      w .5 ∙ q .6 ∙ ap hour (sym (w .0 .left) ∙ same),
+      λ e. q .7 (sym (w .6) ∙ e) ∙ ap shade (sym (w .0 .left) ∙ same),
+      ap₂ putKept (w .1) (w .4) ∙ q .11,
+      w .4 ∙ q .12 ∙ ap (λ (h : ℕ). keptTotals leap (h / 24) so-far) (sym (w .0 .left) ∙ same),
+      ap length (w .1) ∙ q .10,
     ))
     (c .if1 .came)
 
@@ -244,30 +258,14 @@ known-now : (c : tie.Joined1 Inv-loop μ-loop)
 known-now c =
     let l = c .before .before .before .before in
     let s = l .before .before .before .before .before .before .before .before .before .before .before .before .before .before .before .before .before .before in
-    kept-now c .4
-    ∙ ap (λ (t : Float). keptTotals (leapYear (s .args .site)) (currentHour t / 24) (withTotals (leapYear (s .args .site)) (s .args .run) (l .loop .results) (l .loop .i) (now (s .args .totals)))) (l .loop .inv .9)
+    kept-now c .5
+    ∙ ap (λ (t : Float). keptTotals (leapYear (s .args .site)) (currentHour t / 24) (withTotals (leapYear (s .args .site)) (s .args .run) (l .loop .results) (l .loop .i) (now (s .args .totals)))) (l .loop .inv .8)
 
-sun-place-requires : tie.Need-sun-place-requires Inv-loop μ-loop
-sun-place-requires c κs = c .before .before .before .before .before .loop .inv .4
-
-place-index-requires : tie.Need-place-index-requires Inv-loop μ-loop
-place-index-requires c κs = tt
-
--- the place of the sector is one of the table's
-there : (c : tie.After-place-index Inv-loop μ-loop) → c .place-index .result < 36
-there c =
-    let l = c .before .before .before .before .before .before .before in
-    let a = l .before .before .before .before .before .before .before .before .before .before .before .before .before .before .before .before .before .before .args in
-    subst (λ (i : ℕ). i < 36) (sym (c .place-index .ensures)) (index-fits (a .edition) (a .surface) _ _ _ _ (l .loop .inv .4) _ (c .before .sun-place .ensures))
-
-mul-segment : tie.Need-mul-segment Inv-loop μ-loop
-mul-segment c = omega (arith, there c)
-
-array-copy-out-segment : tie.Need-array-copy-out-segment Inv-loop μ-loop
-array-copy-out-segment c = there c
-
-factor-at-requires : tie.Need-factor-at-requires Inv-loop μ-loop
-factor-at-requires c κs = tt
+season-factor-requires : tie.Need-season-factor-requires Inv-loop μ-loop
+season-factor-requires c κs =
+    let s = c .before .before .before .before .before .before .before .before .before .before .before .before .before .before .before .before .before .before .before .before .before .before .before in
+    let a = s .args in
+    few-kept (now (a .summer)) (now (a .winter)) (summer-fine s) (winter-fine s) _ _ (kept-now (c .before) .1)
 
 holds : (b : Bool) → not b ≡ false → b ≡ true
 holds true e = refl
@@ -277,7 +275,9 @@ holds false e = sym e
 factor-now : (c : tie.Joined3 Inv-loop μ-loop)
     → let l = c .before .before .before .before .before in
     let s = l .before .before .before .before .before .before .before .before .before .before .before .before .before .before .before .before .before .before in
-    c .if3 .factor ≡ shadingAt (s .args .edition) (s .args .surface) (hourOf (s .args .site) (currentHour (l .loop .time))) (now (s .args .sectors)) (now (s .args .window))
+    let a = s .args in
+    c .if3 .factor ≡ hourFactor (a .edition) (a .site) (a .surface) (now (a .summer)) (now (a .winter)) (now (a .window)) (currentHour (l .loop .time))
+unfolding sectorsFor
 factor-now c =
     let l = c .before .before .before .before .before in
     let s = l .before .before .before .before .before .before .before .before .before .before .before .before .before .before .before .before .before .before in
@@ -286,10 +286,9 @@ factor-now c =
     let kept = kept-now (c .before) in
     ⊎-elim
     (λ w.
-    kept-factor (a .site) (a .surface) _ _ (kept .1) (a .edition) (now (a .sectors)) (now (a .window)) _ _ _ (q .5) (q .3)
-    (w .5 ∙ w .4 .ensures
-    ∙ factor-by-table (a .edition) (a .surface) _ _ _ _ (q .4) _ _ _ _ (w .1 .ensures) (ap (λ (i : ℕ). getD (l .before .before .before .before .before .before .sectors-of .result) i _) (w .2 .ensures))))
-    (λ w. w .1 ∙ kept .2 (holds _ (w .0 .left)))
+    kept-factor (a .site) (a .surface) _ _ (kept .2) (a .edition) _ (now (a .window)) _ _ _
+    (kept-sectors (now (a .summer)) (now (a .winter)) (summer-fine s) (winter-fine s) _ _ (kept .1)) (q .3) (w .2 ∙ w .1 .ensures))
+    (λ w. w .1 ∙ kept .3 (holds _ (w .0 .left)))
     (c .if3 .came)
 
 step-at-requires : tie.Need-step-at-requires Inv-loop μ-loop
@@ -302,24 +301,24 @@ refused-at-requires : tie.Need-refused-at-requires Inv-loop μ-loop
 refused-at-requires c κs = tt
 
 same-length : tie.Need-same-length Inv-loop μ-loop
-same-length c = ap length (c .before .before .before .store-kept2 .ensures) ∙ length-kept _ _ ∙ kept-now (c .before .before .before .before .before .before .before .before .before .before) .5
+same-length c = ap length (c .before .before .before .store-kept2 .ensures) ∙ length-kept _ _ ∙ kept-now (c .before .before .before .before .before .before .before .before .before .before) .6
 
 same-length-2 : tie.Need-same-length-2 Inv-loop μ-loop
 same-length-2 c = c .before .before .before .before .before .before .before .before .before .before .before .before .before .before .loop .inv .1
 
 returns : tie.Need-returns Inv-loop μ-loop
-unfolding readingAt indexAt rowsStored
+unfolding readingAt indexAt sectorsAt rowsStored
 returns c =
     let j = c .before .before .before .before .before .before .before .before .before in
     let l = j .before .before .before .before .before in
     let s = l .before .before .before .before .before .before .before .before .before .before .before .before .before .before .before .before .before .before in
     let q = l .loop in
-    let e = job-step (job s) (q .time) _ (by-kept (s .args .edition) (s .args .site) (s .args .surface) (now (s .args .sectors)) (now (s .args .window)) (q .time) (readingAt (job s) (q .time)) _ _ _ _ (q .inv .2) (kept-now (j .before) .1) (factor-now j) (c .before .before .before .before .before .before .before .before .step-at .ensures)) in
+    let e = job-step (job s) (q .time) _ (by-kept (s .args .edition) (s .args .site) (s .args .surface) (jobSectors (job s) (q .time)) (now (s .args .window)) (q .time) (readingAt (job s) (q .time)) _ _ _ _ (q .inv .2) (kept-now (j .before) .2) (factor-now j) (c .before .before .before .before .before .before .before .before .step-at .ensures)) in
     let below : q .i < s .args .count = omega (arith, j .before .before .before .before .loop-test .taken) in (
       ap (λ (r : RunAnswer). ran r (q .results)) (c .refused-at .ensures)
           ∙ refused-here (job s) (s .args .count) (q .i) (q .time) (q .sum) (q .results) _ (sym e ∙ c .before .before .before .before .before .before .answer .given .1) below
-          ∙ q .inv .10,
-      c .before .before .before .store-kept2 .ensures ∙ kept-now (j .before) .3
+          ∙ q .inv .9,
+      c .before .before .before .store-kept2 .ensures ∙ kept-now (j .before) .4
           ∙ ap (λ (r : RunAnswer). withTotals (leapYear (s .args .site)) (s .args .run) (q .results) (rowsStored r) (now (s .args .totals))) (sym (c .refused-at .ensures)),
     )
 
@@ -330,8 +329,8 @@ store-kept-requires-2 c κs =
     let s = l .before .before .before .before .before .before .before .before .before .before .before .before .before .before .before .before .before .before in
     let q = l .loop in
     let kept = kept-now (j .before) in
-    let there = subst (λ (t : Float). currentHour t / 24 < daysInYear (leapYear (s .args .site))) (sym (q .inv .9)) (day-of s (q .i) (j .before .before .before .before .loop-test .taken)) in
-    has-records _ _ _ _ _ (kept .4) there (wide s (j .before .if1 .totals) (kept .5))
+    let there = subst (λ (t : Float). currentHour t / 24 < daysInYear (leapYear (s .args .site))) (sym (q .inv .8)) (day-of s (q .i) (j .before .before .before .before .loop-test .taken)) in
+    has-records _ _ _ _ _ (kept .5) there (wide s (j .before .if1 .totals) (kept .6))
 
 enum-known-answer-2 : tie.Need-enum-known-answer-2 Inv-loop μ-loop
 enum-known-answer-2 c = search needs
@@ -362,7 +361,7 @@ unfolding timeAt
 next-time run i = let e : i + 1 ≡ suc i = omega arith in rw e
 
 loop-again : tie.Need-loop-again Inv-loop μ-loop
-unfolding readingAt indexAt
+unfolding readingAt indexAt sectorsAt
 loop-again c =
     let j = c .before .before .before .before .before .before .before .before .before .before .before in
     let l = j .before .before .before .before .before in
@@ -371,36 +370,35 @@ loop-again c =
     let q = l .loop in
     let row = c .before .before .before .before .before .before .before .before .answer2 .given .0 .0 in
     let kept = kept-now (j .before) in
-    let hour = its-hour (a .site) (a .surface) _ _ (kept .1) in
-    let shade : ℕ → FactorAnswer = λ (h : ℕ). shadingAt (a .edition) (a .surface) (hourOf (a .site) h) (now (a .sectors)) (now (a .window)) in
-    let e = job-step (job s) (q .time) _ (by-kept (a .edition) (a .site) (a .surface) (now (a .sectors)) (now (a .window)) (q .time) (readingAt (job s) (q .time)) _ _ _ _ (q .inv .2) (kept .1) (factor-now j) (c .before .before .before .before .before .before .before .before .before .before .step-at .ensures)) in
+    let hour = its-hour (a .site) (a .surface) _ _ (kept .2) in
+    let shade : ℕ → FactorAnswer = hourFactor (a .edition) (a .site) (a .surface) (now (a .summer)) (now (a .winter)) (now (a .window)) in
+    let e = job-step (job s) (q .time) _ (by-kept (a .edition) (a .site) (a .surface) (jobSectors (job s) (q .time)) (now (a .window)) (q .time) (readingAt (job s) (q .time)) _ _ _ _ (q .inv .2) (kept .2) (factor-now j) (c .before .before .before .before .before .before .before .before .before .before .step-at .ensures)) in
     let on = j .before .before .before .before .loop-test .taken in
     let stored = c .before .before .before .before .before .store-row .ensures in
     let added = c .before .with-row .ensures in
     let more = c .before .before .add-row .ensures in
     let here = sym e ∙ c .before .before .before .before .before .before .before .before .answer2 .given .1 in
-    let at-time = subst (λ (t : Float). stepAt (job s) t ≡ step.Row row) (q .inv .9) here in (
+    let at-time = subst (λ (t : Float). stepAt (job s) t ≡ step.Row row) (q .inv .8) here in (
       omega (arith, on),
       ap length stored ∙ length-putRow (q .results) (q .i) row ∙ q .inv .1,
       q .inv .2,
       q .inv .3,
-      q .inv .4,
-      q .inv .5,
-      day-of-its-hour _ _ _ _ _ (kept .1) (kept .0),
-      of-its-hour _ _ _ _ (kept .1),
+      day-of-its-hour _ _ _ _ _ (kept .2) (kept .0),
+      kept .1 ∙ ap (λ (h : ℕ). dayTable (a .site) (now (a .summer)) (now (a .winter)) (h / 24)) (sym hour),
+      of-its-hour _ _ _ _ (kept .2),
       λ _. factor-now j ∙ ap shade (sym hour),
-      ap (λ (t : Float). t ⊕ a .run .step) (q .inv .9) ∙ next-time (a .run) (q .i),
+      ap (λ (t : Float). t ⊕ a .run .step) (q .inv .8) ∙ next-time (a .run) (q .i),
       (λ x. runFrom (a .count - (q .i + 1)) (job s) (q .i + 1) (q .time ⊕ a .run .step) (added x) (stored x))
           ∙ row-next (job s) (a .count) (q .i) (q .time) (q .sum) (q .results) row here on
-          ∙ q .inv .10,
-      kept .5,
-      totals-next (job s) (q .i) (q .results) (now (a .totals)) (few s (q .i) on) (j .before .if1 .totals) _ (known-now (j .before)) (day-of s (q .i) on) (kept .3) (wide s (j .before .if1 .totals) (kept .5)) (room s (q .i) on (q .results) (q .inv .1)) row _ _ at-time more stored,
-      kept-next (job s) (q .i) (q .results) (now (a .totals)) (few s (q .i) on) (j .before .if1 .totals) _ (known-now (j .before)) (day-of s (q .i) on) (kept .3) (wide s (j .before .if1 .totals) (kept .5)) (room s (q .i) on (q .results) (q .inv .1)) row _ _ at-time more stored _ (hour ∙ ap currentHour (q .inv .9)),
-      subst (λ (h : ℕ). h / 24 < daysInYear (leapYear (a .site))) (sym (hour ∙ ap currentHour (q .inv .9))) (day-of s (q .i) on),
+          ∙ q .inv .9,
+      kept .6,
+      totals-next (job s) (q .i) (q .results) (now (a .totals)) (few s (q .i) on) (j .before .if1 .totals) _ (known-now (j .before)) (day-of s (q .i) on) (kept .4) (wide s (j .before .if1 .totals) (kept .6)) (room s (q .i) on (q .results) (q .inv .1)) row _ _ at-time more stored,
+      kept-next (job s) (q .i) (q .results) (now (a .totals)) (few s (q .i) on) (j .before .if1 .totals) _ (known-now (j .before)) (day-of s (q .i) on) (kept .4) (wide s (j .before .if1 .totals) (kept .6)) (room s (q .i) on (q .results) (q .inv .1)) row _ _ at-time more stored _ (hour ∙ ap currentHour (q .inv .8)),
+      subst (λ (h : ℕ). h / 24 < daysInYear (leapYear (a .site))) (sym (hour ∙ ap currentHour (q .inv .8))) (day-of s (q .i) on),
     )
 
 same-length-3 : tie.Need-same-length-3 Inv-loop μ-loop
-same-length-3 c = ap length (c .before .before .store-kept3 .ensures) ∙ length-kept _ _ ∙ c .before .before .before .before .before .loop .inv .11
+same-length-3 c = ap length (c .before .before .store-kept3 .ensures) ∙ length-kept _ _ ∙ c .before .before .before .before .before .loop .inv .10
 
 same-length-4 : tie.Need-same-length-4 Inv-loop μ-loop
 same-length-4 c = c .before .before .before .before .before .loop .inv .1
@@ -410,7 +408,7 @@ store-kept-requires-3 c κs =
     let l = c .before .before in
     let s = l .before .before .before .before .before .before .before .before .before .before .before .before .before .before .before .before .before .before in
     let q = l .loop .inv in
-    has-records _ _ _ _ _ (q .13) (q .14) (wide s (l .loop .totals) (q .11))
+    has-records _ _ _ _ _ (q .12) (q .13) (wide s (l .loop .totals) (q .10))
 
 returns-2 : tie.Need-returns-2 Inv-loop μ-loop
 unfolding rowsStored
@@ -419,8 +417,8 @@ returns-2 c =
     let s = l .before .before .before .before .before .before .before .before .before .before .before .before .before .before .before .before .before .before in
     let q = l .loop in
     let done : q .i ≡ s .args .count = omega (arith, c .before .before .before .before .loop-test .left, q .inv .0) in (
-      at-end (job s) (s .args .count) (q .i) (q .time) (q .sum) (q .results) done ∙ q .inv .10,
-      c .before .before .store-kept3 .ensures ∙ q .inv .12
+      at-end (job s) (s .args .count) (q .i) (q .time) (q .sum) (q .results) done ∙ q .inv .9,
+      c .before .before .store-kept3 .ensures ∙ q .inv .11
           ∙ ap (λ (n : ℕ). withTotals (leapYear (s .args .site)) (s .args .run) (q .results) n (now (s .args .totals))) done,
     )
 
@@ -431,23 +429,20 @@ run-steps-spec =
     Inv-loop
     μ-loop
     window-of-requires
-    sector-count-requires
-    sectors-of-requires
     fixed-of-requires
     read-day-requires
+    read-season-requires
     read-totals-requires
     kept-hour-requires
     loop-holds
     current-hour-requires
     store-kept-requires
     read-totals-requires-2
+    cast-season-for
+    season-for-requires
     day-for-requires
     kept-hour-requires-2
-    sun-place-requires
-    place-index-requires
-    mul-segment
-    array-copy-out-segment
-    factor-at-requires
+    season-factor-requires
     step-at-requires
     enum-known-answer
     store-kept-requires-2
