@@ -36,8 +36,8 @@ callLeaves left = (singleNumber (left .answer), left .results)
 
 -- ---- records of the numbers that a call passes
 
-abbrev pub siteOf : Float → Float → ℤ → ℕ → Float → ℕ → ℕ → Site
-siteOf latitude longitude timezone day step leap conversion = record {
+abbrev pub siteOf : Float → Float → ℤ → ℕ → Float → ℕ → ℕ → ℕ → ℕ → Site
+siteOf latitude longitude timezone day step leap conversion first last = record {
   latitude = latitude;
   longitude = longitude;
   timezone = timezone;
@@ -45,6 +45,8 @@ siteOf latitude longitude timezone day step leap conversion = record {
   «time_series_step» = step;
   «leap_year» = leap;
   «direct_beam_conversion» = conversion;
+  «first_leaf_day» = first;
+  «last_leaf_day» = last;
 }
 
 abbrev pub timesOf : Float → Float → Float → Run

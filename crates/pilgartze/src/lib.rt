@@ -75,8 +75,10 @@ fn site_of(
     series_step: f64,
     leap_year: u64,
     direct_beam_conversion: u64,
+    first_leaf_day: u64,
+    last_leaf_day: u64,
 ) -> Site
-    ensures { λ r. ⌜ r ≡ siteOf latitude longitude timezone «start_day» «series_step» «leap_year» «direct_beam_conversion» ⌝ }
+    ensures { λ r. ⌜ r ≡ siteOf latitude longitude timezone «start_day» «series_step» «leap_year» «direct_beam_conversion» «first_leaf_day» «last_leaf_day» ⌝ }
 {
     Site {
         latitude: latitude,
@@ -86,6 +88,8 @@ fn site_of(
         time_series_step: series_step,
         leap_year: leap_year,
         direct_beam_conversion: direct_beam_conversion,
+        first_leaf_day: first_leaf_day,
+        last_leaf_day: last_leaf_day,
     }
 }
 
@@ -101,18 +105,18 @@ fn surface_of(tilt: f64, orientation: f64, base_height: f64, height: f64, width:
     }
 }
 
-// The version of the library that is linked: 5.0.0, as the header's PILGARTZE_VERSION.
+// The version of the library that is linked: 6.0.0, as the header's PILGARTZE_VERSION.
 #[no_mangle]
 pub extern "C" fn pilgartze_version() -> u64
     ensures { λ r. ⌜ r ≡ version ⌝ }
 {
-    5000000
+    6000000
 }
 
 // A run: the table of days, the totals of each day and month, a row of six doubles for each step, and the sum of factor times direct
 // times step. That height and width are doubles is what the claim on two jobs compared asks of them (`Comparison` of `jobs`).
 #[no_mangle]
-pub extern "C" fn pilgartze_run(
+pub extern "C" fn pilgartze_run<'a>(
     edition: u64,
     latitude: f64,
     longitude: f64,
@@ -121,6 +125,8 @@ pub extern "C" fn pilgartze_run(
     series_step: f64,
     leap_year: u64,
     direct_beam_conversion: u64,
+    first_leaf_day: u64,
+    last_leaf_day: u64,
     start: f64,
     end: f64,
     step: f64,
@@ -132,16 +138,17 @@ pub extern "C" fn pilgartze_run(
     diffuse: &[u8],
     direct: &[u8],
     reflectivity: &[u8],
-    sectors: &[u8],
+    summer: &'a [u8],
+    winter: &'a [u8],
     window: &[u8],
     days: &mut [u8],
     totals: &mut [u8],
     results: &mut [u8],
 ) -> Answer
     ensures { λ r. ⌜ (r, now (days .exit), now (totals .exit), now (results .exit)) ≡ runLeaves (runOf
-        (jobOf edition (siteOf latitude longitude timezone «start_day» «series_step» «leap_year» «direct_beam_conversion»)
+        (jobOf edition (siteOf latitude longitude timezone «start_day» «series_step» «leap_year» «direct_beam_conversion» «first_leaf_day» «last_leaf_day»)
         (timesOf start end step) (surfaceOf tilt orientation «base_height» height width)
-        (now (diffuse .entry)) (now (direct .entry)) (now (reflectivity .entry)) (now (sectors .entry)) (now (window .entry)))
+        (now (diffuse .entry)) (now (direct .entry)) (now (reflectivity .entry)) (now (summer .entry)) (now (winter .entry)) (now (window .entry)))
         (lent (now (days .entry)) (now (totals .entry)) (now (results .entry)))) ⌝ }
     ensures { λ _. ⌜ Doubles (surfaceOf tilt orientation «base_height» height width) ⌝ }
 {
@@ -153,6 +160,8 @@ pub extern "C" fn pilgartze_run(
         series_step,
         leap_year,
         direct_beam_conversion,
+        first_leaf_day,
+        last_leaf_day,
     );
     let times = Run {
         start: start,
@@ -168,7 +177,8 @@ pub extern "C" fn pilgartze_run(
         diffuse,
         direct,
         reflectivity,
-        sectors,
+        summer,
+        winter,
         window,
         days,
         totals,
@@ -178,7 +188,7 @@ pub extern "C" fn pilgartze_run(
 
 // One step: the row that a run has at that time, in the first six words of the results. Answers 0, or the refusal's number.
 #[no_mangle]
-pub extern "C" fn pilgartze_step(
+pub extern "C" fn pilgartze_step<'a>(
     edition: u64,
     latitude: f64,
     longitude: f64,
@@ -187,6 +197,8 @@ pub extern "C" fn pilgartze_step(
     series_step: f64,
     leap_year: u64,
     direct_beam_conversion: u64,
+    first_leaf_day: u64,
+    last_leaf_day: u64,
     time: f64,
     tilt: f64,
     orientation: f64,
@@ -196,14 +208,15 @@ pub extern "C" fn pilgartze_step(
     diffuse: f64,
     direct: f64,
     reflectivity: f64,
-    sectors: &[u8],
+    summer: &'a [u8],
+    winter: &'a [u8],
     window: &[u8],
     results: &mut [u8],
 ) -> u64
     ensures { λ r. ⌜ (r, now (results .exit)) ≡ callLeaves (stepCall edition
-        (siteOf latitude longitude timezone «start_day» «series_step» «leap_year» «direct_beam_conversion») time
+        (siteOf latitude longitude timezone «start_day» «series_step» «leap_year» «direct_beam_conversion» «first_leaf_day» «last_leaf_day») time
         (surfaceOf tilt orientation «base_height» height width) (readingOf diffuse direct reflectivity)
-        (now (sectors .entry)) (now (window .entry)) (now (results .entry))) ⌝ }
+        (now (summer .entry)) (now (winter .entry)) (now (window .entry)) (now (results .entry))) ⌝ }
 {
     let site = site_of(
         latitude,
@@ -213,6 +226,8 @@ pub extern "C" fn pilgartze_step(
         series_step,
         leap_year,
         direct_beam_conversion,
+        first_leaf_day,
+        last_leaf_day,
     );
     let surface = surface_of(tilt, orientation, base_height, height, width);
     let reading = Reading {
@@ -226,7 +241,8 @@ pub extern "C" fn pilgartze_step(
         time,
         surface,
         reading,
-        sectors,
+        summer,
+        winter,
         window,
         results,
     ))
@@ -242,6 +258,8 @@ pub extern "C" fn pilgartze_irradiance(
     series_step: f64,
     leap_year: u64,
     direct_beam_conversion: u64,
+    first_leaf_day: u64,
+    last_leaf_day: u64,
     time: f64,
     tilt: f64,
     orientation: f64,
@@ -254,7 +272,7 @@ pub extern "C" fn pilgartze_irradiance(
     results: &mut [u8],
 ) -> u64
     ensures { λ r. ⌜ (r, now (results .exit)) ≡ callLeaves (irradianceCall
-        (siteOf latitude longitude timezone «start_day» «series_step» «leap_year» «direct_beam_conversion») time
+        (siteOf latitude longitude timezone «start_day» «series_step» «leap_year» «direct_beam_conversion» «first_leaf_day» «last_leaf_day») time
         (surfaceOf tilt orientation «base_height» height width) (readingOf diffuse direct reflectivity)
         (now (results .entry))) ⌝ }
 {
@@ -266,6 +284,8 @@ pub extern "C" fn pilgartze_irradiance(
         series_step,
         leap_year,
         direct_beam_conversion,
+        first_leaf_day,
+        last_leaf_day,
     );
     let surface = surface_of(tilt, orientation, base_height, height, width);
     let reading = Reading {

@@ -10,7 +10,7 @@ use lib.Ieee.Fits.{and-l, and-r}
 use Rattle.words.specs.Words.{wordCount}
 use Rattle.weather.specs.Weather.{readingFine}
 use Rattle.sun.specs.declared.site.Site.{Site}
-use Rattle.sun.specs.Site.{siteFine}
+use Rattle.sun.specs.Site.{siteFine, leafDaysFine}
 use Rattle.objects.specs.declared.surface.Surface.{Surface}
 use Rattle.objects.specs.declared.answers.Refusal.{Refusal}
 use Rattle.objects.specs.declared.answers.Refusal.the-variants as refusal
@@ -45,31 +45,37 @@ passes true r next e = refl
 passes false r next e = absurd (subst T (sym (ap isAccepted e)) tt)
 
 -- the lists are fine
-pub lists-passed : (edition : ℕ) (site : Site) (time : Float) (surface : Surface) (reading : Reading) (sectors window results : List ℕ)
-    → stepChecked edition site time surface reading sectors window results ≡ Accepted → (sectorsFine sectors ≡ true) × (windowFine window ≡ true)
+pub lists-passed : (edition : ℕ) (site : Site) (time : Float) (surface : Surface) (reading : Reading) (summer winter window results : List ℕ)
+    → stepChecked edition site time surface reading summer winter window results ≡ Accepted
+    → (sectorsFine summer ≡ true) × ((sectorsFine winter ≡ true) × (windowFine window ≡ true))
 unfolding stepChecked
-lists-passed edition site time surface reading sectors window results e =
+lists-passed edition site time surface reading summer winter window results e =
     let read : Single = tried Refused (readingFine reading) refusal.Reading (tried Refused (leb 6 (wordCount results)) refusal.Results Accepted) in
-    let shaded : Single = tried Refused (sectorsFine sectors && windowFine window) refusal.Object read in
+    let sectors : Bool = sectorsFine summer && sectorsFine winter in
+    let shaded : Single = tried Refused (sectors && windowFine window) refusal.Object read in
     let faced : Single = tried Refused (surfaceFine surface) refusal.Surface shaded in
     let timed : Single = tried Refused (timeFine site time) refusal.Run faced in
-    let sited : Single = tried Refused (siteFine site) refusal.Site timed in
+    let leafed : Single = tried Refused (leafDaysFine site) refusal.LeafDay timed in
+    let sited : Single = tried Refused (siteFine site) refusal.Site leafed in
     let both =
-    passes (sectorsFine sectors && windowFine window) refusal.Object read
-    (after (surfaceFine surface) refusal.Surface shaded (after (timeFine site time) refusal.Run faced
-    (after (siteFine site) refusal.Site timed (after (editionFine edition) refusal.Edition sited e))))
+    passes (sectors && windowFine window) refusal.Object read
+    (after (surfaceFine surface) refusal.Surface shaded (after (timeFine site time) refusal.Run faced (after (leafDaysFine site) refusal.LeafDay timed
+    (after (siteFine site) refusal.Site leafed (after (editionFine edition) refusal.Edition sited e)))))
     in
-    let t : T (sectorsFine sectors && windowFine window) = subst T (sym both) tt in
-    (is-true (sectorsFine sectors) (and-l (sectorsFine sectors) (windowFine window) t), is-true (windowFine window) (and-r (sectorsFine sectors) (windowFine window) t))
+    let t : T (sectors && windowFine window) = subst T (sym both) tt in
+    let u : T sectors = and-l sectors (windowFine window) t in (
+      is-true (sectorsFine summer) (and-l (sectorsFine summer) (sectorsFine winter) u),
+      (is-true (sectorsFine winter) (and-r (sectorsFine summer) (sectorsFine winter) u), is-true (windowFine window) (and-r sectors (windowFine window) t)),
+    )
 
 -- A single-step call that is given what a run reads at a step, and passes its checks, stores the row that the run holds there.
 pub record RunsRow (job : Job) (r : Lent) (s : List ℕ) (i : ℕ) : Type 0 where
   pub held : Holding (runOf job r .ran .results) i (rowAt job i)
-  pub stored : stepCall (job .edition) (job .site) (timeAt (job .run) i) (job .surface) (readingAt job (timeAt (job .run) i)) (job .sectors) (job .window) s
+  pub stored : stepCall (job .edition) (job .site) (timeAt (job .run) i) (job .surface) (readingAt job (timeAt (job .run) i)) (job .summer) (job .winter) (job .window) s
       ≡ called Accepted (putRow s 0 (rowAt job i))
 
 pub runs-row : (job : Job) (r : Lent) (s : List ℕ) (i : ℕ) → i < rowsStored (runOf job r .ran .answer)
-    → stepChecked (job .edition) (job .site) (timeAt (job .run) i) (job .surface) (readingAt job (timeAt (job .run) i)) (job .sectors) (job .window) s ≡ Accepted
+    → stepChecked (job .edition) (job .site) (timeAt (job .run) i) (job .surface) (readingAt job (timeAt (job .run) i)) (job .summer) (job .winter) (job .window) s ≡ Accepted
     → RunsRow job r s i
 unfolding stepCall unlessRefused storedStep stepAt
 runs-row job r s i h e = let p = run-rows job r i h in record { held = p .held; stored = rw (e, p .has-row) refl }

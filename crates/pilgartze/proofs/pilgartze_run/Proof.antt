@@ -32,8 +32,8 @@ returns : tie.Need-returns
 unfolding runLeaves
 returns c =
     let s = c .before .before .before .before .before .before .before .before .before .before .before in
-    let start = s .before .before .before .before .before .before .before .before .before .before in
-    let passed = start .good .1 .1 .1 .1 .1 .1 .1 .1 .1 .1 .1 .1 .1 in
+    let start = s .before .before .before .before .before .before .before .before .before .before .before in
+    let passed = start .good .1 .1 .1 .1 .1 .1 .1 .1 .1 .1 .1 .1 .1 .1 .1 in
     let e = rw (s .surface-of .ensures, s .before .site-of .ensures, toZ-ofZ (start .fits .timezone)) at (c .before .before .before .before .before .before .before .run-job .ensures) in
     let answer = c .answer-for .ensures ∙ ap (λ x. answerFor (x .ran .answer)) e in
     let days = ap (λ x. x .days) e in

@@ -26,7 +26,7 @@ returns : tie.Need-returns
 unfolding callLeaves
 returns c =
     let s = c .before .before .before .before .before in
-    let e = rw (s .surface-of .ensures, s .before .site-of .ensures, toZ-ofZ (s .before .before .before .before .before .fits .timezone)) at (c .before .before .before .step-call .ensures) in
+    let e = rw (s .surface-of .ensures, s .before .site-of .ensures, toZ-ofZ (s .before .before .before .before .before .before .fits .timezone)) at (c .before .before .before .step-call .ensures) in
     let answer = c .single-number .ensures ∙ ap (λ x. singleNumber (x .answer)) e in
     let results = ap (λ x. x .results) e in
     λ i. (answer i, results i)

@@ -29,15 +29,21 @@ time-fine-requires c κs = search needs
 first-requires-4 : tie.Need-first-requires-4
 first-requires-4 c κs = search needs
 
-site-fine-requires : tie.Need-site-fine-requires
-site-fine-requires c κs = search needs
+leaf-days-fine-requires : tie.Need-leaf-days-fine-requires
+leaf-days-fine-requires c κs = search needs
 
 first-requires-5 : tie.Need-first-requires-5
 first-requires-5 c κs = search needs
 
+site-fine-requires : tie.Need-site-fine-requires
+site-fine-requires c κs = search needs
+
+first-requires-6 : tie.Need-first-requires-6
+first-requires-6 c κs = search needs
+
 returns : tie.Need-returns
 unfolding irradianceChecked
-returns c = rw (c .first5 .ensures, c .before .site-fine .ensures, c .before .before .first4 .ensures, c .before .before .before .time-fine .ensures, c .before .before .before .before .first3 .ensures, c .before .before .before .before .before .surface-fine .ensures, c .before .before .before .before .before .before .first2 .ensures, c .before .before .before .before .before .before .before .reading-fine .ensures, c .before .before .before .before .before .before .before .before .first .ensures, c .before .before .before .before .before .before .before .before .before .word-count .ensures) refl
+returns c = rw (c .first6 .ensures, c .before .site-fine .ensures, c .before .before .first5 .ensures, c .before .before .before .leaf-days-fine .ensures, c .before .before .before .before .first4 .ensures, c .before .before .before .before .before .time-fine .ensures, c .before .before .before .before .before .before .first3 .ensures, c .before .before .before .before .before .before .before .surface-fine .ensures, c .before .before .before .before .before .before .before .before .first2 .ensures, c .before .before .before .before .before .before .before .before .before .reading-fine .ensures, c .before .before .before .before .before .before .before .before .before .before .first .ensures, c .before .before .before .before .before .before .before .before .before .before .before .word-count .ensures) refl
 
 pub check-irradiance-spec : {M : Type 1} → statement M
 check-irradiance-spec =
@@ -51,6 +57,8 @@ check-irradiance-spec =
     first-requires-3
     time-fine-requires
     first-requires-4
-    site-fine-requires
+    leaf-days-fine-requires
     first-requires-5
+    site-fine-requires
+    first-requires-6
     returns)

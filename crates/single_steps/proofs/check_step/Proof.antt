@@ -20,6 +20,9 @@ first-requires-2 c κs = search needs
 sectors-fine-requires : tie.Need-sectors-fine-requires
 sectors-fine-requires c κs = search needs
 
+sectors-fine-requires-2 : tie.Need-sectors-fine-requires-2
+sectors-fine-requires-2 c κs = search needs
+
 window-fine-requires : tie.Need-window-fine-requires
 window-fine-requires c κs = search needs
 
@@ -38,21 +41,27 @@ time-fine-requires c κs = search needs
 first-requires-5 : tie.Need-first-requires-5
 first-requires-5 c κs = search needs
 
-site-fine-requires : tie.Need-site-fine-requires
-site-fine-requires c κs = search needs
+leaf-days-fine-requires : tie.Need-leaf-days-fine-requires
+leaf-days-fine-requires c κs = search needs
 
 first-requires-6 : tie.Need-first-requires-6
 first-requires-6 c κs = search needs
 
-edition-fine-requires : tie.Need-edition-fine-requires
-edition-fine-requires c κs = search needs
+site-fine-requires : tie.Need-site-fine-requires
+site-fine-requires c κs = search needs
 
 first-requires-7 : tie.Need-first-requires-7
 first-requires-7 c κs = search needs
 
+edition-fine-requires : tie.Need-edition-fine-requires
+edition-fine-requires c κs = search needs
+
+first-requires-8 : tie.Need-first-requires-8
+first-requires-8 c κs = search needs
+
 returns : tie.Need-returns
 unfolding stepChecked
-returns c = rw (c .first7 .ensures, c .before .edition-fine .ensures, c .before .before .first6 .ensures, c .before .before .before .site-fine .ensures, c .before .before .before .before .first5 .ensures, c .before .before .before .before .before .time-fine .ensures, c .before .before .before .before .before .before .first4 .ensures, c .before .before .before .before .before .before .before .surface-fine .ensures, c .before .before .before .before .before .before .before .before .first3 .ensures, c .before .before .before .before .before .before .before .before .before .window-fine .ensures, c .before .before .before .before .before .before .before .before .before .before .sectors-fine .ensures, c .before .before .before .before .before .before .before .before .before .before .before .first2 .ensures, c .before .before .before .before .before .before .before .before .before .before .before .before .reading-fine .ensures, c .before .before .before .before .before .before .before .before .before .before .before .before .before .first .ensures, c .before .before .before .before .before .before .before .before .before .before .before .before .before .before .word-count .ensures) refl
+returns c = rw (c .first8 .ensures, c .before .edition-fine .ensures, c .before .before .first7 .ensures, c .before .before .before .site-fine .ensures, c .before .before .before .before .first6 .ensures, c .before .before .before .before .before .leaf-days-fine .ensures, c .before .before .before .before .before .before .first5 .ensures, c .before .before .before .before .before .before .before .time-fine .ensures, c .before .before .before .before .before .before .before .before .first4 .ensures, c .before .before .before .before .before .before .before .before .before .surface-fine .ensures, c .before .before .before .before .before .before .before .before .before .before .first3 .ensures, c .before .before .before .before .before .before .before .before .before .before .before .window-fine .ensures, c .before .before .before .before .before .before .before .before .before .before .before .before .sectors-fine2 .ensures, c .before .before .before .before .before .before .before .before .before .before .before .before .before .sectors-fine .ensures, c .before .before .before .before .before .before .before .before .before .before .before .before .before .before .first2 .ensures, c .before .before .before .before .before .before .before .before .before .before .before .before .before .before .before .reading-fine .ensures, c .before .before .before .before .before .before .before .before .before .before .before .before .before .before .before .before .first .ensures, c .before .before .before .before .before .before .before .before .before .before .before .before .before .before .before .before .before .word-count .ensures) refl
 
 pub check-step-spec : {M : Type 1} → statement M
 check-step-spec =
@@ -63,14 +72,17 @@ check-step-spec =
     reading-fine-requires
     first-requires-2
     sectors-fine-requires
+    sectors-fine-requires-2
     window-fine-requires
     first-requires-3
     surface-fine-requires
     first-requires-4
     time-fine-requires
     first-requires-5
-    site-fine-requires
+    leaf-days-fine-requires
     first-requires-6
-    edition-fine-requires
+    site-fine-requires
     first-requires-7
+    edition-fine-requires
+    first-requires-8
     returns)

@@ -17,7 +17,7 @@ enum-told : tie.Need-enum-told
 enum-told c = search needs
 
 step-with-requires : tie.Need-step-with-requires
-step-with-requires c κs = let a = c .before .before .before .before .before .before .before .args in lists-passed (a .edition) (a .site) (a .time) (a .surface) (a .reading) (now (a .sectors)) (now (a .window)) (now (a .results)) (sym (c .before .before .check-step .ensures) ∙ c .enum-told .given .1)
+step-with-requires c κs = let a = c .before .before .before .before .before .before .before .before .args in lists-passed (a .edition) (a .site) (a .time) (a .surface) (a .reading) (now (a .summer)) (now (a .winter)) (now (a .window)) (now (a .results)) (sym (c .before .before .check-step .ensures) ∙ c .enum-told .given .1)
 
 store-step-requires : tie.Need-store-step-requires
 store-step-requires c κs = search needs
@@ -34,7 +34,7 @@ same-length-2 c = search needs
 
 returns-2 : tie.Need-returns-2
 unfolding stepCall unlessRefused
-returns-2 c = rw (sym (c .before .before .before .before .before .before .before .check-step .ensures) ∙ c .before .before .before .before .before .enum-told .given .1) (c .before .before .store-step .ensures ∙ ap (λ x. storedStep x (now (c .before .before .before .before .before .before .before .before .before .before .before .before .args .results))) (c .before .before .before .before .step-with .ensures))
+returns-2 c = rw (sym (c .before .before .before .before .before .before .before .check-step .ensures) ∙ c .before .before .before .before .before .enum-told .given .1) (c .before .before .store-step .ensures ∙ ap (λ x. storedStep x (now (c .before .before .before .before .before .before .before .before .before .before .before .before .before .args .results))) (c .before .before .before .before .step-with .ensures))
 
 pub step-call-spec : {M : Type 1} → statement M
 step-call-spec =
