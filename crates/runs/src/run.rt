@@ -2,11 +2,9 @@
 ghost use mathlib.Core.Path.{_≡_};
 ghost use mathlib.Core.Bool.{true};
 ghost use Prim.Native.Nat.{_*_, _≤_};
-ghost use lib.ListN.{length, take};
+ghost use lib.ListN.{length};
 ghost use Rattle.doubles.specs.Arithmetic.{whole};
 ghost use Rattle.object_checks.specs.Checks.{sectorsFine, windowFine};
-ghost use Rattle.objects.specs.Objects.{placed};
-ghost use Rattle.shading.specs.Factor.{shadingFactor};
 ghost use Rattle.words.specs.Words.{wordCount};
 ghost use Rattle.days.specs.Table.{HoldsDays};
 ghost use Rattle.sun.specs.Site.{siteFine, leapYear, hoursInYear};
@@ -32,8 +30,6 @@ use objects::answers::Refusal;
 use objects::records::window_of;
 use objects::surface::Surface;
 use objects::surface::surface_fine;
-use objects::window::WindowShading;
-use seasons::table::SeasonTable;
 use seasons::table::read_season;
 use seasons::table::season_for;
 use segments::place_index;
@@ -171,25 +167,6 @@ fn refused_at(refusal: Refusal, step: u64) -> RunAnswer
     }
 }
 
-// The factor where the sun stands, by the sectors of a season: the walk along them, and what shades in the one where it ends.
-fn season_factor(
-    edition: u64,
-    surface: Surface,
-    altitude: f64,
-    azimuth: f64,
-    season: SeasonTable,
-    window: WindowShading,
-) -> FactorAnswer
-    requires { ⌜ season .count ≤ 36 ⌝ }
-    ensures { λ r. ⌜ r ≡ shadingFactor edition surface altitude azimuth (take (season .count) (season .places)) (placed window) ⌝ }
-{
-    let places = season.places;
-    let sun = sun_place(surface, altitude, azimuth, places, season.count);
-    let place = sun.place;
-    let segment = places[place_index(place)];
-    factor_at(edition, surface, altitude, azimuth, sun, segment, window)
-}
-
 // All steps of a job that has passed the checks. The sectors are read into a table where the season changes, a day is read from the
 // table of days, and the factor is worked out once an hour: `shaded` says that it is that of the hour which is kept. The totals of the
 // day and its month are stored where the day changes and at every way out.
@@ -225,10 +202,12 @@ fn run_steps<'a>(
     ensures { λ r. ⌜ now (totals .exit) ≡ withTotals (leapYear site) run (now (results .exit)) (rowsStored r) (now (totals .entry)) ⌝ }
 {
     let leap = site.leap_year == 1;
+    let first = site.first_leaf_day;
+    let last = site.last_leaf_day;
     let objects = window_of(window);
     let fixed = fixed_of(site, surface);
     let mut day = read_day(days, 0);
-    let mut season = read_season(summer, winter, site.first_leaf_day, site.last_leaf_day, 0);
+    let mut season = read_season(summer, winter, first, last, 0);
     let mut kept_totals = read_totals(totals, leap, 0);
     let mut kept = kept_hour(site, surface, fixed, day, 0);
     let mut factor = FactorAnswer::Factor(1.0);
@@ -242,26 +221,29 @@ fn run_steps<'a>(
             if hour / 24 != day.index {
                 store_kept(totals, kept_totals);
                 kept_totals = read_totals(totals, leap, hour / 24);
-                season = season_for(
-                    summer,
-                    winter,
-                    site.first_leaf_day,
-                    site.last_leaf_day,
-                    (hour / 24) as u64,
-                    season,
-                );
+                season = season_for(summer, winter, first, last, hour / 24, season);
             }
             day = day_for(days, hour / 24, day);
             kept = kept_hour(site, surface, fixed, day, hour);
             shaded = false;
         }
         if !shaded {
-            factor = season_factor(
+            let sun = sun_place(
+                surface,
+                kept.sun.altitude,
+                kept.sun.azimuth,
+                season.places,
+                season.count,
+            );
+            let place = sun.place;
+            let segment = season.places[place_index(place)];
+            factor = factor_at(
                 edition,
                 surface,
                 kept.sun.altitude,
                 kept.sun.azimuth,
-                season,
+                sun,
+                segment,
                 objects,
             );
             shaded = true;

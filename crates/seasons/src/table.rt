@@ -23,14 +23,14 @@ pub fn read_season<'a>(
     winter: &'a [u8],
     first: u64,
     last: u64,
-    day: u64,
+    day: u32,
 ) -> SeasonTable
     requires { ⌜ sectorsFine (now summer) ≡ true ⌝ }
     requires { ⌜ sectorsFine (now winter) ≡ true ⌝ }
     ensures { λ r. ⌜ r ≡ seasonTable (inLeaf first last day) (now (summer .entry)) (now (winter .entry)) ⌝ }
 {
-    let season = in_leaf(first, last, day);
-    let part = sectors_for(summer, winter, first, last, day);
+    let season = in_leaf(first, last, day as u64);
+    let part = sectors_for(summer, winter, first, last, day as u64);
     let count = sector_count(part);
     let places = sectors_of(part, count);
     SeasonTable {
@@ -46,7 +46,7 @@ pub fn season_for<'a>(
     winter: &'a [u8],
     first: u64,
     last: u64,
-    day: u64,
+    day: u32,
     kept: SeasonTable,
 ) -> SeasonTable
     requires { ⌜ sectorsFine (now summer) ≡ true ⌝ }
@@ -54,7 +54,7 @@ pub fn season_for<'a>(
     requires { ⌜ kept ≡ seasonTable (kept .summer) (now summer) (now winter) ⌝ }
     ensures { λ r. ⌜ r ≡ seasonTable (inLeaf first last day) (now (summer .entry)) (now (winter .entry)) ⌝ }
 {
-    if in_leaf(first, last, day) == kept.summer {
+    if in_leaf(first, last, day as u64) == kept.summer {
         return kept;
     }
     read_season(summer, winter, first, last, day)

@@ -10,7 +10,7 @@ use Prim.Native.Nat.{ℕ, suc, _+_, _-_, _*_, _/_, _≤_, _<_}
 use native.Mathlib.Omega.{arith}
 use borrow.Author.Needs.{needs}
 use denote.Ref.{now}
-use lib.ListN.{length}
+use lib.ListN.{length, getD}
 use Rattle.simulation_time.specs.declared.run.Run.{Run}
 use Rattle.simulation_time.specs.Timestep.{currentHour}
 use Rattle.simulation_time.specs.Steps.{timeAt}
@@ -24,6 +24,7 @@ use Rattle.object_checks.proofs.AcceptedWindow.{window-count, window-places}
 use Rattle.seasons.specs.declared.table.SeasonTable.{SeasonTable}
 use Rattle.seasons.specs.Seasons.{sectorsFor}
 use Rattle.seasons.proofs.Parts.{few-kept, kept-sectors, of-its-season}
+use Rattle.shading.proofs.SunPlaces.{index-fits, factor-by-table}
 use Rattle.jobs.specs.Job.{Job, jobOf, indexAt, readingAt}
 use Rattle.jobs.specs.Step.{sectorsAt, jobSectors, stepAt}
 use Rattle.jobs.specs.declared.answers.StepAnswer.the-variants as step
@@ -45,7 +46,7 @@ use Rattle.runs.proofs.run.run_steps.Statement.{statement}
 use Rattle.runs.proofs.run.run_steps.Tie as tie
 
 abbrev Inv-loop : tie.InvT-loop
-Inv-loop edition site run count surface diffuse direct reflectivity summer winter window days totals₀ results₀ leap objects fixed day₀ season₀ kept-totals₀ kept₀ factor₀ shaded₀ time₀ sum₀ i₀ totals results day season kept-totals kept factor shaded time sum i =
+Inv-loop edition site run count surface diffuse direct reflectivity summer winter window days totals₀ results₀ leap first last objects fixed day₀ season₀ kept-totals₀ kept₀ factor₀ shaded₀ time₀ sum₀ i₀ totals results day season kept-totals kept factor shaded time sum i =
     (i ≤ count)
     × (length results ≡ length results₀)
     × (fixed ≡ fixedOf site surface)
@@ -63,7 +64,7 @@ Inv-loop edition site run count surface diffuse direct reflectivity summer winte
     × (kept .hour / 24 < daysInYear (leapYear site))
 
 abbrev μ-loop : tie.MeasureT-loop
-μ-loop edition site run count surface diffuse direct reflectivity summer winter window days totals₀ results₀ leap objects fixed day₀ season₀ kept-totals₀ kept₀ factor₀ shaded₀ time₀ sum₀ i₀ totals results day season kept-totals kept factor shaded time sum i = count - i
+μ-loop edition site run count surface diffuse direct reflectivity summer winter window days totals₀ results₀ leap first last objects fixed day₀ season₀ kept-totals₀ kept₀ factor₀ shaded₀ time₀ sum₀ i₀ totals results day season kept-totals kept factor shaded time sum i = count - i
 
 summer-fine : (c : tie.Start Inv-loop μ-loop) → T (sectorsFine (now (c .args .summer)))
 summer-fine c = subst T (sym (c .pre .1 .1 .1 .0)) tt
@@ -148,9 +149,6 @@ day-there : (s : tie.Start Inv-loop μ-loop) (i : ℕ) (time : Float) → time �
 day-there s i time e h =
     let below = hour-of-leap-year (s .args .site) (s .args .run) (subst T (sym (s .pre .1 .0)) tt) i (subst (λ (n : ℕ). i < n) (s .pre .1 .1 .0) h) in
     subst (λ (t : Float). currentHour t / 24 < 366) (sym e) (omega (arith, below))
-
-cast-season-for : tie.Need-cast-season-for Inv-loop μ-loop
-cast-season-for c = search needs
 
 season-for-requires : tie.Need-season-for-requires Inv-loop μ-loop
 season-for-requires c κs =
@@ -250,6 +248,13 @@ kept-now c =
     ))
     (c .if1 .came)
 
+-- the table of the day's sectors has no more than its places
+few-places : (c : tie.Joined1 Inv-loop μ-loop) → c .if1 .season .count ≤ 36
+few-places c =
+    let s = c .before .before .before .before .before .before .before .before .before .before .before .before .before .before .before .before .before .before .before .before .before .before in
+    let a = s .args in
+    few-kept (now (a .summer)) (now (a .winter)) (summer-fine s) (winter-fine s) _ _ (kept-now c .1)
+
 -- what is kept of the step's own day and month
 known-now : (c : tie.Joined1 Inv-loop μ-loop)
     → let l = c .before .before .before .before in
@@ -261,11 +266,26 @@ known-now c =
     kept-now c .5
     ∙ ap (λ (t : Float). keptTotals (leapYear (s .args .site)) (currentHour t / 24) (withTotals (leapYear (s .args .site)) (s .args .run) (l .loop .results) (l .loop .i) (now (s .args .totals)))) (l .loop .inv .8)
 
-season-factor-requires : tie.Need-season-factor-requires Inv-loop μ-loop
-season-factor-requires c κs =
-    let s = c .before .before .before .before .before .before .before .before .before .before .before .before .before .before .before .before .before .before .before .before .before .before .before in
-    let a = s .args in
-    few-kept (now (a .summer)) (now (a .winter)) (summer-fine s) (winter-fine s) _ _ (kept-now (c .before) .1)
+sun-place-requires : tie.Need-sun-place-requires Inv-loop μ-loop
+sun-place-requires c κs = few-places (c .before .before)
+
+place-index-requires : tie.Need-place-index-requires Inv-loop μ-loop
+place-index-requires c κs = tt
+
+-- the place of the sector is one of the table's
+there : (c : tie.After-place-index Inv-loop μ-loop) → c .place-index .result < 36
+there c =
+    let a = c .before .before .before .before .before .before .before .before .before .before .before .before .before .before .before .before .before .before .before .before .before .before .before .before .before .before .args in
+    subst (λ (i : ℕ). i < 36) (sym (c .place-index .ensures)) (index-fits (a .edition) (a .surface) _ _ _ _ (few-places (c .before .before .before .before)) _ (c .before .sun-place .ensures))
+
+mul-segment : tie.Need-mul-segment Inv-loop μ-loop
+mul-segment c = omega (arith, there c)
+
+element-copy-out-segment : tie.Need-element-copy-out-segment Inv-loop μ-loop
+element-copy-out-segment c = there c
+
+factor-at-requires : tie.Need-factor-at-requires Inv-loop μ-loop
+factor-at-requires c κs = tt
 
 holds : (b : Bool) → not b ≡ false → b ≡ true
 holds true e = refl
@@ -287,7 +307,9 @@ factor-now c =
     ⊎-elim
     (λ w.
     kept-factor (a .site) (a .surface) _ _ (kept .2) (a .edition) _ (now (a .window)) _ _ _
-    (kept-sectors (now (a .summer)) (now (a .winter)) (summer-fine s) (winter-fine s) _ _ (kept .1)) (q .3) (w .2 ∙ w .1 .ensures))
+    (kept-sectors (now (a .summer)) (now (a .winter)) (summer-fine s) (winter-fine s) _ _ (kept .1)) (q .3)
+    (w .6 ∙ w .5 .ensures
+    ∙ factor-by-table (a .edition) (a .surface) _ _ _ _ (few-places (c .before)) _ _ _ _ (w .2 .ensures) (ap (λ (i : ℕ). getD (c .before .if1 .season .places) i _) (w .3 .ensures))))
     (λ w. w .1 ∙ kept .3 (holds _ (w .0 .left)))
     (c .if3 .came)
 
@@ -438,11 +460,14 @@ run-steps-spec =
     current-hour-requires
     store-kept-requires
     read-totals-requires-2
-    cast-season-for
     season-for-requires
     day-for-requires
     kept-hour-requires-2
-    season-factor-requires
+    sun-place-requires
+    place-index-requires
+    mul-segment
+    element-copy-out-segment
+    factor-at-requires
     step-at-requires
     enum-known-answer
     store-kept-requires-2
