@@ -40,9 +40,9 @@ windowWith near = cond near nearObstacle []
 unfoldable pub onePart : ℕ → Float → List ℕ
 onePart kind depth = putDouble (putWord (replicate 32 0) 0 kind) 1 depth
 
--- start 0, end 3, step 1, with zeros for the series
-unfoldable pub threeHours : Job
-threeHours =
+-- start 0, end 3, step 1, with zeros for the series, and the same sectors in both seasons
+unfoldable pub threeHours : ℕ → ℕ → Job
+threeHours first last =
     jobOf
     1
     (record {
@@ -53,11 +53,14 @@ threeHours =
       «time_series_step» = whole 1;
       «leap_year» = 0;
       «direct_beam_conversion» = 0;
+      «first_leaf_day» = first;
+      «last_leaf_day» = last;
     })
     (record { start = whole 0; end = whole 3; step = whole 1 })
     southWall
     (replicate 24 0)
     (replicate 24 0)
     (replicate 24 0)
+    wholeHorizon
     wholeHorizon
     []

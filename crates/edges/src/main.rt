@@ -233,8 +233,94 @@ fn sectors() {
 fn steps() {
     compare(
         b"start 0, end 3, step 1: three steps",
-        run_value(shades::three_hours()),
+        run_value(shades::three_hours(0, 365)),
         accepted(3),
+    );
+}
+
+fn leaf_days() {
+    compare(
+        b"first leaf day 366 refused 15",
+        run_value(shades::three_hours(366, 0)),
+        refused(15),
+    );
+    compare(
+        b"last leaf day 366 refused 15",
+        run_value(shades::three_hours(0, 366)),
+        refused(15),
+    );
+    compare(
+        b"leaf days 365 and 365 accepted in a common year",
+        run_value(shades::three_hours(365, 365)),
+        accepted(3),
+    );
+}
+
+// How many bytes the list for a day has, out of 500 of summer, with two whole records, and 216 of winter.
+fn list_length(first: u64, last: u64, day: u64) -> Value {
+    let summer = [0u8; 500];
+    let winter = [0u8; 216];
+    accepted(seasons::sectors_for(&summer, &winter, first, last, day).len() as u64)
+}
+
+fn seasons_of_days() {
+    compare(
+        b"leaf days 109 to 303: winter on day 108",
+        list_length(109, 303, 108),
+        accepted(216),
+    );
+    compare(
+        b"leaf days 109 to 303: summer on day 109",
+        list_length(109, 303, 109),
+        accepted(432),
+    );
+    compare(
+        b"leaf days 109 to 303: summer on day 303",
+        list_length(109, 303, 303),
+        accepted(432),
+    );
+    compare(
+        b"leaf days 109 to 303: winter on day 304",
+        list_length(109, 303, 304),
+        accepted(216),
+    );
+}
+
+// The first leaf day above the last.
+fn turned_seasons() {
+    compare(
+        b"leaf days 303 to 109: summer on day 109",
+        list_length(303, 109, 109),
+        accepted(432),
+    );
+    compare(
+        b"leaf days 303 to 109: winter on day 110",
+        list_length(303, 109, 110),
+        accepted(216),
+    );
+    compare(
+        b"leaf days 303 to 109: winter on day 302",
+        list_length(303, 109, 302),
+        accepted(216),
+    );
+    compare(
+        b"leaf days 303 to 109: summer on day 303",
+        list_length(303, 109, 303),
+        accepted(432),
+    );
+}
+
+// The first leaf day right behind the last.
+fn always_summer() {
+    compare(
+        b"leaf days 10 to 9: summer on day 9",
+        list_length(10, 9, 9),
+        accepted(432),
+    );
+    compare(
+        b"leaf days 10 to 9: summer on day 10",
+        list_length(10, 9, 10),
+        accepted(432),
     );
 }
 
@@ -298,6 +384,10 @@ fn main() {
     editions();
     sectors();
     steps();
+    leaf_days();
+    seasons_of_days();
+    turned_seasons();
+    always_summer();
     step_counts();
     hours_and_places();
 }

@@ -87,8 +87,8 @@ pub fn two_sectors_factor(start: f64, azimuth: f64) -> FactorAnswer
 }
 
 // A run from 0 to 3 by steps of 1.
-pub fn three_hours() -> RunAnswer
-    ensures { λ r. ⌜ r ≡ runOf threeHours (lent (replicate 8784 0) (replicate 9048 0) (replicate 144 0)) .ran .answer ⌝ }
+pub fn three_hours(first_leaf_day: u64, last_leaf_day: u64) -> RunAnswer
+    ensures { λ r. ⌜ r ≡ runOf (threeHours «first_leaf_day» «last_leaf_day») (lent (replicate 8784 0) (replicate 9048 0) (replicate 144 0)) .ran .answer ⌝ }
 {
     let site = Site {
         latitude: 51.0,
@@ -98,6 +98,8 @@ pub fn three_hours() -> RunAnswer
         time_series_step: 1.0,
         leap_year: 0,
         direct_beam_conversion: 0,
+        first_leaf_day: first_leaf_day,
+        last_leaf_day: last_leaf_day,
     };
     let run = Run {
         start: 0.0,
@@ -117,6 +119,7 @@ pub fn three_hours() -> RunAnswer
         &series,
         &series,
         &series,
+        &sectors,
         &sectors,
         b"",
         &mut days,

@@ -70,20 +70,22 @@ siteOf l = record {
   «time_series_step» = doubleAt l 7;
   «leap_year» = wordAt l 8;
   «direct_beam_conversion» = wordAt l 9;
+  «first_leaf_day» = wordAt l 10;
+  «last_leaf_day» = wordAt l 11;
 }
 
 unfoldable pub runAt : List ℕ → Run
-runAt l = record { start = doubleAt l 10; end = doubleAt l 11; step = doubleAt l 12 }
+runAt l = record { start = doubleAt l 12; end = doubleAt l 13; step = doubleAt l 14 }
 
 -- the record's job with these lists
-abbrev pub keptJob : List ℕ → List ℕ → List ℕ → List ℕ → List ℕ → List ℕ → Job
-keptJob l diffuse direct reflectivity sectors window =
-    jobOf (wordAt l 2) (siteOf l) (runAt l) (surfaceAt l 13) diffuse direct reflectivity sectors window
+abbrev pub keptJob : List ℕ → List ℕ → List ℕ → List ℕ → List ℕ → List ℕ → List ℕ → Job
+keptJob l diffuse direct reflectivity summer winter window =
+    jobOf (wordAt l 2) (siteOf l) (runAt l) (surfaceAt l 15) diffuse direct reflectivity summer winter window
 
 -- number, step, count and sum are the record's
 unfoldable pub isRun : List ℕ → ℕ → ℕ → ℕ → Float → Bool
 isRun l number step count sum =
-    eqb (wordAt l 25) number && eqb (wordAt l 26) step && (eqb (wordAt l 27) count && eqb (wordAt l 28) (toBits binary64 sum))
+    eqb (wordAt l 28) number && eqb (wordAt l 29) step && (eqb (wordAt l 30) count && eqb (wordAt l 31) (toBits binary64 sum))
 
 unfoldable pub answerKept : List ℕ → RunAnswer → Bool
 answerKept l answer = isRun l (numberFor answer) (stepFor answer) (countFor answer) (sumFor answer)
@@ -101,24 +103,25 @@ runKept l results totals left =
 -- results as there are afterwards, at most 20,000
 unfoldable pub listsFor : List ℕ → List ℕ → Lent
 listsFor l results =
-    lent (replicate 8784 0xA5) (take (wordAt l 29) (replicate 9080 0xA5)) (take (length results) (replicate 20000 0xA5))
+    lent (replicate 8784 0xA5) (take (wordAt l 32) (replicate 9080 0xA5)) (take (length results) (replicate 20000 0xA5))
 
--- with the first three lists, behind which the other four follow from place `at` on
+-- with the first three lists, behind which the other five follow from place `at` on
 unfoldable pub seriesKept : List ℕ → ℕ → List ℕ → List ℕ → List ℕ → Bool
 seriesKept l at diffuse direct reflectivity =
-    let a = listEnd l at (wordAt l 21) in
-    let b = listEnd l a (wordAt l 22) in
-    let c = listEnd l b (wordAt l 23) in
-    let results = part l b c in
-    let totals = part l c (listEnd l c (wordAt l 24)) in
-    runKept l results totals (runOf (keptJob l diffuse direct reflectivity (part l at a) (part l a b)) (listsFor l results))
+    let a = listEnd l at (wordAt l 23) in
+    let b = listEnd l a (wordAt l 24) in
+    let c = listEnd l b (wordAt l 25) in
+    let d = listEnd l c (wordAt l 26) in
+    let results = part l c d in
+    let totals = part l d (listEnd l d (wordAt l 27)) in
+    runKept l results totals (runOf (keptJob l diffuse direct reflectivity (part l at a) (part l a b) (part l b c)) (listsFor l results))
 
 unfoldable pub runDiffers : List ℕ → Bool
 runDiffers l =
-    let a = listEnd l 240 (wordAt l 18) in
-    let b = listEnd l a (wordAt l 19) in
-    let c = listEnd l b (wordAt l 20) in
-    ltb (length l) 240 || not (seriesKept l c (part l 240 a) (part l a b) (part l b c))
+    let a = listEnd l 264 (wordAt l 20) in
+    let b = listEnd l a (wordAt l 21) in
+    let c = listEnd l b (wordAt l 22) in
+    ltb (length l) 264 || not (seriesKept l c (part l 264 a) (part l a b) (part l b c))
 
 -- ---- the table of days
 

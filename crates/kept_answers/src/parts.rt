@@ -40,7 +40,7 @@ pub fn record_end(block: &[u8], at: usize) -> usize
 
 // A surface from the k-th word on.
 pub fn surface_at(kept: &[u8], k: usize) -> Surface
-    requires { ⌜ k ≤ 13 ⌝ }
+    requires { ⌜ k ≤ 15 ⌝ }
     ensures { λ r. ⌜ r ≡ surfaceAt (now (kept .entry)) k ⌝ }
 {
     Surface {

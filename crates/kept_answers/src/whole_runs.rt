@@ -1,4 +1,4 @@
-// Runs: 30 words, then the seven lists, the results and the totals as they are afterwards.
+// Runs: 33 words, then the eight lists, the results and the totals as they are afterwards.
 ghost use mathlib.Core.Path.{_≡_};
 ghost use Prim.Native.Nat.{_≤_};
 ghost use lib.ListN.{length};
@@ -40,6 +40,8 @@ fn site_of(kept: &[u8]) -> Site
         time_series_step: double_at(kept, 7),
         leap_year: word_at(kept, 8),
         direct_beam_conversion: word_at(kept, 9),
+        first_leaf_day: word_at(kept, 10),
+        last_leaf_day: word_at(kept, 11),
     }
 }
 
@@ -47,9 +49,9 @@ fn run_of(kept: &[u8]) -> Run
     ensures { λ r. ⌜ r ≡ runAt (now (kept .entry)) ⌝ }
 {
     Run {
-        start: double_at(kept, 10),
-        end: double_at(kept, 11),
-        step: double_at(kept, 12),
+        start: double_at(kept, 12),
+        end: double_at(kept, 13),
+        step: double_at(kept, 14),
     }
 }
 
@@ -57,8 +59,8 @@ fn run_of(kept: &[u8]) -> Run
 fn is_answer(kept: &[u8], number: u64, step: u64, count: u64, sum: f64) -> bool
     ensures { λ r. ⌜ r ≡ isRun (now (kept .entry)) number step count sum ⌝ }
 {
-    let numbers = (word_at(kept, 25) == number) & (word_at(kept, 26) == step);
-    let sums = (word_at(kept, 27) == count) & (word_at(kept, 28) == bits_of_double(sum));
+    let numbers = (word_at(kept, 28) == number) & (word_at(kept, 29) == step);
+    let sums = (word_at(kept, 30) == count) & (word_at(kept, 31) == bits_of_double(sum));
     numbers & sums
 }
 
@@ -81,12 +83,13 @@ fn totals_kept(kept: &[u8], totals: &[u8]) -> bool
 }
 
 // Whether a run with these lists answers as the record says, and leaves that in its results and its totals.
-fn is_answered(
+fn is_answered<'a>(
     kept: &[u8],
     diffuse: &[u8],
     direct: &[u8],
     reflectivity: &[u8],
-    sectors: &[u8],
+    summer: &'a [u8],
+    winter: &'a [u8],
     window: &[u8],
     results_left: &[u8],
     totals_left: &[u8],
@@ -96,17 +99,18 @@ fn is_answered(
 ) -> bool
     ensures { λ r. ⌜ r ≡ runKept (now (kept .entry)) (now («results_left» .entry)) (now («totals_left» .entry))
         (runOf (keptJob (now (kept .entry)) (now (diffuse .entry)) (now (direct .entry)) (now (reflectivity .entry))
-        (now (sectors .entry)) (now (window .entry))) (lent (now (days .entry)) (now (totals .entry)) (now (results .entry)))) ⌝ }
+        (now (summer .entry)) (now (winter .entry)) (now (window .entry))) (lent (now (days .entry)) (now (totals .entry)) (now (results .entry)))) ⌝ }
 {
     let answer = run_job(
         word_at(kept, 2),
         site_of(kept),
         run_of(kept),
-        surface_at(kept, 13),
+        surface_at(kept, 15),
         diffuse,
         direct,
         reflectivity,
-        sectors,
+        summer,
+        winter,
         window,
         days,
         totals,
@@ -117,31 +121,33 @@ fn is_answered(
 
 // Lends a table of days, as many bytes of totals as the record says, at most 9,080, and of results as there are afterwards, at most
 // 20,000.
-fn with_lists(
+fn with_lists<'a>(
     kept: &[u8],
     diffuse: &[u8],
     direct: &[u8],
     reflectivity: &[u8],
-    sectors: &[u8],
+    summer: &'a [u8],
+    winter: &'a [u8],
     window: &[u8],
     results_left: &[u8],
     totals_left: &[u8],
 ) -> bool
     ensures { λ r. ⌜ r ≡ runKept (now (kept .entry)) (now («results_left» .entry)) (now («totals_left» .entry))
         (runOf (keptJob (now (kept .entry)) (now (diffuse .entry)) (now (direct .entry)) (now (reflectivity .entry))
-        (now (sectors .entry)) (now (window .entry))) (listsFor (now (kept .entry)) (now («results_left» .entry)))) ⌝ }
+        (now (summer .entry)) (now (winter .entry)) (now (window .entry))) (listsFor (now (kept .entry)) (now («results_left» .entry)))) ⌝ }
 {
     let mut days = [0xA5u8; 8784];
     let mut totals = [0xA5u8; 9080];
     let mut results = [0xA5u8; 20000];
-    let m = least(word_at(kept, 29) as usize, 9080);
+    let m = least(word_at(kept, 32) as usize, 9080);
     let n = least(results_left.len(), 20000);
     is_answered(
         kept,
         diffuse,
         direct,
         reflectivity,
-        sectors,
+        summer,
+        winter,
         window,
         results_left,
         totals_left,
@@ -156,10 +162,11 @@ fn with_series(bytes: &[u8], at: usize, diffuse: &[u8], direct: &[u8], reflectiv
     requires { ⌜ at ≤ length (now bytes) ⌝ }
     ensures { λ r. ⌜ r ≡ seriesKept (now (bytes .entry)) at (now (diffuse .entry)) (now (direct .entry)) (now (reflectivity .entry)) ⌝ }
 {
-    let a = list_end(bytes, at, word_at(bytes, 21));
-    let b = list_end(bytes, a, word_at(bytes, 22));
-    let c = list_end(bytes, b, word_at(bytes, 23));
-    let d = list_end(bytes, c, word_at(bytes, 24));
+    let a = list_end(bytes, at, word_at(bytes, 23));
+    let b = list_end(bytes, a, word_at(bytes, 24));
+    let c = list_end(bytes, b, word_at(bytes, 25));
+    let d = list_end(bytes, c, word_at(bytes, 26));
+    let e = list_end(bytes, d, word_at(bytes, 27));
     with_lists(
         bytes,
         diffuse,
@@ -169,6 +176,7 @@ fn with_series(bytes: &[u8], at: usize, diffuse: &[u8], direct: &[u8], reflectiv
         &bytes[a..b],
         &bytes[b..c],
         &bytes[c..d],
+        &bytes[d..e],
     )
 }
 
@@ -176,11 +184,11 @@ fn with_series(bytes: &[u8], at: usize, diffuse: &[u8], direct: &[u8], reflectiv
 pub fn differs(kept: &[u8]) -> bool
     ensures { λ r. ⌜ r ≡ runDiffers (now (kept .entry)) ⌝ }
 {
-    if kept.len() < 240 {
+    if kept.len() < 264 {
         return true;
     }
-    let a = list_end(kept, 240, word_at(kept, 18));
-    let b = list_end(kept, a, word_at(kept, 19));
-    let c = list_end(kept, b, word_at(kept, 20));
-    !with_series(kept, c, &kept[240..a], &kept[a..b], &kept[b..c])
+    let a = list_end(kept, 264, word_at(kept, 20));
+    let b = list_end(kept, a, word_at(kept, 21));
+    let c = list_end(kept, b, word_at(kept, 22));
+    !with_series(kept, c, &kept[264..a], &kept[a..b], &kept[b..c])
 }

@@ -26,7 +26,7 @@ slice-aggregate-run-job-4 : tie.Need-slice-aggregate-run-job-4
 slice-aggregate-run-job-4 c = c .before .before .before .before .before .whole-horizon .ensures .1
 
 slice-aggregate-run-job-5 : tie.Need-slice-aggregate-run-job-5
-slice-aggregate-run-job-5 c = search needs
+slice-aggregate-run-job-5 c = c .before .before .before .before .before .before .whole-horizon .ensures .1
 
 slice-aggregate-run-job-6 : tie.Need-slice-aggregate-run-job-6
 slice-aggregate-run-job-6 c = search needs
@@ -37,12 +37,15 @@ slice-aggregate-run-job-7 c = search needs
 slice-aggregate-run-job-8 : tie.Need-slice-aggregate-run-job-8
 slice-aggregate-run-job-8 c = search needs
 
+slice-aggregate-run-job-9 : tie.Need-slice-aggregate-run-job-9
+slice-aggregate-run-job-9 c = search needs
+
 run-job-requires : tie.Need-run-job-requires
 run-job-requires c κs = tt
 
 returns : tie.Need-returns
 unfolding threeHours ofBits whole
-returns c = ap (λ x. x .ran .answer) (rw (c .before .before .before .before .before .before .before .before .before .before .before .before .south-wall .ensures, c .before .before .before .before .before .before .before .before .before .before .before .before .before .whole-horizon .ensures .0) at (c .before .before .before .run-job .ensures))
+returns c = ap (λ x. x .ran .answer) (rw (c .before .before .before .before .before .before .before .before .before .before .before .before .before .south-wall .ensures, c .before .before .before .before .before .before .before .before .before .before .before .before .before .before .whole-horizon .ensures .0) at (c .before .before .before .run-job .ensures))
 
 pub three-hours-spec : {M : Type 1} → statement M
 three-hours-spec =
@@ -58,5 +61,6 @@ three-hours-spec =
     slice-aggregate-run-job-6
     slice-aggregate-run-job-7
     slice-aggregate-run-job-8
+    slice-aggregate-run-job-9
     run-job-requires
     returns)

@@ -43,7 +43,7 @@ same-length-3 c = search needs
 returns : tie.Need-returns
 unfolding runKept
 returns c =
-    let a = c .before .before .before .before .before .before .before .before .before .before .before .before .before .before .before .before .before .before .before .before .before .before .before .before .before .before .before .before .before .before .args in
+    let a = c .before .before .before .before .before .before .before .before .before .before .before .before .before .before .before .before .before .before .before .before .before .before .before .before .before .before .before .before .before .before .before .args in
     let e = rw (c .before .before .before .before .before .before .before .before .before .before .before .before .before .before .before .before .before .site-of .ensures, c .before .before .before .before .before .before .before .before .before .before .before .before .before .before .before .before .run-of .ensures, c .before .before .before .before .before .before .before .before .before .before .before .before .before .before .before .surface-at .ensures, c .before .before .before .before .before .before .before .before .before .before .before .before .before .before .before .before .before .before .word-at .ensures) at (c .before .before .before .before .before .before .before .before .before .before .before .run-job .ensures) in
     rw (c .before .before .before .same-text .ensures, c .before .totals-kept .ensures, c .answers .ensures) (ap (runKept (now (a .kept)) (now (a .results-left)) (now (a .totals-left))) e)
 

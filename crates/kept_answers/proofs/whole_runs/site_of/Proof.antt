@@ -29,9 +29,15 @@ word-at-requires-2 c κs = tt
 word-at-requires-3 : tie.Need-word-at-requires-3
 word-at-requires-3 c κs = tt
 
+word-at-requires-4 : tie.Need-word-at-requires-4
+word-at-requires-4 c κs = tt
+
+word-at-requires-5 : tie.Need-word-at-requires-5
+word-at-requires-5 c κs = tt
+
 returns : tie.Need-returns
 unfolding siteOf
-returns c = rw (toZ-ofZ {w = w64} {z = c .before .before .before .before .whole-of .result} (record { sfits = c .before .before .before .before .whole-of .ok }), c .word-at3 .ensures, c .before .word-at2 .ensures, c .before .before .double-at4 .ensures, c .before .before .before .word-at .ensures, c .before .before .before .before .whole-of .ensures, c .before .before .before .before .before .double-at3 .ensures, c .before .before .before .before .before .before .double-at2 .ensures, c .before .before .before .before .before .before .before .double-at .ensures)
+returns c = rw (toZ-ofZ {w = w64} {z = c .before .before .before .before .before .before .whole-of .result} (record { sfits = c .before .before .before .before .before .before .whole-of .ok }), c .word-at5 .ensures, c .before .word-at4 .ensures, c .before .before .word-at3 .ensures, c .before .before .before .word-at2 .ensures, c .before .before .before .before .double-at4 .ensures, c .before .before .before .before .before .word-at .ensures, c .before .before .before .before .before .before .whole-of .ensures, c .before .before .before .before .before .before .before .double-at3 .ensures, c .before .before .before .before .before .before .before .before .double-at2 .ensures, c .before .before .before .before .before .before .before .before .before .double-at .ensures)
 
 pub site-of-spec : {M : Type 1} → statement M
 site-of-spec =
@@ -45,4 +51,6 @@ site-of-spec =
     double-at-requires-4
     word-at-requires-2
     word-at-requires-3
+    word-at-requires-4
+    word-at-requires-5
     returns)

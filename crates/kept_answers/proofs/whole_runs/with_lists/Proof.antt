@@ -40,7 +40,7 @@ is-answered-requires c κs = tt
 returns : tie.Need-returns
 unfolding listsFor
 returns c =
-    let a = c .before .before .before .before .before .before .before .before .before .before .before .before .before .before .before .before .before .before .args in
+    let a = c .before .before .before .before .before .before .before .before .before .before .before .before .before .before .before .before .before .before .before .args in
     let totals = front (replicate 9080 0xA5) _ (c .before .before .before .before .before .before .before .before .least .result) (c .before .before .before .before .before .before .before .before .least .ensures) in
     let results = front (replicate 20000 0xA5) (length (now (a .results-left))) (c .before .before .before .before .before .before .before .least2 .result) (c .before .before .before .before .before .before .before .least2 .ensures) in
     rw (totals, results, c .before .before .before .before .before .before .before .before .before .word-at .ensures) at (c .before .before .before .is-answered .ensures)
