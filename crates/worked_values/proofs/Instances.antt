@@ -13,7 +13,7 @@ use lib.IntN.{pos}
 use lib.ListN.{take, replicate}
 use lib.Ieee.{Float, add, sub, mul, div, neg, lt, le, eq, ne, isNan, fits, toUnsigned, ofInt, ofBits, toBits}
 use lib.Ieee.Fits.{and-l, and-r}
-use Rattle.doubles.specs.Arithmetic.{_⊕_, whole, decimal, bits}
+use Rattle.doubles.specs.Arithmetic.{_⊕_, _⊗_, whole, decimal, bits}
 use Rattle.doubles.specs.Functions.{clamp, floorOf, cubeOf, toRadians, toDegrees, minOf2, maxOf2, floatMin, floatMax, largestOf}
 use Rattle.doubles.specs.Order.{_≼_, _≈_, Number}
 use Rattle.doubles.specs.Ranges.{within, aboveZero}
@@ -24,7 +24,7 @@ use Rattle.words.specs.Words.{number, bytesOf, wordCount, wordAt, doubleAt, put
 use Rattle.calendar.specs.Calendar.{daysInYear, monthLengths, dateFrom, dateAt, placeOf as tablePlace, dateOf}
 use Rattle.days.specs.Day.{orbitDeviation, solarDeclination, equationOfTime, extraTerrestrialRadiation, dayOf}
 use Rattle.sun.specs.Hour.{sinCosOf, timeShift, solarTime, hourAngle, altitudeSine, cutAltitude, solarAltitude, solarZenith, azimuthDenominator, solarAzimuth, airMass, hourOf}
-use Rattle.sun.specs.Site.{siteFine, leapYear, hoursInYear}
+use Rattle.sun.specs.Site.{siteFine, leafDaysFine, leapYear, hoursInYear}
 use Rattle.orientation.specs.Orientation.{orientation180, wrappedOnce}
 use Rattle.simulation_time.specs.Steps.{runFine, goesOn, stepsFrom, stepCount, timeAt, timesFrom, times, atAll}
 use Rattle.simulation_time.specs.Timestep.{currentHour, seriesIndex}
@@ -54,7 +54,8 @@ use Rattle.irradiance.specs.Surface.{cosineOfDegrees, incidenceArgument, incide
 use Rattle.irradiance.specs.Parts.{directIrradiance, skyIrradiance, circumsolarIrradiance, horizontalIrradiance, groundReflection, irradianceOf}
 use Rattle.jobs.specs.Job.{Job, indexAt, readingAt}
 use Rattle.jobs.specs.JobChecks.{indicesFine, readingsFine, daysFine, totalsFine, resultsFine, tried, checked}
-use Rattle.jobs.specs.Step.{sunAt, irradianceByDay, irradianceAt, shadingAt, rowWith, stepWith, stepAt}
+use Rattle.seasons.specs.Seasons.{inLeaf, wholeRecords, seasonRecords, sectorsFor}
+use Rattle.jobs.specs.Step.{sunAt, irradianceByDay, irradianceAt, sectorsAt, jobSectors, shadingAt, rowWith, stepWith, stepAt}
 use Rattle.jobs.specs.Rows.{putRow, storedRow, withRow}
 use Rattle.jobs.specs.Totals.{noTotals, withStep, totalsOf, totalsCount, monthPart, inPart, totalsAtPart, totalsAt, withTotals}
 use Rattle.jobs.specs.Run.{numberFor, countFor, sumFor, onRow, runFrom, runChecked, Lent, lent, roomFine, roomFor, rowsStored, totalsLeft, Ran, runOf}
@@ -107,9 +108,9 @@ awning = word 1 ++ two ++ quarter ++ zeros 1
 fin : List ℕ
 fin = word 2 ++ quarter ++ zeros 2
 
--- a rooflight, in two steps of an hour and a half, in edition 2
-jobWith : List ℕ → List ℕ → Job
-jobWith sectors window = record {
+-- a rooflight, early in the afternoon of two days, in edition 2; the first is in winter, the second in summer
+jobWith : List ℕ → List ℕ → List ℕ → Job
+jobWith summer winter window = record {
   edition = 2;
   site = record {
     latitude = whole 51;
@@ -119,25 +120,30 @@ jobWith sectors window = record {
     «time_series_step» = whole 24;
     «leap_year» = 0;
     «direct_beam_conversion» = 0;
+    «first_leaf_day» = 1;
+    «last_leaf_day» = 300;
   };
-  run = record { start = whole 12; end = whole 15; step = decimal 15 1 };
+  run = record { start = whole 13; end = whole 60; step = whole 24 };
   surface = record { tilt = whole 10; orientation = whole 180; «base_height» = whole 0; height = whole 2; width = whole 1 };
-  diffuse = hundred;
-  direct = hundred;
-  reflectivity = quarter;
-  sectors = sectors;
+  diffuse = hundred ++ hundred;
+  direct = hundred ++ hundred;
+  reflectivity = quarter ++ quarter;
+  summer = summer;
+  winter = winter;
   window = window;
 }
 
--- one sector, 0..360
+-- one sector, 0..360, in each season; the eaves are there in summer alone
 bare : Job
-bare = jobWith (zeros 1 ++ round ++ zeros 25) []
+bare = jobWith (zeros 1 ++ round ++ zeros 25) (zeros 1 ++ round ++ zeros 25) []
 
 built : Job
-built = jobWith (zeros 1 ++ round ++ word 2 ++ wall ++ eaves ++ zeros 18) (awning ++ fin)
+built = jobWith (zeros 1 ++ round ++ word 2 ++ wall ++ eaves ++ zeros 18) (zeros 1 ++ round ++ word 1 ++ wall ++ zeros 21) (awning ++ fin)
 
 mixed : Job
-mixed = jobWith (minus-zero ++ round ++ word 3 ++ eaves ++ wall ++ eaves ++ zeros 15) (fin ++ awning ++ awning)
+mixed =
+    jobWith (minus-zero ++ round ++ word 3 ++ eaves ++ wall ++ eaves ++ zeros 15) (minus-zero ++ round ++ word 2 ++ wall ++ wall ++ zeros 18)
+    (fin ++ awning ++ awning)
 
 room : Lent
 room = lent (zeros 1098) (zeros 1134) (zeros 12)
@@ -147,6 +153,7 @@ room = lent (zeros 1098) (zeros 1134) (zeros 12)
 lists : ℕ
 unfolding word double zeros quarter metre two hundred round minus-zero wall eaves awning fin jobWith bare built mixed room number wordCount wordAt doubleAt ofBits sectorCount triple
     sectorObjects windowObject windowObjects recordsFrom distantKind objectAt objectsFrom segmentAt sectorsOf windowKind windowObjectAt windowCount windowObjectsOf
+    inLeaf wholeRecords seasonRecords sectorsFor sectorsAt
 lists = 0
 
 doubles : ℕ
@@ -154,7 +161,7 @@ unfolding add sub mul div lt le neg eq ne isNan toUnsigned bits whole decimal of
 doubles = 0
 
 checks : ℕ
-unfolding lists doubles checked tried editionFine siteFine hoursInYear atAll indicesFine readingsFine readingFine daysFine daysInYear totalsCount totalsFine resultsFine roomFine runAccepted runFine hoursFine hourFine times timesFrom
+unfolding lists doubles checked tried editionFine siteFine leafDaysFine hoursInYear atAll indicesFine readingsFine readingFine daysFine daysInYear totalsCount totalsFine resultsFine roomFine runAccepted runFine hoursFine hourFine times timesFrom
     stepCount stepsFrom goesOn currentHour seriesIndex inSeries readSeries within aboveZero surfaceFine firstFine recordsFine windowValuesFine windowRecordFine windowFine
     objectValuesFine objectFine objectUnused tripleFine boundsFine sectorRecordFine sectorsFine
 checks = 0
@@ -183,7 +190,7 @@ isFactor (factor.Refused r) = false
 
 -- a step's factor
 answered : Job → Float → FactorAnswer
-answered job time = shadingAt (job .edition) (job .surface) (sunAt (job .site) time) (job .sectors) (job .window)
+answered job time = shadingAt (job .edition) (job .surface) (sunAt (job .site) time) (jobSectors job time) (job .window)
 
 two-steps : (job : Job) → checked job (roomFor job room) ≡ check.Steps 2 → T (isFactor (answered job (job .run .start)))
     → T (isFactor (answered job (job .run .start ⊕ job .run .step))) → IsAccepted (runOf job room .ran)
@@ -209,7 +216,7 @@ unfolding answered isFactor checks shade
 mixed-accepted = two-steps mixed refl tt tt
 
 -- the objects do shade
-built-shaded : T (isBelow (whole 1) (answered built (whole 12)) && isBelow (whole 1) (answered built (whole 13)))
+built-shaded : T (isBelow (whole 1) (answered built (whole 13)) && isBelow (whole 1) (answered built (whole 37)))
 unfolding answered isBelow shade
 built-shaded = tt
 
@@ -239,14 +246,14 @@ fin-shades = tt
 
 -- of the first sector and the window, at a step
 abbrev FineAt : Job → ℕ → Type 0
-FineAt job i = NoNanExtent (job .surface) (sunThen job i) (counted (segmentAt (job .sectors) 0)) (windowObjectsOf (job .window))
+FineAt job i = NoNanExtent (job .surface) (sunThen job i) (counted (segmentAt (jobSectors job (timeAt (job .run) i)) 0)) (windowObjectsOf (job .window))
 
 module _ (job : Job) (i : ℕ) where
   nearHeights : List Float
   nearHeights = extents (ofKind Obstacle) (nearObstacleHeight (job .surface) (sunThen job i)) (windowObjectsOf (job .window))
 
-  fine-at : T (numbers (obstacleExtents (job .surface) (sunThen job i) (counted (segmentAt (job .sectors) 0))))
-      → T (numbers (overhangExtents (job .surface) (sunThen job i) (counted (segmentAt (job .sectors) 0))))
+  fine-at : T (numbers (obstacleExtents (job .surface) (sunThen job i) (counted (segmentAt (jobSectors job (timeAt (job .run) i)) 0))))
+      → T (numbers (overhangExtents (job .surface) (sunThen job i) (counted (segmentAt (jobSectors job (timeAt (job .run) i)) 0))))
       → T (numbers (windowOverhangExtents (sunThen job i) (windowObjectsOf (job .window))))
       → T (numbers (rightFinExtents (sunThen job i) (windowObjectsOf (job .window))))
       → T (numbers (leftFinExtents (sunThen job i) (windowObjectsOf (job .window))))
@@ -262,11 +269,20 @@ module _ (job : Job) (i : ℕ) where
         all-numbers nearHeights n _ (extents-into (ofKind Obstacle) (nearObstacleHeight (job .surface) (sunThen job i)) (windowObjectsOf (job .window)) b m k);
   }
 
+-- the list of a step's day has one sector
+abbrev OneSector : Job → ℕ → Type 0
+OneSector job i = let sectors = jobSectors job (timeAt (job .run) i) in sectorsOf sectors ≡ segmentAt sectors 0 ∷ []
+
 -- two steps, one sector
-no-nan : (job : Job) → stepCount (job .run) ≡ 2 → sectorsOf (job .sectors) ≡ segmentAt (job .sectors) 0 ∷ [] → FineAt job 0 → FineAt job 1 → NoNan job
+no-nan : (job : Job) → stepCount (job .run) ≡ 2 → OneSector job 0 → OneSector job 1 → FineAt job 0 → FineAt job 1 → NoNan job
 unfolding sunThen
-no-nan job c e f g = record { at-step = λ i h. record { at-found = λ k s m. found-fine i (each i (omega (arith, c))) s m } }
+no-nan job c d e f g = record { at-step = λ i h. record { at-found = λ k s m. found-fine i (one i (omega (arith, c))) (each i (omega (arith, c))) s m } }
   where
+    one : (i : ℕ) → i < 2 → OneSector job i
+    one zero h = d
+    one (suc zero) h = e
+    one (suc (suc i)) h = absurd (omega arith)
+
     each : (i : ℕ) → i < 2 → FineAt job i
     each zero h = f
     each (suc zero) h = g
@@ -275,44 +291,44 @@ no-nan job c e f g = record { at-step = λ i h. record { at-found = λ k s m. fo
     Fine : ℕ → ShadingSegment → Type 0
     Fine i s = NoNanExtent (job .surface) (sunThen job i) (counted s) (windowObjectsOf (job .window))
 
-    found-fine : (i : ℕ) → FineAt job i → (s : ShadingSegment) → segmentOf (sunAt (job .site) (timeAt (job .run) i) .azimuth) (sectorsOf (job .sectors)) ≡ found s → Fine i s
-    found-fine i t = found-has (Fine i) (sunAt (job .site) (timeAt (job .run) i) .azimuth) (sectorsOf (job .sectors)) (λ s m.
-        elim (List·Memᴰ·cases-cons (subst (List·Memᴰ s) e m)) [
+    found-fine : (i : ℕ) → OneSector job i → FineAt job i → (s : ShadingSegment) → segmentOf (sunAt (job .site) (timeAt (job .run) i) .azimuth) (sectorsOf (jobSectors job (timeAt (job .run) i))) ≡ found s → Fine i s
+    found-fine i o t = found-has (Fine i) (sunAt (job .site) (timeAt (job .run) i) .azimuth) (sectorsOf (jobSectors job (timeAt (job .run) i))) (λ s m.
+        elim (List·Memᴰ·cases-cons (subst (List·Memᴰ s) o m)) [
           | inl q ↦ subst (Fine i) (sym q) t
           | inr q ↦ absurd (List·Memᴰ·not-nil q)
         ])
 
 bare-no-nan : NoNan bare
 unfolding checks shade sunThen numbers nearHeights nearObstacleHeight
-bare-no-nan = no-nan bare refl refl (fine-at bare 0 tt tt tt tt tt tt) (fine-at bare 1 tt tt tt tt tt tt)
+bare-no-nan = no-nan bare refl refl refl (fine-at bare 0 tt tt tt tt tt tt) (fine-at bare 1 tt tt tt tt tt tt)
 
 built-no-nan : NoNan built
 unfolding checks shade sunThen numbers nearHeights nearObstacleHeight
-built-no-nan = no-nan built refl refl (fine-at built 0 tt tt tt tt tt tt) (fine-at built 1 tt tt tt tt tt tt)
+built-no-nan = no-nan built refl refl refl (fine-at built 0 tt tt tt tt tt tt) (fine-at built 1 tt tt tt tt tt tt)
 
 mixed-no-nan : NoNan mixed
 unfolding checks shade sunThen numbers nearHeights nearObstacleHeight
-mixed-no-nan = no-nan mixed refl refl (fine-at mixed 0 tt tt tt tt tt tt) (fine-at mixed 1 tt tt tt tt tt tt)
+mixed-no-nan = no-nan mixed refl refl refl (fine-at mixed 0 tt tt tt tt tt tt) (fine-at mixed 1 tt tt tt tt tt tt)
 
 -- ---- they are alike and bounded alike
 
 same-series : (l : List ℕ) → SameSeries l l
 same-series l = record { lengths = refl; values = λ i. refl }
 
-module _ (s t v w : List ℕ) where
-  alike : Alike (jobWith s v) (jobWith t w)
+module _ (s s′ t t′ v w : List ℕ) where
+  alike : Alike (jobWith s s′ v) (jobWith t t′ w)
   unfolding jobWith
   alike = record {
     editions = refl;
     sites = refl;
     runs = refl;
     surfaces = refl;
-    diffuses = same-series hundred;
-    directs = same-series hundred;
-    reflectivities = same-series quarter;
+    diffuses = same-series (hundred ++ hundred);
+    directs = same-series (hundred ++ hundred);
+    reflectivities = same-series (quarter ++ quarter);
   }
 
-  are-doubles : Doubles (jobWith s v .surface)
+  are-doubles : Doubles (jobWith s s′ v .surface)
   unfolding jobWith whole fits
   are-doubles = record { height-fits = record { holds = tt }; width-fits = record { holds = tt } }
 
@@ -322,33 +338,47 @@ level x y t = record { below = record { holds = and-l (le x y) (le y x) t }; abo
 bare-built : Comparable bare built room room
 unfolding lists le
 bare-built = record {
-  alike = alike (bare .sectors) (built .sectors) (bare .window) (built .window);
+  alike = alike (bare .summer) (bare .winter) (built .summer) (built .winter) (bare .window) (built .window);
   bounded = record {
-    lengths = refl;
-    starts = λ i h. let z : i ≡ 0 = omega arith in rw z (level _ _ tt);
-    ends = λ i h. let z : i ≡ 0 = omega arith in rw z (level _ _ tt);
+    in-summer = record {
+      lengths = refl;
+      starts = λ i h. let z : i ≡ 0 = omega arith in rw z (level _ _ tt);
+      ends = λ i h. let z : i ≡ 0 = omega arith in rw z (level _ _ tt);
+    };
+    in-winter = record {
+      lengths = refl;
+      starts = λ i h. let z : i ≡ 0 = omega arith in rw z (level _ _ tt);
+      ends = λ i h. let z : i ≡ 0 = omega arith in rw z (level _ _ tt);
+    };
   };
   first-accepted = bare-accepted;
   second-accepted = built-accepted;
   first-extents = bare-no-nan;
   second-extents = built-no-nan;
-  doubles = are-doubles (bare .sectors) (built .sectors) (bare .window) (built .window);
+  doubles = are-doubles (bare .summer) (bare .winter) (built .summer) (built .winter) (bare .window) (built .window);
 }
 
 built-mixed : Comparable built mixed room room
 unfolding lists le
 built-mixed = record {
-  alike = alike (built .sectors) (mixed .sectors) (built .window) (mixed .window);
+  alike = alike (built .summer) (built .winter) (mixed .summer) (mixed .winter) (built .window) (mixed .window);
   bounded = record {
-    lengths = refl;
-    starts = λ i h. let z : i ≡ 0 = omega arith in rw z (level _ _ tt);
-    ends = λ i h. let z : i ≡ 0 = omega arith in rw z (level _ _ tt);
+    in-summer = record {
+      lengths = refl;
+      starts = λ i h. let z : i ≡ 0 = omega arith in rw z (level _ _ tt);
+      ends = λ i h. let z : i ≡ 0 = omega arith in rw z (level _ _ tt);
+    };
+    in-winter = record {
+      lengths = refl;
+      starts = λ i h. let z : i ≡ 0 = omega arith in rw z (level _ _ tt);
+      ends = λ i h. let z : i ≡ 0 = omega arith in rw z (level _ _ tt);
+    };
   };
   first-accepted = built-accepted;
   second-accepted = mixed-accepted;
   first-extents = built-no-nan;
   second-extents = mixed-no-nan;
-  doubles = are-doubles (built .sectors) (mixed .sectors) (built .window) (mixed .window);
+  doubles = are-doubles (built .summer) (built .winter) (mixed .summer) (mixed .winter) (built .window) (mixed .window);
 }
 
 -- ---- and hold each other's objects
@@ -366,7 +396,8 @@ and-held {Object} {x} {xs} {ys} m h o k =
 more : HoldsAll built bare
 unfolding lists
 more = record {
-  in-sectors = λ i h. let z : i ≡ 0 = omega arith in rw z holds-none;
+  in-summer = λ i h. let z : i ≡ 0 = omega arith in rw z holds-none;
+  in-winter = λ i h. let z : i ≡ 0 = omega arith in rw z holds-none;
   at-window = holds-none;
 }
 
@@ -374,12 +405,14 @@ same : SameObjects built mixed
 unfolding lists
 same = record {
   there = record {
-    in-sectors = λ i h. let z : i ≡ 0 = omega arith in rw z (and-held (List·Memᴰ·tail (List·Memᴰ·head refl)) (and-held (List·Memᴰ·head refl) holds-none));
+    in-summer = λ i h. let z : i ≡ 0 = omega arith in rw z (and-held (List·Memᴰ·tail (List·Memᴰ·head refl)) (and-held (List·Memᴰ·head refl) holds-none));
+    in-winter = λ i h. let z : i ≡ 0 = omega arith in rw z (and-held (List·Memᴰ·head refl) holds-none);
     at-window = and-held (List·Memᴰ·tail (List·Memᴰ·head refl)) (and-held (List·Memᴰ·head refl) holds-none);
   };
   back = record {
-    in-sectors = λ i h. let z : i ≡ 0 = omega arith in
+    in-summer = λ i h. let z : i ≡ 0 = omega arith in
         rw z (and-held (List·Memᴰ·tail (List·Memᴰ·head refl)) (and-held (List·Memᴰ·head refl) (and-held (List·Memᴰ·tail (List·Memᴰ·head refl)) holds-none)));
+    in-winter = λ i h. let z : i ≡ 0 = omega arith in rw z (and-held (List·Memᴰ·head refl) (and-held (List·Memᴰ·head refl) holds-none));
     at-window = and-held (List·Memᴰ·tail (List·Memᴰ·head refl)) (and-held (List·Memᴰ·head refl) (and-held (List·Memᴰ·head refl) holds-none));
   };
 }
@@ -435,16 +468,19 @@ part-left job k c e h =
     ∙ ap (λ (n : ℕ). totalsAt (withTotals leap (job .run) (ran .results) n (room .totals)) k) e
     ∙ totals-read leap (job .run) (ran .results) 2 (room .totals) (omega arith) k h
 
--- both steps, the total at noon, and the run's sum
-built-day : totalsAt (runOf built room .totals) 0 ≡ record { count = 2; largest = doubleAt (runOf built room .ran .results) 4; sum = sumOf (runOf built room .ran) }
+-- the first step, in winter
+built-first : totalsAt (runOf built room .totals) 0
+    ≡ let rows = runOf built room .ran .results in
+    record { count = 1; largest = doubleAt rows 4; sum = whole 0 ⊕ (doubleAt rows 5 ⊗ doubleAt rows 2) ⊗ whole 24 }
 unfolding totals
-built-day = part-left built 0 refl refl (omega arith) ∙ refl
+built-first = part-left built 0 refl refl (omega arith) ∙ refl
 
-built-month : totalsAt (runOf built room .totals) 365 ≡ record { count = 2; largest = doubleAt (runOf built room .ran .results) 4; sum = sumOf (runOf built room .ran) }
+-- both, the larger total, and the run's sum
+built-month : totalsAt (runOf built room .totals) 365 ≡ record { count = 2; largest = doubleAt (runOf built room .ran .results) 10; sum = sumOf (runOf built room .ran) }
 unfolding totals
 built-month = part-left built 365 refl refl (omega arith) ∙ refl
 
--- and nothing on the second
-built-second : totalsAt (runOf built room .totals) 1 ≡ noTotals
+-- and nothing on the third day
+built-third : totalsAt (runOf built room .totals) 2 ≡ noTotals
 unfolding totals
-built-second = part-left built 1 refl refl (omega arith) ∙ refl
+built-third = part-left built 2 refl refl (omega arith) ∙ refl

@@ -2,5 +2,6 @@
 -- `Instances` three jobs that the claim on two jobs compared speaks of.
 pub mod EdgeValues
 pub mod FinValues
+pub mod SeasonValues
 pub mod TotalsValues
 pub mod Instances
