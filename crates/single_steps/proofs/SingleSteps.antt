@@ -20,7 +20,7 @@ use Rattle.object_checks.specs.Checks.{sectorsFine, windowFine}
 use Rattle.weather.specs.declared.Reading.{Reading}
 use Rattle.single_steps.specs.declared.Single.{Single}
 use Rattle.single_steps.specs.declared.Single.the-variants.{Accepted, Refused}
-use Rattle.single_steps.specs.Single.{timeFine, stepChecked, called, storedStep, unlessRefused, stepCall}
+use Rattle.single_steps.specs.Single.{timeFine, settingChecked, stepChecked, called, storedStep, unlessRefused, stepCall}
 use Rattle.jobs.specs.JobChecks.{tried}
 use Rattle.jobs.specs.Job.{Job, readingAt}
 use Rattle.jobs.specs.Step.{stepAt}
@@ -44,6 +44,16 @@ unfolding tried isAccepted
 passes true r next e = refl
 passes false r next e = absurd (subst T (sym (ap isAccepted e)) tt)
 
+-- the setting is fine, and what comes next is tried
+after-setting : (site : Site) (time : Float) (surface : Surface) (next : Single) → settingChecked site time surface next ≡ Accepted → next ≡ Accepted
+unfolding settingChecked
+after-setting site time surface next e =
+    let faced : Single = tried Refused (surfaceFine surface) refusal.Surface next in
+    let timed : Single = tried Refused (timeFine site time) refusal.Run faced in
+    let leafed : Single = tried Refused (leafDaysFine site) refusal.LeafDay timed in
+    after (surfaceFine surface) refusal.Surface next
+    (after (timeFine site time) refusal.Run faced (after (leafDaysFine site) refusal.LeafDay timed (after (siteFine site) refusal.Site leafed e)))
+
 -- the lists are fine
 pub lists-passed : (edition : ℕ) (site : Site) (time : Float) (surface : Surface) (reading : Reading) (summer winter window results : List ℕ)
     → stepChecked edition site time surface reading summer winter window results ≡ Accepted
@@ -53,15 +63,8 @@ lists-passed edition site time surface reading summer winter window results e =
     let read : Single = tried Refused (readingFine reading) refusal.Reading (tried Refused (leb 6 (wordCount results)) refusal.Results Accepted) in
     let sectors : Bool = sectorsFine summer && sectorsFine winter in
     let shaded : Single = tried Refused (sectors && windowFine window) refusal.Object read in
-    let faced : Single = tried Refused (surfaceFine surface) refusal.Surface shaded in
-    let timed : Single = tried Refused (timeFine site time) refusal.Run faced in
-    let leafed : Single = tried Refused (leafDaysFine site) refusal.LeafDay timed in
-    let sited : Single = tried Refused (siteFine site) refusal.Site leafed in
-    let both =
-    passes (sectors && windowFine window) refusal.Object read
-    (after (surfaceFine surface) refusal.Surface shaded (after (timeFine site time) refusal.Run faced (after (leafDaysFine site) refusal.LeafDay timed
-    (after (siteFine site) refusal.Site leafed (after (editionFine edition) refusal.Edition sited e)))))
-    in
+    let set = after (editionFine edition) refusal.Edition (settingChecked site time surface shaded) e in
+    let both = passes (sectors && windowFine window) refusal.Object read (after-setting site time surface shaded set) in
     let t : T (sectors && windowFine window) = subst T (sym both) tt in
     let u : T sectors = and-l sectors (windowFine window) t in (
       is-true (sectorsFine summer) (and-l (sectorsFine summer) (sectorsFine winter) u),

@@ -40,31 +40,34 @@ unfoldable pub timeFine : Site → Float → Bool
 unfolding within whole
 timeFine site time = within (whole 0) (whole 8784) time && ltb (currentHour time) (hoursInYear site)
 
--- 14, 1, 15, 2, 3, 4, 6, 7: the objects of both seasons; six words for a row
-unfoldable pub stepChecked : ℕ → Site → Float → Surface → Reading → List ℕ → List ℕ → List ℕ → List ℕ → Single
+-- 1, 15, 2, 3, then what comes next
+unfoldable pub settingChecked : Site → Float → Surface → Single → Single
 unfolding tried
-stepChecked edition site time surface reading summer winter window results =
-    tried Refused (editionFine edition) refusal.Edition
-    (tried Refused (siteFine site) refusal.Site
-    (tried Refused (leafDaysFine site) refusal.LeafDay
-    (tried Refused (timeFine site time) refusal.Run
-    (tried Refused (surfaceFine surface) refusal.Surface
-    (tried Refused (sectorsFine summer && sectorsFine winter && windowFine window) refusal.Object
-    (tried Refused (readingFine reading) refusal.Reading
-    (tried Refused (leb 6 (wordCount results)) refusal.Results
-    Accepted)))))))
-
--- 1, 15, 2, 3, 6, 7: nine words for the breakdown
-unfoldable pub irradianceChecked : Site → Float → Surface → Reading → List ℕ → Single
-unfolding tried
-irradianceChecked site time surface reading results =
+settingChecked site time surface next =
     tried Refused (siteFine site) refusal.Site
     (tried Refused (leafDaysFine site) refusal.LeafDay
     (tried Refused (timeFine site time) refusal.Run
-    (tried Refused (surfaceFine surface) refusal.Surface
+    (tried Refused (surfaceFine surface) refusal.Surface next)))
+
+-- 14, 1, 15, 2, 3, 4, 6, 7: the objects of both seasons; six words for a row
+unfoldable pub stepChecked : ℕ → Site → Float → Surface → Reading → List ℕ → List ℕ → List ℕ → List ℕ → Single
+unfolding tried settingChecked
+stepChecked edition site time surface reading summer winter window results =
+    tried Refused (editionFine edition) refusal.Edition
+    (settingChecked site time surface
+    (tried Refused (sectorsFine summer && sectorsFine winter && windowFine window) refusal.Object
+    (tried Refused (readingFine reading) refusal.Reading
+    (tried Refused (leb 6 (wordCount results)) refusal.Results
+    Accepted))))
+
+-- 1, 15, 2, 3, 6, 7: nine words for the breakdown
+unfoldable pub irradianceChecked : Site → Float → Surface → Reading → List ℕ → Single
+unfolding tried settingChecked
+irradianceChecked site time surface reading results =
+    settingChecked site time surface
     (tried Refused (readingFine reading) refusal.Reading
     (tried Refused (leb 9 (wordCount results)) refusal.Results
-    Accepted)))))
+    Accepted))
 
 -- ---- the calls
 

@@ -5,7 +5,7 @@ ghost use Rattle.object_checks.specs.Checks.{sectorsFine, windowFine};
 ghost use Rattle.jobs.specs.JobChecks.{tried};
 ghost use Rattle.jobs.specs.Step.{sunAt, irradianceAt, sectorsAt, stepWith};
 ghost use Rattle.single_steps.specs.declared.Single.the-variants.{Refused};
-ghost use Rattle.single_steps.specs.Single.{singleNumber, timeFine, stepChecked, irradianceChecked, called, storedStep};
+ghost use Rattle.single_steps.specs.Single.{singleNumber, timeFine, settingChecked, stepChecked, irradianceChecked, called, storedStep};
 ghost use Rattle.single_steps.specs.Single.{stepCall, putBreakdown, irradianceCall};
 use fins::edition_fine;
 use irradiance::parts::Irradiance;
@@ -68,6 +68,16 @@ fn first(fine: bool, refusal: Refusal, next: Single) -> Single
     Single::Refused(refusal)
 }
 
+// Refusals 1, 15, 2 and 3, else what comes next.
+fn check_setting(site: Site, time: f64, surface: Surface, next: Single) -> Single
+    ensures { λ r. ⌜ r ≡ settingChecked site time surface next ⌝ }
+{
+    let faced = first(surface_fine(surface), Refusal::Surface, next);
+    let timed = first(time_fine(site, time), Refusal::Run, faced);
+    let leafed = first(leaf_days_fine(site), Refusal::LeafDay, timed);
+    first(site_fine(site), Refusal::Site, leafed)
+}
+
 fn check_step(
     edition: u64,
     site: Site,
@@ -85,11 +95,8 @@ fn check_step(
     let read = first(reading_fine(reading), Refusal::Reading, room);
     let objects_fine = sectors_fine(summer) & sectors_fine(winter) & window_fine(window);
     let shaded = first(objects_fine, Refusal::Object, read);
-    let faced = first(surface_fine(surface), Refusal::Surface, shaded);
-    let timed = first(time_fine(site, time), Refusal::Run, faced);
-    let leafed = first(leaf_days_fine(site), Refusal::LeafDay, timed);
-    let sited = first(site_fine(site), Refusal::Site, leafed);
-    first(edition_fine(edition), Refusal::Edition, sited)
+    let set = check_setting(site, time, surface, shaded);
+    first(edition_fine(edition), Refusal::Edition, set)
 }
 
 fn check_irradiance(
@@ -103,10 +110,7 @@ fn check_irradiance(
 {
     let room = first(9 <= word_count(results), Refusal::Results, Single::Accepted);
     let read = first(reading_fine(reading), Refusal::Reading, room);
-    let faced = first(surface_fine(surface), Refusal::Surface, read);
-    let timed = first(time_fine(site, time), Refusal::Run, faced);
-    let leafed = first(leaf_days_fine(site), Refusal::LeafDay, timed);
-    first(site_fine(site), Refusal::Site, leafed)
+    check_setting(site, time, surface, read)
 }
 
 // The step at a time, from lists that are checked.

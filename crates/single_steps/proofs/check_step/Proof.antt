@@ -29,39 +29,18 @@ window-fine-requires c κs = search needs
 first-requires-3 : tie.Need-first-requires-3
 first-requires-3 c κs = search needs
 
-surface-fine-requires : tie.Need-surface-fine-requires
-surface-fine-requires c κs = search needs
-
-first-requires-4 : tie.Need-first-requires-4
-first-requires-4 c κs = search needs
-
-time-fine-requires : tie.Need-time-fine-requires
-time-fine-requires c κs = search needs
-
-first-requires-5 : tie.Need-first-requires-5
-first-requires-5 c κs = search needs
-
-leaf-days-fine-requires : tie.Need-leaf-days-fine-requires
-leaf-days-fine-requires c κs = search needs
-
-first-requires-6 : tie.Need-first-requires-6
-first-requires-6 c κs = search needs
-
-site-fine-requires : tie.Need-site-fine-requires
-site-fine-requires c κs = search needs
-
-first-requires-7 : tie.Need-first-requires-7
-first-requires-7 c κs = search needs
+check-setting-requires : tie.Need-check-setting-requires
+check-setting-requires c κs = search needs
 
 edition-fine-requires : tie.Need-edition-fine-requires
 edition-fine-requires c κs = search needs
 
-first-requires-8 : tie.Need-first-requires-8
-first-requires-8 c κs = search needs
+first-requires-4 : tie.Need-first-requires-4
+first-requires-4 c κs = search needs
 
 returns : tie.Need-returns
 unfolding stepChecked
-returns c = rw (c .first8 .ensures, c .before .edition-fine .ensures, c .before .before .first7 .ensures, c .before .before .before .site-fine .ensures, c .before .before .before .before .first6 .ensures, c .before .before .before .before .before .leaf-days-fine .ensures, c .before .before .before .before .before .before .first5 .ensures, c .before .before .before .before .before .before .before .time-fine .ensures, c .before .before .before .before .before .before .before .before .first4 .ensures, c .before .before .before .before .before .before .before .before .before .surface-fine .ensures, c .before .before .before .before .before .before .before .before .before .before .first3 .ensures, c .before .before .before .before .before .before .before .before .before .before .before .window-fine .ensures, c .before .before .before .before .before .before .before .before .before .before .before .before .sectors-fine2 .ensures, c .before .before .before .before .before .before .before .before .before .before .before .before .before .sectors-fine .ensures, c .before .before .before .before .before .before .before .before .before .before .before .before .before .before .first2 .ensures, c .before .before .before .before .before .before .before .before .before .before .before .before .before .before .before .reading-fine .ensures, c .before .before .before .before .before .before .before .before .before .before .before .before .before .before .before .before .first .ensures, c .before .before .before .before .before .before .before .before .before .before .before .before .before .before .before .before .before .word-count .ensures) refl
+returns c = rw (c .first4 .ensures, c .before .edition-fine .ensures, c .before .before .check-setting .ensures, c .before .before .before .first3 .ensures, c .before .before .before .before .window-fine .ensures, c .before .before .before .before .before .sectors-fine2 .ensures, c .before .before .before .before .before .before .sectors-fine .ensures, c .before .before .before .before .before .before .before .first2 .ensures, c .before .before .before .before .before .before .before .before .reading-fine .ensures, c .before .before .before .before .before .before .before .before .before .first .ensures, c .before .before .before .before .before .before .before .before .before .before .word-count .ensures) refl
 
 pub check-step-spec : {M : Type 1} → statement M
 check-step-spec =
@@ -75,14 +54,7 @@ check-step-spec =
     sectors-fine-requires-2
     window-fine-requires
     first-requires-3
-    surface-fine-requires
-    first-requires-4
-    time-fine-requires
-    first-requires-5
-    leaf-days-fine-requires
-    first-requires-6
-    site-fine-requires
-    first-requires-7
+    check-setting-requires
     edition-fine-requires
-    first-requires-8
+    first-requires-4
     returns)
