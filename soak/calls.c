@@ -20,10 +20,10 @@ static uint64_t step_of(const job *of, const lent *at)
     const pilgartze_surface *const surface = &of->surface;
     return pilgartze_step(
         of->edition, site->latitude, site->longitude, site->timezone, site->start_day, site->series_step,
-        site->leap_year, site->direct_beam_conversion, site->first_leaf_day, site->last_leaf_day, of->time, surface->tilt,
-        surface->orientation, surface->base_height, surface->height, surface->width, of->reading.diffuse,
-        of->reading.direct, of->reading.reflectivity, at->lists[SUMMER], of->lengths[SUMMER], at->lists[WINTER],
-        of->lengths[WINTER], at->lists[WINDOW], of->lengths[WINDOW], at->results, of->results[STEP]);
+        site->leap_year, site->direct_beam_conversion, site->first_leaf_day, site->last_leaf_day, of->time,
+        surface->tilt, surface->orientation, surface->base_height, surface->height, surface->width,
+        of->reading.diffuse, of->reading.direct, of->reading.reflectivity, at->lists[SUMMER], of->lengths[SUMMER],
+        at->lists[WINTER], of->lengths[WINTER], at->lists[WINDOW], of->lengths[WINDOW], at->results, of->results[STEP]);
 }
 
 static uint64_t irradiance_of(const job *of, const lent *at)

@@ -64,8 +64,8 @@ pilgartze_reading reading_at(const job *of, size_t index);
 
 /* A job with all in range and, for the most part, accepted; now and then of a whole year where those are wanted. Every
  * other one is aimed. Of those with objects at the window every other one has fins on both sides, and the sun often
- * beyond 180 from the way it faces. The winter list is another than the summer list, the same with fewer objects, or the
- * same. */
+ * beyond 180 from the way it faces. The winter list is another than the summer list, the same with fewer objects, or
+ * the same. */
 void sound_job(source *from, job *made, int years);
 /* A sound job, one with some of it spoilt, or anything at all; gives whether it is sound. */
 int any_job(source *from, job *made, int years);

@@ -1,6 +1,6 @@
 /* Runs that differ in their shading objects alone, of either edition: the same objects in another order and number have
- * the same results, and with fewer of them no factor or sum is smaller; with fewer in the list of one season the factors of
- * the other are the same. */
+ * the same results, and with fewer of them no factor or sum is smaller; with fewer in the list of one season the
+ * factors of the other are the same. */
 #include "checks.h"
 
 /* ---- Other objects -------------------------------------------------------------------------------------------- */
@@ -159,7 +159,7 @@ static void compare_with(soak *in, const job *of, const pilgartze_answer *answer
 
 void try_other_objects(soak *in, source *from, const job *of)
 {
-    const enum other ways[] = {REORDERED, FEWER, one_in(from, 2) ? FEWER_IN_SUMMER : FEWER_IN_WINTER};
+    static const enum other ways[] = {REORDERED, FEWER, FEWER_IN_SUMMER, FEWER_IN_WINTER};
     pilgartze_answer answer;
     size_t i;
     lay_out(&in->first, of, 0, 0, 1);

@@ -105,7 +105,7 @@ static const char *wrong_step(soak *in, const by_season *by, size_t step, double
 {
     const int refused = step == end_of(by->run);
     const int past = step > end_of(&by->answer);
-    const uint64_t number = past                           ? step_alone(in, &by->alone, time)
+    const uint64_t number = past                          ? step_alone(in, &by->alone, time)
                             : step == end_of(&by->answer) ? by->answer.number
                                                           : 0;
     const uint8_t *const row = in->second.at.results + (past ? 0 : step * ROW);
@@ -166,8 +166,8 @@ static int has_season(const job *of, enum list season)
     return left > 0;
 }
 
-/* Before the steps both lists count, whatever the steps: a list that is refused 4 by itself is refused 4 with any other;
- * all else is as with either list. */
+/* Before the steps both lists count, whatever the steps: a list that is refused 4 by itself is refused 4 with any
+ * other; all else is as with either list. */
 static const char *wrong_number(soak *in, const job *of, uint64_t number, const uint64_t alone[SEASONS])
 {
     const int damaged[SEASONS] = {alone[0] == PILGARTZE_REFUSED_OBJECT, alone[1] == PILGARTZE_REFUSED_OBJECT};
@@ -185,29 +185,120 @@ static const char *wrong_number(soak *in, const job *of, uint64_t number, const 
     return number == alone[0] && number == alone[1] ? NULL : "not refused as by the list of either season";
 }
 
-void try_by_seasons(soak *in, source *from, const job *of)
+/* The job as it is, or with the last sectors of one list gone, or with a sector of too many objects there. */
+static job with_a_spoilt_list(source *from, const job *of)
 {
+    static uint8_t room[MOST_SECTORS];
+    const uint64_t too_many = PILGARTZE_MOST_OBJECTS + 1;
+    const enum list season = one_in(from, 2) ? SUMMER : WINTER;
+    const size_t sectors = of->lengths[season] / SECTOR;
+    job made = *of;
+    if (sectors == 0 || one_in(from, 2)) {
+        return made;
+    }
+    made.lists[season] = memcpy(room, of->lists[season], of->lengths[season]);
+    if (one_in(from, 2)) {
+        made.lengths[season] = SECTOR * random_below(from, sectors);
+    } else {
+        memcpy(room + SECTOR * random_below(from, sectors) + offsetof(pilgartze_sector, count), &too_many,
+               sizeof too_many);
+    }
+    return made;
+}
+
+/* The list of one season in both places, on the second desk; the run stands on the first. Gives the number. */
+static uint64_t compare_season(soak *in, const job *of, const pilgartze_answer *run, enum list season)
+{
+    by_season by = {of, run, season, with_one_list(of, season), *run};
+    const char *wrong = NULL;
+    lay_out(&in->second, &by.alone, 0, 0, 1);
+    by.answer = tried(in, &in->second, RUN, &by.alone, 1, 0xAA);
+    if (came_to_steps(run->number) && came_to_steps(by.answer.number)) {
+        wrong = wrong_season(in, &by);
+    }
+    if (wrong != NULL) {
+        failed(in, wrong, RUN, of, run);
+    }
+    return by.answer.number;
+}
+
+void try_by_seasons(soak *in, source *from, const job *given)
+{
+    const job made = with_a_spoilt_list(from, given);
+    const job *const of = &made;
     pilgartze_answer run;
     uint64_t alone[SEASONS];
-    const char *wrong = NULL;
-    int i;
+    const char *wrong;
     lay_out(&in->first, of, (unsigned)random_word(from), 0, 1);
     run = tried(in, &in->first, RUN, of, 0, 0x55);
-    for (i = 0; i < SEASONS && wrong == NULL; i++) {
-        by_season by = {of, &run, i == 0 ? SUMMER : WINTER, *of, run};
-        by.alone = with_one_list(of, by.season);
-        lay_out(&in->second, &by.alone, 0, 0, 1);
-        by.answer = tried(in, &in->second, RUN, &by.alone, 1, 0xAA);
-        alone[i] = by.answer.number;
-        wrong = came_to_steps(run.number) && came_to_steps(alone[i]) ? wrong_season(in, &by) : NULL;
-    }
-    wrong = wrong == NULL ? wrong_number(in, of, run.number, alone) : wrong;
+    alone[0] = compare_season(in, of, &run, SUMMER);
+    alone[1] = compare_season(in, of, &run, WINTER);
+    wrong = wrong_number(in, of, run.number, alone);
     if (wrong != NULL) {
         failed(in, wrong, RUN, of, &run);
     }
     if (run.number == 0 && has_season(of, SUMMER) && has_season(of, WINTER)) {
         in->by_seasons += 1;
         in->turned_order += of->site.first_leaf_day > of->site.last_leaf_day ? 1 : 0;
+    }
+}
+
+/* ---- The season of one step ----------------------------------------------------------------------------------- */
+
+/* A time on some day: when it begins or ends, to the last bit, or any. */
+static double some_time(source *from, size_t day)
+{
+    const double begins = 24.0 * (double)day;
+    switch (random_below(from, 4)) {
+    case 0:
+        return begins;
+    case 1:
+        return double_of(bits_of(begins + 24.0) - 1);
+    case 2:
+        return begins + 23.0;
+    default:
+        return begins + uniform(from, 0.0, 24.0);
+    }
+}
+
+/* Any step of the year, with the sun before the surface: by day and by night it is inside the beam then. */
+static void face_the_sun(soak *in, source *from, job *made)
+{
+    const uint64_t leap_year = random_below(from, 2);
+    const size_t days = PILGARTZE_DAYS_IN_YEAR(leap_year);
+    one_step(from, leap_year, some_time(from, one_in(from, 4) ? days - 1 : random_below(from, days)), made);
+    made->site.latitude *= one_in(from, 2) ? -1.0 : 1.0;
+    some_leaf_days(from, made);
+    lay_out(&in->second, made, 0, 0, 1);
+    sun_of_step(in, made);
+    made->surface.orientation = 180.0 - made->azimuth;
+}
+
+/* One season's list is a sector all round, the other's is empty: there the step is refused 10. */
+void try_season(soak *in, source *from)
+{
+    static const enum call calls[] = {RUN, STEP};
+    static job made;
+    const pilgartze_sector all_round = pilgartze_free_sector(0.0, 360.0);
+    const enum list season = one_in(from, 2) ? SUMMER : WINTER;
+    enum list own;
+    size_t i;
+    made = made.lists[0] == NULL ? job_with_room() : made;
+    face_the_sun(in, from, &made);
+    if (!(made.azimuth > -180.0 && made.azimuth < 180.0)) {
+        return; /* it is in no sector */
+    }
+    memcpy(made.lists[season], &all_round, SECTOR);
+    made.lengths[season] = SECTOR;
+    made.lengths[other_season(season)] = 0;
+    lay_out(&in->first, &made, (unsigned)random_word(from), 0, 1);
+    own = season_at(&made.site, made.time);
+    for (i = 0; i < sizeof calls / sizeof calls[0]; i++) {
+        const pilgartze_answer answer = tried(in, &in->first, calls[i], &made, one_in(from, 2), 0);
+        if (answer.number != (own == season ? 0 : PILGARTZE_REFUSED_NO_SECTOR)) {
+            failed(in, "the step does not walk the list of its season", calls[i], &made, &answer);
+        }
+        in->season_steps[own - SUMMER][own == season] += 1;
     }
 }
 
@@ -290,7 +381,8 @@ void try_overlap(soak *in, source *from, const job *of)
     lay_out(on, &alike, (unsigned)random_word(from), 0, 1);
     apart = on->at.lists[inner];
     on->at.lists[inner] = on->at.lists[season] + of_list.from;
-    if (expect_same(in, "lists in the same memory, and another answer or other bytes", RUN, &alike, &alike).number == 0) {
+    if (expect_same(in, "lists in the same memory, and another answer or other bytes", RUN, &alike, &alike).number ==
+        0) {
         in->overlaps += of_list.length > 0 && of_list.length < of->lengths[season] ? 1 : 0;
     }
     expect_same(in, "lists in the same memory, and another answer or other bytes", STEP, &alike, &alike);

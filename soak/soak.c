@@ -55,7 +55,7 @@ static void count_sound(soak *in, const job *made)
 
 static void try_seasons(soak *in, source *from, const job *made)
 {
-    if (one_in(from, 4)) {
+    if (one_in(from, 2)) {
         try_by_seasons(in, from, made);
     }
     if (one_in(from, 8)) {
@@ -105,6 +105,7 @@ static void one_turn(soak *in, job *made)
     try_editions(in, &from, made, FACTOR);
     try_fins(in, &from);
     try_walk(in, &from);
+    try_season(in, &from);
 }
 
 static void all_turns(soak *in, const options *by)
@@ -202,12 +203,15 @@ static void tell_editions(const soak *in)
 /* Each two counts are those of summer and of winter. */
 static void tell_seasons(const soak *in)
 {
-    printf("seasons: %llu accepted runs in both, %llu of them with the first leaf day above the last; by the other "
-           "season's list %llu and %llu rows are others, of these on the first leaf day %llu, on the last %llu, on the "
-           "day before the first %llu, behind the last %llu, and %llu and %llu refused steps are not refused; %llu steps "
-           "behind a refusal in the other season; refused 4 by a list without a step %llu runs; %llu runs with equal "
-           "lists, %llu of them with a step in another season by other leaf days; %llu with the seasons exchanged, %llu "
-           "with lists that overlap; by fewer objects in one list %llu and %llu rows are others\n",
+    printf("seasons: %llu and %llu single steps with a sector, %llu and %llu with an empty list; %llu accepted runs in "
+           "both, %llu of them with the first leaf day above the last; by the other season's list %llu and %llu rows "
+           "are others, of these on the first leaf day %llu, on the last %llu, on the day before the first %llu, behind "
+           "the last %llu, and %llu and %llu refused steps are not refused; %llu steps behind a refusal in the other "
+           "season; refused 4 by a list without a step %llu runs; %llu runs with equal lists, %llu of them with a step "
+           "in another season by other leaf days; %llu with the seasons exchanged, %llu with lists that overlap; by "
+           "fewer objects in one list %llu and %llu rows are others\n",
+           (unsigned long long)in->season_steps[0][1], (unsigned long long)in->season_steps[1][1],
+           (unsigned long long)in->season_steps[0][0], (unsigned long long)in->season_steps[1][0],
            (unsigned long long)in->by_seasons, (unsigned long long)in->turned_order,
            (unsigned long long)in->seasons_apart[0], (unsigned long long)in->seasons_apart[1],
            (unsigned long long)in->edges_apart[FIRST], (unsigned long long)in->edges_apart[LAST],
@@ -223,7 +227,7 @@ static void tell_seasons(const soak *in)
 static void tell_leaf_days(const soak *in)
 {
     int call;
-    printf("leaf days above 365, where the call is otherwise refused 14 or 1, refused 2 to 7, or not before the steps:");
+    printf("leaf days above 365, where the call is otherwise refused 14 or 1, refused 2 to 7, or comes to its steps:");
     for (call = RUN; call < FACTOR; call++) {
         const uint64_t *const seen = in->no_leaf_days[call];
         printf("%s %s %llu, %llu, %llu", call == RUN ? "" : ";", name_of((enum call)call),
@@ -274,15 +278,17 @@ static int too_few_totals(const soak *in)
     return 0;
 }
 
-/* What a wrong season, list or order of refusals would not show in. On the heap there are too few jobs for each of the
- * days about the leaf days. */
+/* What a wrong season, list or order of refusals would not show in. On the heap there are too few jobs for fewer
+ * objects in each season and for each of the days about the leaf days. */
 static int too_few_seasons(const soak *in)
 {
     int seldom = in->by_seasons == 0 || in->turned_order == 0 || in->past_a_refusal == 0 || in->unused_damaged == 0 ||
                  in->equal_lists == 0 || in->other_years == 0 || in->complements == 0 || in->overlaps == 0;
     int i;
     for (i = 0; i < SEASONS; i++) {
-        seldom = seldom || in->seasons_apart[i] == 0 || in->refused_apart[i] == 0 || in->thinned_apart[i] == 0;
+        seldom = seldom || in->seasons_apart[i] == 0 || in->refused_apart[i] == 0 ||
+                 (in->thinned_apart[i] == 0 && !in->on_the_heap) || in->season_steps[i][0] == 0 ||
+                 in->season_steps[i][1] == 0;
     }
     for (i = 0; i < EDGES; i++) {
         seldom = seldom || (in->edges_apart[i] == 0 && !in->on_the_heap);
@@ -346,9 +352,8 @@ static int told(const soak *in, const options *by)
         printf("soak: something was never seen, numbers and walks: %d\n", unseen);
         return 1;
     }
-    return too_seldom_aimed(in) + too_few_days(in) + too_few_totals(in) + too_few_sums(in) + too_few_fins(in) +
-               too_few_seasons(in) >
-           0;
+    return (too_seldom_aimed(in) + too_few_days(in) + too_few_totals(in) + too_few_sums(in) + too_few_fins(in) +
+            too_few_seasons(in)) > 0;
 }
 
 int main(int count, char **words)

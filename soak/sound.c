@@ -16,8 +16,7 @@ static uint8_t *room_for(size_t length)
 
 size_t most_of(enum list list)
 {
-    static const size_t most[LISTS] = {MOST_SERIES,  MOST_SERIES,  MOST_SERIES,
-                                       MOST_SECTORS, MOST_SECTORS, MOST_WINDOW};
+    static const size_t most[LISTS] = {MOST_SERIES, MOST_SERIES, MOST_SERIES, MOST_SECTORS, MOST_SECTORS, MOST_WINDOW};
     return most[list];
 }
 
@@ -39,6 +38,8 @@ job bare_job(void)
     memset(&made, 0, sizeof made);
     made.edition = PILGARTZE_EDITION_1;
     made.site.series_step = 1.0;
+    made.site.first_leaf_day = 90;
+    made.site.last_leaf_day = 300;
     made.run.end = 24.0;
     made.run.step = 1.0;
     made.surface.tilt = 180.0;
@@ -105,7 +106,8 @@ static uint64_t no_leaf_day(source *from)
     case 0:
         return PILGARTZE_DAYS + random_below(from, 2);
     case 1:
-        return random_below(from, PILGARTZE_DAYS) + (UINT64_C(1) << (one_in(from, 2) ? 32 : 9 + random_below(from, 55)));
+        return random_below(from, PILGARTZE_DAYS) +
+               (UINT64_C(1) << (one_in(from, 2) ? 32 : 9 + random_below(from, 55)));
     case 2:
         return UINT64_MAX - random_below(from, 3);
     default:

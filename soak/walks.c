@@ -165,8 +165,7 @@ static void put_in_season(source *from, job *made, enum list season)
     made->sectors = season;
 }
 
-/* One step about noon, all readings 0.5. */
-static void one_step(source *from, job *made)
+void one_step(source *from, uint64_t leap_year, double time, job *made)
 {
     const double half = 0.5;
     int list;
@@ -176,9 +175,10 @@ static void one_step(source *from, job *made)
     made->site.latitude = uniform(from, 30.0, 60.0);
     made->site.longitude = uniform(from, -5.0, 5.0);
     made->site.series_step = 1.0;
-    made->site.start_day = random_below(from, 365);
-    made->time = 24.0 * (double)made->site.start_day + 10.0 + (double)random_below(from, 4);
-    made->run = (pilgartze_run_times){made->time, made->time + 1.0, 1.0};
+    made->site.leap_year = leap_year;
+    made->site.start_day = day_of(time);
+    made->time = time;
+    made->run = (pilgartze_run_times){time, time < 8783.0 ? time + 1.0 : 8784.0, 1.0};
     made->surface = (pilgartze_surface){90.0, 180.0, uniform(from, 0.0, 5.0), 1.5, 1.2};
     made->reading = (pilgartze_reading){half, half, half};
     for (list = DIFFUSE; list <= REFLECTIVITY; list++) {
@@ -191,7 +191,7 @@ static void one_step(source *from, job *made)
     made->results[STEP] = sizeof(pilgartze_row);
     made->results[IRRADIANCE] = sizeof(pilgartze_breakdown);
     made->days = PILGARTZE_DAYS_LENGTH;
-    made->totals = PILGARTZE_TOTALS_LENGTH(0);
+    made->totals = PILGARTZE_TOTALS_LENGTH(leap_year);
 }
 
 void sun_of_step(soak *in, job *of)
@@ -215,7 +215,7 @@ void try_walk(soak *in, source *from)
     const enum list season = in->turn / WALKS % SEASONS == 0 ? SUMMER : WINTER;
     size_t i;
     made = made.lists[0] == NULL ? job_with_room() : made;
-    one_step(from, &made);
+    one_step(from, 0, 24.0 * (double)random_below(from, 365) + 10.0 + (double)random_below(from, 4), &made);
     put_in_season(from, &made, season);
     lay_out(&in->second, &made, 0, 0, 1);
     sun_of_step(in, &made);

@@ -85,16 +85,36 @@ static leaf_days kept_leaf_days(leaf_days taken)
 int takes_other_seasons(void)
 {
     static const char *const flaws[] = {
-        "summer_without_its_first_day",   "summer_without_its_last_day",     "summer_a_day_longer",
-        "summer_of_one_day_is_winter",    "turned_order_not_wrapped",        "turned_order_exchanged",
-        "turned_order_without_new_year",  "turned_order_without_the_end",    "turned_without_its_first_day",
-        "turned_without_its_last_day",    "summer_all_the_year_is_winter",   "seasons_exchanged",
-        "seasons_exchanged_in_the_south", "summer_all_the_year",             "winter_all_the_year",
-        "days_from_1",                    "days_from_the_series_on",         "days_of_8_bits",
-        "day_rounded",                    "season_of_the_end_of_the_step",   "season_of_the_day_before",
-        "leap_day_not_counted",           "day_365_in_winter",               "day_365_for_364_in_a_common_year",
-        "season_kept_from_the_first_step", "season_one_step_late",           "season_of_the_last_step",
-        "summer_shades_in_winter_too",    "first_and_last_exchanged",        "season_of_the_next_hour",
+        "summer_without_its_first_day",
+        "summer_without_its_last_day",
+        "summer_a_day_longer",
+        "summer_of_one_day_is_winter",
+        "turned_order_not_wrapped",
+        "turned_order_exchanged",
+        "turned_order_without_new_year",
+        "turned_order_without_the_end",
+        "turned_without_its_first_day",
+        "turned_without_its_last_day",
+        "summer_all_the_year_is_winter",
+        "seasons_exchanged",
+        "seasons_exchanged_in_the_south",
+        "summer_all_the_year",
+        "winter_all_the_year",
+        "days_from_1",
+        "days_from_the_series_on",
+        "days_of_8_bits",
+        "day_rounded",
+        "season_of_the_end_of_the_step",
+        "season_of_the_day_before",
+        "leap_day_not_counted",
+        "day_365_in_winter",
+        "day_365_for_364_in_a_common_year",
+        "season_kept_from_the_first_step",
+        "season_one_step_late",
+        "season_of_the_last_step",
+        "summer_shades_in_winter_too",
+        "first_and_last_exchanged",
+        "season_of_the_next_hour",
     };
     size_t i;
     for (i = 0; i < sizeof flaws / sizeof flaws[0]; i++) {
@@ -232,8 +252,7 @@ typedef struct season_lists {
 static int sound_list(LIST(sectors))
 {
     const uint8_t none = 0;
-    return sound_factor(PILGARTZE_EDITION_1, 0.0, 180.0, 90.0, 180.0, 0.0, 1.0, 1.0, sectors, sectors_length, &none,
-                        0)
+    return sound_factor(PILGARTZE_EDITION_1, 0.0, 180.0, 90.0, 180.0, 0.0, 1.0, 1.0, sectors, sectors_length, &none, 0)
                .number == 0;
 }
 
@@ -242,7 +261,7 @@ static int lists_refused(const season_lists *of)
 {
     const int meet = of->summer < of->winter + of->winter_length && of->winter < of->summer + of->summer_length;
     return (flaw("lists_of_other_lengths_refused") && of->summer_length != of->winter_length) ||
-           (flaw("empty_list_refused") && (of->summer_length == 0 || of->winter_length == 0)) ||
+           (flaw("one_empty_list_refused") && (of->summer_length == 0) != (of->winter_length == 0)) ||
            (flaw("the_same_memory_refused") && of->summer == of->winter && meet) ||
            (flaw("lists_that_overlap_refused") && of->summer != of->winter && meet);
 }
@@ -274,10 +293,14 @@ static season_lists parts_taken(season_lists of)
 /* The lists that a flaw goes by; a list that it does not look at is the other one. */
 static season_lists lists_taken(season_lists of, int has_summer, int has_winter)
 {
+    const size_t most = SECTOR * PILGARTZE_MOST_SECTORS;
     const int summer = sound_list(of.summer, of.summer_length);
     const int winter = sound_list(of.winter, of.winter_length);
     if (summer && winter) {
         return parts_taken(of);
+    }
+    if (of.summer_length > most || of.winter_length > most) {
+        return of; /* too long lists are seen by all */
     }
     if (summer && (flaw("winter_list_not_checked") || (flaw("unused_list_not_checked") && !has_winter))) {
         return (season_lists){of.summer, of.summer_length, of.summer, of.summer_length};
@@ -315,6 +338,22 @@ static int has_season(const season_run *of, int summer)
     return 0;
 }
 
+/* The lists of a run all of whose steps are in one season by the flaw: that season's, twice. */
+static season_lists lists_of_one_season(const season_run *of, season_lists lists)
+{
+    const int summer = of->steps > 0 && summer_taken(of, of->start);
+    double time = of->start;
+    size_t i;
+    for (i = 0; i < of->steps; i++) {
+        if (summer_taken(of, time) != summer) {
+            return lists;
+        }
+        time += of->step;
+    }
+    return summer ? (season_lists){lists.summer, lists.summer_length, lists.summer, lists.summer_length}
+                  : (season_lists){lists.winter, lists.winter_length, lists.winter, lists.winter_length};
+}
+
 static double value_at(const uint8_t *series, size_t index)
 {
     double value;
@@ -350,8 +389,8 @@ static void change_rows(const season_run *of, RUN_ARGUMENTS, uint8_t *results, s
         const size_t index = place < 0.0 ? 0 : (size_t)place;
         if (is != taken) {
             store_by_list(edition, SITE, time, SURFACE, value_at(diffuse, index), value_at(direct, index),
-                          value_at(reflectivity, index), taken ? summer : winter,
-                          taken ? summer_length : winter_length, window, window_length, results + ROW * i);
+                          value_at(reflectivity, index), taken ? summer : winter, taken ? summer_length : winter_length,
+                          window, window_length, results + ROW * i);
         }
         time += step;
     }
@@ -413,7 +452,7 @@ static pilgartze_answer run_without_leaf_days(RUN_ARGUMENTS, DAYS_LIST, TOTALS_L
 }
 
 /* The number of the refusal that comes before the steps; 7 where there is none, since it is lent no table of days. */
-#define NUMBER_BEFORE_THE_STEPS \
+#define NUMBER_BEFORE_THE_STEPS                                                                                        \
     sound_run(edition, SITE, start, end, step, SURFACE, SERIES, OBJECTS, days, 0, TOTALS, RESULTS).number
 
 pilgartze_answer run_by_seasons(RUN_ARGUMENTS, DAYS_LIST, TOTALS_LIST, RESULTS_LIST)
@@ -435,6 +474,9 @@ pilgartze_answer run_by_seasons(RUN_ARGUMENTS, DAYS_LIST, TOTALS_LIST, RESULTS_L
             return (pilgartze_answer){PILGARTZE_REFUSED_OBJECT, 0, 0, 0.0};
         }
         lists = lists_taken(lists, has_season(&of, 1), has_season(&of, 0));
+    }
+    if (number > PILGARTZE_REFUSED_OBJECT && takes_other_seasons() && !flaw("summer_shades_in_winter_too")) {
+        lists = lists_of_one_season(&of, lists);
     }
     answer = sound_run(edition, SITE, start, end, step, SURFACE, SERIES, lists.summer, lists.summer_length,
                        lists.winter, lists.winter_length, window, window_length, DAYS, TOTALS, RESULTS);
@@ -475,6 +517,21 @@ static uint64_t step_without_leaf_days(STEP_ARGUMENTS, RESULTS_LIST)
     return number;
 }
 
+/* By which number a step is refused with the list of the season that it is not in; 0 where it is not. */
+static uint64_t refused_by_the_other(STEP_ARGUMENTS)
+{
+    const int in_summer = is_summer(first_leaf_day, last_leaf_day, time);
+    uint8_t row[ROW];
+    if (in_summer) {
+        summer = winter;
+        summer_length = winter_length;
+    } else {
+        winter = summer;
+        winter_length = summer_length;
+    }
+    return sound_step(edition, SITE, time, SURFACE, READING, OBJECTS, row, sizeof row);
+}
+
 /* Whether the step walks the summer list. */
 static int step_in_summer(const season_run *of, double time)
 {
@@ -504,12 +561,17 @@ uint64_t step_by_seasons(STEP_ARGUMENTS, RESULTS_LIST)
     if (number != PILGARTZE_REFUSED_OBJECT && lists_refused(&lists)) {
         return PILGARTZE_REFUSED_OBJECT;
     }
+    if (flaw("step_walks_both_lists") && number == PILGARTZE_REFUSED_RESULTS && results_length >= ROW) {
+        number = refused_by_the_other(edition, SITE, time, SURFACE, READING, OBJECTS);
+        if (step_refused(number)) {
+            return number;
+        }
+    }
     lists = lists_taken(lists, has_season(&of, 1), has_season(&of, 0));
-    if (number == PILGARTZE_REFUSED_RESULTS && (takes_other_seasons() || flaw("step_in_summer_always") ||
-                                                flaw("step_in_winter_always"))) {
-        lists = step_in_summer(&of, time)
-                    ? (season_lists){summer, summer_length, summer, summer_length}
-                    : (season_lists){winter, winter_length, winter, winter_length};
+    if (number == PILGARTZE_REFUSED_RESULTS &&
+        (takes_other_seasons() || flaw("step_in_summer_always") || flaw("step_in_winter_always"))) {
+        lists = step_in_summer(&of, time) ? (season_lists){summer, summer_length, summer, summer_length}
+                                          : (season_lists){winter, winter_length, winter, winter_length};
     }
     return sound_step(edition, SITE, time, SURFACE, READING, lists.summer, lists.summer_length, lists.winter,
                       lists.winter_length, window, window_length, RESULTS);
