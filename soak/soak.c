@@ -205,8 +205,8 @@ static void tell_seasons(const soak *in)
 {
     printf("seasons: %llu and %llu single steps with a sector, %llu and %llu with an empty list; %llu accepted runs in "
            "both, %llu of them with the first leaf day above the last; by the other season's list %llu and %llu rows "
-           "are others, of these on the first leaf day %llu, on the last %llu, on the day before the first %llu, behind "
-           "the last %llu, and %llu and %llu refused steps are not refused; %llu steps behind a refusal in the other "
+           "are others, of these on the first leaf day %llu, on the last %llu, on the day before the first %llu, "
+           "behind the last %llu, and %llu and %llu refused steps are not refused; %llu steps behind a refusal in the other "
            "season; refused 4 by a list without a step %llu runs; %llu runs with equal lists, %llu of them with a step "
            "in another season by other leaf days; %llu with the seasons exchanged, %llu with lists that overlap; by "
            "fewer objects in one list %llu and %llu rows are others\n",
