@@ -178,7 +178,7 @@ void one_step(source *from, uint64_t leap_year, double time, job *made)
     made->site.leap_year = leap_year;
     made->site.start_day = day_of(time);
     made->time = time;
-    made->run = (pilgartze_run_times){time, time < 8783.0 ? time + 1.0 : 8784.0, 1.0};
+    made->run = (pilgartze_run_times){time, time < 8783.0 ? time + 0.5 : 8784.0, 1.0};
     made->surface = (pilgartze_surface){90.0, 180.0, uniform(from, 0.0, 5.0), 1.5, 1.2};
     made->reading = (pilgartze_reading){half, half, half};
     for (list = DIFFUSE; list <= REFLECTIVITY; list++) {

@@ -626,7 +626,7 @@ static int site_refused(SITE_NUMBERS)
 
 pilgartze_answer pilgartze_run(RUN_ARGUMENTS, DAYS_LIST, TOTALS_LIST, RESULTS_LIST)
 {
-    uint8_t room[2][SECTORS_ROOM];
+    static __thread uint8_t room[2][SECTORS_ROOM]; /* so that the stack is hardly more than the library's */
     edition = edition_taken(edition);
     if (known_edition(edition)) {
         summer = sectors_taken(summer, summer_length, room[0]);
@@ -648,7 +648,7 @@ pilgartze_answer pilgartze_run(RUN_ARGUMENTS, DAYS_LIST, TOTALS_LIST, RESULTS_LI
 
 uint64_t pilgartze_step(STEP_ARGUMENTS, RESULTS_LIST)
 {
-    uint8_t room[2][SECTORS_ROOM];
+    static __thread uint8_t room[2][SECTORS_ROOM];
     edition = flaw("step_takes_any_edition") && !known_edition(edition) ? PILGARTZE_EDITION_2 : edition_taken(edition);
     if (known_edition(edition)) {
         edition = flaw("step_has_edition_1") ? PILGARTZE_EDITION_1 : edition;
