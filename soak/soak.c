@@ -55,16 +55,16 @@ static void count_sound(soak *in, const job *made)
 
 static void try_seasons(soak *in, source *from, const job *made)
 {
-    if (one_in(from, 2)) {
+    if (one_in(from, 4)) {
         try_by_seasons(in, from, made);
     }
-    if (one_in(from, 8)) {
+    if (one_in(from, 12)) {
         try_equal_lists(in, from, made);
     }
-    if (one_in(from, 8)) {
+    if (one_in(from, 12)) {
         try_overlap(in, from, made);
     }
-    if (one_in(from, 8)) {
+    if (one_in(from, 12)) {
         try_complement(in, from, made);
     }
 }
@@ -86,7 +86,7 @@ static void one_turn(soak *in, job *made)
     if (one_in(&from, 4)) {
         try_no_edition(in, &from, made);
     }
-    if (one_in(&from, 4)) {
+    if (one_in(&from, 8)) {
         try_no_leaf_days(in, &from, made);
     }
     if (one_in(&from, 16)) {
@@ -105,7 +105,9 @@ static void one_turn(soak *in, job *made)
     try_editions(in, &from, made, FACTOR);
     try_fins(in, &from);
     try_walk(in, &from);
-    try_season(in, &from);
+    if (one_in(&from, 2)) {
+        try_season(in, &from);
+    }
 }
 
 static void all_turns(soak *in, const options *by)
