@@ -73,7 +73,7 @@ typedef struct soak {
     uint64_t edges_apart[EDGES];             /* of these, on the days about the first and the last leaf day */
     uint64_t refused_apart[SEASONS];         /* refused steps that have a row by the other season's list */
     uint64_t past_a_refusal;                 /* steps behind that at which the run by their season's list ends */
-    uint64_t unused_damaged;                 /* runs refused 4 by the list of a season without a step */
+    uint64_t unused_damaged[STEP + 1];       /* runs and steps refused 4 by the list of a season without a step */
     uint64_t equal_lists;                    /* accepted runs with equal lists, with other leaf days too */
     uint64_t other_years;                    /* of these, with steps that are in another season then */
     uint64_t complements;                    /* accepted runs in both seasons, with the seasons exchanged */
@@ -140,7 +140,7 @@ const char *wrong_leaf_days(const pilgartze_site *site, uint64_t number);
 void try_no_leaf_days(soak *in, source *from, const job *of);
 /* One step of any time, by itself and as a run, with an empty list in one season. */
 void try_season(soak *in, source *from);
-/* The run, and those with the list of one season in both places. */
+/* The run and the single step, and those with the list of one season in both places. */
 void try_by_seasons(soak *in, source *from, const job *of);
 /* The job with equal lists, or with the same memory twice, by other leaf days. */
 void try_equal_lists(soak *in, source *from, const job *of);

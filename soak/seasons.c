@@ -168,16 +168,10 @@ static int has_season(const job *of, enum list season)
 
 /* Before the steps both lists count, whatever the steps: a list that is refused 4 by itself is refused 4 with any
  * other; all else is as with either list. */
-static const char *wrong_number(soak *in, const job *of, uint64_t number, const uint64_t alone[SEASONS])
+static const char *wrong_number(uint64_t number, const uint64_t alone[SEASONS])
 {
-    const int damaged[SEASONS] = {alone[0] == PILGARTZE_REFUSED_OBJECT, alone[1] == PILGARTZE_REFUSED_OBJECT};
-    if (damaged[0] || damaged[1]) {
-        if (number != PILGARTZE_REFUSED_OBJECT) {
-            return "not refused 4, and by the list of a season it is";
-        }
-        in->unused_damaged += damaged[0] && !damaged[1] && !has_season(of, SUMMER) ? 1 : 0;
-        in->unused_damaged += damaged[1] && !damaged[0] && !has_season(of, WINTER) ? 1 : 0;
-        return NULL;
+    if (alone[0] == PILGARTZE_REFUSED_OBJECT || alone[1] == PILGARTZE_REFUSED_OBJECT) {
+        return number == PILGARTZE_REFUSED_OBJECT ? NULL : "not refused 4, and by the list of a season it is";
     }
     if (came_to_steps(number)) {
         return came_to_steps(alone[0]) && came_to_steps(alone[1]) ? NULL : "not refused as by the list of a season";
@@ -222,6 +216,34 @@ static uint64_t compare_season(soak *in, const job *of, const pilgartze_answer *
     return by.answer.number;
 }
 
+/* The single step: that with the list of its season in both places, but for a list that is refused 4. The job's lists
+ * stand on the first desk. */
+static void try_step_by_seasons(soak *in, const job *of)
+{
+    const pilgartze_answer answer = tried(in, &in->first, STEP, of, 0, 0x55);
+    const int has_time = came_to_steps(answer.number) || answer.number == PILGARTZE_REFUSED_OBJECT;
+    const enum list own = has_time ? season_at(&of->site, of->time) : SUMMER;
+    const enum list order[SEASONS] = {other_season(own), own};
+    uint64_t alone[SEASONS];
+    const char *wrong;
+    int i;
+    for (i = 0; i < SEASONS; i++) {
+        const job with_one = with_one_list(of, order[i]);
+        lay_out(&in->second, &with_one, 0, 0, 1);
+        alone[i] = tried(in, &in->second, STEP, &with_one, 1, 0xAA).number;
+    }
+    wrong = wrong_number(answer.number, alone);
+    if (wrong == NULL && came_to_steps(answer.number) &&
+        (answer.number != alone[1] ||
+         memcmp(in->first.at.results, in->second.at.results, stored_by(STEP, &answer)) != 0)) {
+        wrong = "not the row or the number by the list of its season";
+    }
+    if (wrong != NULL) {
+        failed(in, wrong, STEP, of, &answer);
+    }
+    in->unused_damaged[STEP] += answer.number == PILGARTZE_REFUSED_OBJECT && alone[1] != answer.number ? 1 : 0;
+}
+
 void try_by_seasons(soak *in, source *from, const job *given)
 {
     const job made = with_a_spoilt_list(from, given);
@@ -233,9 +255,13 @@ void try_by_seasons(soak *in, source *from, const job *given)
     run = tried(in, &in->first, RUN, of, 0, 0x55);
     alone[0] = compare_season(in, of, &run, SUMMER);
     alone[1] = compare_season(in, of, &run, WINTER);
-    wrong = wrong_number(in, of, run.number, alone);
+    wrong = wrong_number(run.number, alone);
     if (wrong != NULL) {
         failed(in, wrong, RUN, of, &run);
+    }
+    try_step_by_seasons(in, of);
+    if (run.number == PILGARTZE_REFUSED_OBJECT && alone[0] != alone[1]) {
+        in->unused_damaged[RUN] += has_season(of, alone[0] == run.number ? SUMMER : WINTER) ? 0 : 1;
     }
     if (run.number == 0 && has_season(of, SUMMER) && has_season(of, WINTER)) {
         in->by_seasons += 1;

@@ -205,13 +205,13 @@ static void tell_editions(const soak *in)
 /* Each two counts are those of summer and of winter. */
 static void tell_seasons(const soak *in)
 {
-    printf("seasons: %llu and %llu single steps with a sector, %llu and %llu with an empty list; %llu accepted runs in "
-           "both, %llu of them with the first leaf day above the last; by the other season's list %llu and %llu rows "
-           "are others, of these on the first leaf day %llu, on the last %llu, on the day before the first %llu, "
-           "behind the last %llu, and %llu and %llu refused steps are not refused; %llu steps behind a refusal in the other "
-           "season; refused 4 by a list without a step %llu runs; %llu runs with equal lists, %llu of them with a step "
-           "in another season by other leaf days; %llu with the seasons exchanged, %llu with lists that overlap; by "
-           "fewer objects in one list %llu and %llu rows are others\n",
+    printf("seasons: %llu and %llu single steps with a sector, %llu and %llu with an empty list; %llu accepted runs "
+           "in both, %llu of them with the first leaf day above the last; by the other season's list %llu and %llu "
+           "rows are others, of these on the first leaf day %llu, on the last %llu, on the day before the first "
+           "%llu, behind the last %llu, and %llu and %llu refused steps are not refused; %llu steps behind a refusal "
+           "in the other season; refused 4 by a list without a step %llu runs and %llu steps; %llu runs with equal "
+           "lists, %llu of them with a step in another season by other leaf days; %llu with the seasons exchanged, "
+           "%llu with lists that overlap; by fewer objects in one list %llu and %llu rows are others\n",
            (unsigned long long)in->season_steps[0][1], (unsigned long long)in->season_steps[1][1],
            (unsigned long long)in->season_steps[0][0], (unsigned long long)in->season_steps[1][0],
            (unsigned long long)in->by_seasons, (unsigned long long)in->turned_order,
@@ -219,7 +219,8 @@ static void tell_seasons(const soak *in)
            (unsigned long long)in->edges_apart[FIRST], (unsigned long long)in->edges_apart[LAST],
            (unsigned long long)in->edges_apart[BEFORE], (unsigned long long)in->edges_apart[BEHIND],
            (unsigned long long)in->refused_apart[0], (unsigned long long)in->refused_apart[1],
-           (unsigned long long)in->past_a_refusal, (unsigned long long)in->unused_damaged,
+           (unsigned long long)in->past_a_refusal,
+           (unsigned long long)in->unused_damaged[RUN], (unsigned long long)in->unused_damaged[STEP],
            (unsigned long long)in->equal_lists, (unsigned long long)in->other_years,
            (unsigned long long)in->complements, (unsigned long long)in->overlaps,
            (unsigned long long)in->thinned_apart[0], (unsigned long long)in->thinned_apart[1]);
@@ -284,8 +285,9 @@ static int too_few_totals(const soak *in)
  * objects in each season and for each of the days about the leaf days. */
 static int too_few_seasons(const soak *in)
 {
-    int seldom = in->by_seasons == 0 || in->turned_order == 0 || in->past_a_refusal == 0 || in->unused_damaged == 0 ||
-                 in->equal_lists == 0 || in->other_years == 0 || in->complements == 0 || in->overlaps == 0;
+    int seldom = in->by_seasons == 0 || in->turned_order == 0 || in->past_a_refusal == 0 ||
+                 in->unused_damaged[RUN] == 0 || in->unused_damaged[STEP] == 0 || in->equal_lists == 0 ||
+                 in->other_years == 0 || in->complements == 0 || in->overlaps == 0;
     int i;
     for (i = 0; i < SEASONS; i++) {
         seldom = seldom || in->seasons_apart[i] == 0 || in->refused_apart[i] == 0 ||

@@ -290,17 +290,23 @@ static season_lists parts_taken(season_lists of)
     return of;
 }
 
+/* Whether a list has too many sectors, which all flaws see. */
+static int too_long(const season_lists *of)
+{
+    const size_t most = SECTOR * PILGARTZE_MOST_SECTORS;
+    return of->summer_length > most || of->winter_length > most;
+}
+
 /* The lists that a flaw goes by; a list that it does not look at is the other one. */
 static season_lists lists_taken(season_lists of, int has_summer, int has_winter)
 {
-    const size_t most = SECTOR * PILGARTZE_MOST_SECTORS;
     const int summer = sound_list(of.summer, of.summer_length);
     const int winter = sound_list(of.winter, of.winter_length);
     if (summer && winter) {
         return parts_taken(of);
     }
-    if (of.summer_length > most || of.winter_length > most) {
-        return of; /* too long lists are seen by all */
+    if (too_long(&of)) {
+        return of;
     }
     if (summer && (flaw("winter_list_not_checked") || (flaw("unused_list_not_checked") && !has_winter))) {
         return (season_lists){of.summer, of.summer_length, of.summer, of.summer_length};
@@ -542,6 +548,21 @@ static int step_in_summer(const season_run *of, double time)
                                                : summer_taken(of, time);
 }
 
+/* The lists that a flaw goes by at a single step, which was refused 7 where all before that is well. */
+static season_lists lists_of_step(const season_run *of, uint64_t number, season_lists given)
+{
+    const season_lists summer = {given.summer, given.summer_length, given.summer, given.summer_length};
+    const season_lists winter = {given.winter, given.winter_length, given.winter, given.winter_length};
+    if (flaw("step_checks_the_list_of_its_season") && !too_long(&given)) {
+        return is_summer(of->leaf.first, of->leaf.last, of->start) ? summer : winter;
+    }
+    if (number == PILGARTZE_REFUSED_RESULTS &&
+        (takes_other_seasons() || flaw("step_in_summer_always") || flaw("step_in_winter_always"))) {
+        return step_in_summer(of, of->start) ? summer : winter;
+    }
+    return lists_taken(given, 1, 1);
+}
+
 uint64_t step_by_seasons(STEP_ARGUMENTS, RESULTS_LIST)
 {
     const leaf_days taken = kept_leaf_days(leaf_days_taken((leaf_days){first_leaf_day, last_leaf_day}, leap_year));
@@ -567,12 +588,7 @@ uint64_t step_by_seasons(STEP_ARGUMENTS, RESULTS_LIST)
             return number;
         }
     }
-    lists = lists_taken(lists, has_season(&of, 1), has_season(&of, 0));
-    if (number == PILGARTZE_REFUSED_RESULTS &&
-        (takes_other_seasons() || flaw("step_in_summer_always") || flaw("step_in_winter_always"))) {
-        lists = step_in_summer(&of, time) ? (season_lists){summer, summer_length, summer, summer_length}
-                                          : (season_lists){winter, winter_length, winter, winter_length};
-    }
+    lists = lists_of_step(&of, number, lists);
     return sound_step(edition, SITE, time, SURFACE, READING, lists.summer, lists.summer_length, lists.winter,
                       lists.winter_length, window, window_length, RESULTS);
 }
