@@ -72,12 +72,14 @@ static size_t end_of(const pilgartze_answer *answer)
     return (size_t)(answer->number == 0 ? answer->count : answer->step);
 }
 
-static void count_edges(soak *in, const pilgartze_site *site, uint64_t day)
+/* The days before the first and behind the last count in winter only: with summer all the year they are leaf days. */
+static void count_edges(soak *in, const pilgartze_site *site, enum list season, uint64_t day)
 {
+    const int winter = season == WINTER;
     in->edges_apart[FIRST] += day == site->first_leaf_day ? 1 : 0;
     in->edges_apart[LAST] += day == site->last_leaf_day ? 1 : 0;
-    in->edges_apart[BEFORE] += day + 1 == site->first_leaf_day ? 1 : 0;
-    in->edges_apart[BEHIND] += day == site->last_leaf_day + 1 ? 1 : 0;
+    in->edges_apart[BEFORE] += winter && day + 1 == site->first_leaf_day ? 1 : 0;
+    in->edges_apart[BEHIND] += winter && day == site->last_leaf_day + 1 ? 1 : 0;
 }
 
 /* A step by itself, with its season's list in both places: the number, and its row on the second desk. */
@@ -130,7 +132,7 @@ static void count_apart(soak *in, const by_season *by, size_t step, double time)
         in->refused_apart[other - SUMMER] += 1;
     } else if (memcmp(in->first.at.results + step * ROW, in->second.at.results + step * ROW, ROW) != 0) {
         in->seasons_apart[other - SUMMER] += 1;
-        count_edges(in, &by->of->site, day_of(time));
+        count_edges(in, &by->of->site, other, day_of(time));
     }
 }
 
