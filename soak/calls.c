@@ -6,11 +6,12 @@ static pilgartze_answer run_of(const job *of, const lent *at)
     const pilgartze_surface *const surface = &of->surface;
     return pilgartze_run(
         of->edition, site->latitude, site->longitude, site->timezone, site->start_day, site->series_step,
-        site->leap_year, site->direct_beam_conversion, of->run.start, of->run.end, of->run.step, surface->tilt,
-        surface->orientation, surface->base_height, surface->height, surface->width, at->lists[DIFFUSE],
-        of->lengths[DIFFUSE], at->lists[DIRECT], of->lengths[DIRECT], at->lists[REFLECTIVITY],
-        of->lengths[REFLECTIVITY], at->lists[SECTORS], of->lengths[SECTORS], at->lists[WINDOW], of->lengths[WINDOW],
-        at->days, of->days, at->totals, of->totals, at->results, of->results[RUN]);
+        site->leap_year, site->direct_beam_conversion, site->first_leaf_day, site->last_leaf_day, of->run.start,
+        of->run.end, of->run.step, surface->tilt, surface->orientation, surface->base_height, surface->height,
+        surface->width, at->lists[DIFFUSE], of->lengths[DIFFUSE], at->lists[DIRECT], of->lengths[DIRECT],
+        at->lists[REFLECTIVITY], of->lengths[REFLECTIVITY], at->lists[SUMMER], of->lengths[SUMMER],
+        at->lists[WINTER], of->lengths[WINTER], at->lists[WINDOW], of->lengths[WINDOW], at->days, of->days,
+        at->totals, of->totals, at->results, of->results[RUN]);
 }
 
 static uint64_t step_of(const job *of, const lent *at)
@@ -19,10 +20,10 @@ static uint64_t step_of(const job *of, const lent *at)
     const pilgartze_surface *const surface = &of->surface;
     return pilgartze_step(
         of->edition, site->latitude, site->longitude, site->timezone, site->start_day, site->series_step,
-        site->leap_year, site->direct_beam_conversion, of->time, surface->tilt, surface->orientation,
-        surface->base_height, surface->height, surface->width, of->reading.diffuse, of->reading.direct,
-        of->reading.reflectivity, at->lists[SECTORS], of->lengths[SECTORS], at->lists[WINDOW], of->lengths[WINDOW],
-        at->results, of->results[STEP]);
+        site->leap_year, site->direct_beam_conversion, site->first_leaf_day, site->last_leaf_day, of->time,
+        surface->tilt, surface->orientation, surface->base_height, surface->height, surface->width,
+        of->reading.diffuse, of->reading.direct, of->reading.reflectivity, at->lists[SUMMER], of->lengths[SUMMER],
+        at->lists[WINTER], of->lengths[WINTER], at->lists[WINDOW], of->lengths[WINDOW], at->results, of->results[STEP]);
 }
 
 static uint64_t irradiance_of(const job *of, const lent *at)
@@ -31,17 +32,17 @@ static uint64_t irradiance_of(const job *of, const lent *at)
     const pilgartze_surface *const surface = &of->surface;
     return pilgartze_irradiance(
         site->latitude, site->longitude, site->timezone, site->start_day, site->series_step, site->leap_year,
-        site->direct_beam_conversion, of->time, surface->tilt, surface->orientation, surface->base_height,
-        surface->height, surface->width, of->reading.diffuse, of->reading.direct, of->reading.reflectivity,
-        at->results, of->results[IRRADIANCE]);
+        site->direct_beam_conversion, site->first_leaf_day, site->last_leaf_day, of->time, surface->tilt,
+        surface->orientation, surface->base_height, surface->height, surface->width, of->reading.diffuse,
+        of->reading.direct, of->reading.reflectivity, at->results, of->results[IRRADIANCE]);
 }
 
 static pilgartze_factor_answer factor_of(const job *of, const lent *at)
 {
     const pilgartze_surface *const surface = &of->surface;
     return pilgartze_factor(of->edition, of->altitude, of->azimuth, surface->tilt, surface->orientation,
-                            surface->base_height, surface->height, surface->width, at->lists[SECTORS],
-                            of->lengths[SECTORS], at->lists[WINDOW], of->lengths[WINDOW]);
+                            surface->base_height, surface->height, surface->width, at->lists[of->sectors],
+                            of->lengths[of->sectors], at->lists[WINDOW], of->lengths[WINDOW]);
 }
 
 pilgartze_answer answer_to(enum call call, const job *of, const lent *lists)
@@ -73,8 +74,8 @@ const char *name_of(enum call call)
 
 int can_give(enum call call, uint64_t number)
 {
-    static const char *const marks[CALLS] = {"xxxxxxxxxxxx..x", "xxxxx.xxxxxx..x", "xxxx..xx.......",
-                                             "x..xx...xxxx..x"};
+    static const char *const marks[CALLS] = {"xxxxxxxxxxxx..xx", "xxxxx.xxxxxx..xx", "xxxx..xx.......x",
+                                             "x..xx...xxxx..x."};
     return number < NUMBERS && marks[call][number] == 'x';
 }
 

@@ -17,7 +17,7 @@ pilgartze_answer answer_to(enum call call, const job *of, const lent *lists);
 const char *name_of(enum call call);
 
 /* No number that a call gives is as large. */
-#define NUMBERS (PILGARTZE_REFUSED_EDITION + 1)
+#define NUMBERS (PILGARTZE_REFUSED_LEAF_DAY + 1)
 
 /* Whether a call can give that number at all. */
 int can_give(enum call call, uint64_t number);

@@ -36,10 +36,17 @@ static const char *wrong_refusal(enum call call, const job *of, const pilgartze_
     return answer->step < step_count(&of->run) ? NULL : "refused at a step that the run does not have";
 }
 
-static int too_many_objects(const job *of)
+static int too_many_sectors(const job *of, enum list list)
 {
-    return of->lengths[SECTORS] > PILGARTZE_MOST_SECTORS * sizeof(pilgartze_sector) ||
-           of->lengths[WINDOW] > PILGARTZE_MOST_WINDOW_OBJECTS * sizeof(pilgartze_window_object);
+    return of->lengths[list] > PILGARTZE_MOST_SECTORS * sizeof(pilgartze_sector);
+}
+
+/* Both seasons' lists count, whatever the steps; the factor has one. */
+static int too_many_objects(enum call call, const job *of)
+{
+    const int sectors = call == FACTOR ? too_many_sectors(of, of->sectors)
+                                       : too_many_sectors(of, SUMMER) || too_many_sectors(of, WINTER);
+    return sectors || of->lengths[WINDOW] > PILGARTZE_MOST_WINDOW_OBJECTS * sizeof(pilgartze_window_object);
 }
 
 static const char *wrong_answer(enum call call, const job *of, const pilgartze_answer *answer)
@@ -47,6 +54,9 @@ static const char *wrong_answer(enum call call, const job *of, const pilgartze_a
     const char *wrong = call == IRRADIANCE ? NULL : wrong_edition(of->edition, answer->number);
     if (!can_give(call, answer->number)) {
         return "a number that this call does not give";
+    }
+    if (wrong == NULL && call != FACTOR) {
+        wrong = wrong_leaf_days(&of->site, answer->number);
     }
     if (wrong == NULL && call == RUN) {
         wrong = wrong_length(of, answer->number);
@@ -57,7 +67,7 @@ static const char *wrong_answer(enum call call, const job *of, const pilgartze_a
     if (answer->step != 0) {
         return "accepted, and the step is not 0";
     }
-    if (call != IRRADIANCE && too_many_objects(of)) {
+    if (call != IRRADIANCE && too_many_objects(call, of)) {
         return "accepted, and a list has more objects than it may";
     }
     if (answer->sum != answer->sum) {
@@ -85,7 +95,7 @@ static const char *wrong_words(const uint8_t *results, size_t length)
     return NULL;
 }
 
-static const char *wrong_row(soak *in, enum call call, const job *of, const pilgartze_row *row)
+static const char *wrong_row(soak *in, enum call call, const job *of, enum list season, const pilgartze_row *row)
 {
     const int overhead = row->altitude == 90.0;
     const int shaded = row->factor < 1.0;
@@ -101,7 +111,7 @@ static const char *wrong_row(soak *in, enum call call, const job *of, const pilg
     if (!same_double(row->total, row->direct + row->diffuse)) {
         return "total is not direct + diffuse";
     }
-    return wrong_walk(in, call, of, row->altitude, row->azimuth, 0);
+    return wrong_walk(in, call, of, season, row->altitude, row->azimuth, 0);
 }
 
 /* What kind of step a sum has, where it is above 0. */
@@ -146,12 +156,14 @@ static const char *wrong_rows(soak *in, const uint8_t *results, enum call call, 
                               const pilgartze_answer *answer)
 {
     const size_t rows = stored_by(call, answer) / sizeof(pilgartze_row);
+    double time = call == RUN ? of->run.start : of->time;
     const char *wrong = NULL;
     size_t i;
     for (i = 0; i < rows && wrong == NULL; i++) {
         pilgartze_row row;
         memcpy(&row, results + i * sizeof row, sizeof row);
-        wrong = wrong_row(in, call, of, &row);
+        wrong = wrong_row(in, call, of, season_at(&of->site, time), &row);
+        time += of->run.step;
     }
     return wrong == NULL && call == RUN && answer->number == 0 ? wrong_sum(in, results, of, answer) : wrong;
 }
@@ -182,7 +194,7 @@ static const char *wrong_results(soak *in, const desk *on, enum call call, const
         wrong = wrong_totals(on, of, answer);
     }
     if (wrong == NULL && call == FACTOR && came_to_steps(answer->number)) {
-        wrong = wrong_walk(in, FACTOR, of, of->altitude, of->azimuth, answer->number);
+        wrong = wrong_walk(in, FACTOR, of, of->sectors, of->altitude, of->azimuth, answer->number);
     }
     return wrong;
 }
@@ -314,6 +326,7 @@ void try_step_of_run(soak *in, source *from, const job *of)
     }
     single.time = step_time(&of->run, step);
     single.reading = reading_at(of, series_index(&of->site, single.time));
+    single.sectors = season_at(&of->site, single.time);
     single.results[STEP] = sizeof(pilgartze_row);
     single.results[IRRADIANCE] = sizeof(pilgartze_breakdown);
     in->steps += 1;
@@ -325,7 +338,7 @@ void try_step_of_run(soak *in, source *from, const job *of)
         }
         sun_of_step(in, &single);
         in->overhead_refused += single.altitude == 90.0 ? 1 : 0;
-        wrong = wrong_walk(in, RUN, &single, single.altitude, single.azimuth, run.number);
+        wrong = wrong_walk(in, RUN, &single, single.sectors, single.altitude, single.azimuth, run.number);
         if (wrong != NULL) {
             failed(in, wrong, RUN, &single, &run);
         }

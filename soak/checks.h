@@ -12,6 +12,15 @@ typedef struct walk {
     size_t place;
 } walk;
 
+/* The lists of sectors, from SUMMER on. */
+#define SEASONS 2
+
+/* What a call with a leaf day above 365 gives with others: 14 or 1, which come first, 2 to 7, or none of these. */
+enum otherwise { REFUSED_FIRST, REFUSED_LATER, NOT_REFUSED, OTHERWISE };
+
+/* The first and the last leaf day, the days before the first and behind the last. */
+enum edge { FIRST, LAST, BEFORE, BEHIND, EDGES };
+
 /* Where a run of the program stands. */
 typedef struct soak {
     uint64_t seed;
@@ -21,7 +30,7 @@ typedef struct soak {
     uint8_t days[PILGARTZE_DAYS_LENGTH];        /* the table of the first run */
     uint8_t totals[PILGARTZE_TOTALS_LENGTH(1)]; /* the totals of the last that came to its steps */
     uint64_t seen[CALLS][NUMBERS];
-    uint64_t walks[CALLS][NO_SECTOR][PILGARTZE_MOST_SECTORS]; /* inside the beam, by place */
+    uint64_t walks[CALLS][SEASONS][NO_SECTOR][PILGARTZE_MOST_SECTORS]; /* inside the beam, by place */
     uint64_t sound;            /* sound jobs */
     uint64_t aimed;            /* of these, with the sun square on the glass or overhead at a step */
     uint64_t square;           /* of these, with it square on the glass */
@@ -56,6 +65,20 @@ typedef struct soak {
     uint64_t beyond_apart;     /* of these, with a difference beyond 180 */
     uint64_t fins_apart[2][2]; /* factors that are another without the fins of one side: by edition, right and left */
     uint64_t fins_alone[2][2]; /* factors of fins alone, not 0 nor 1: right and left, within 180 and beyond */
+    uint64_t season_steps[SEASONS][2];       /* steps by themselves, in a season without and with a sector */
+    uint64_t no_leaf_days[CALLS][OTHERWISE]; /* calls with a leaf day above 365, by what they give otherwise */
+    uint64_t by_seasons;                     /* accepted runs with steps in both seasons, held to each season's list */
+    uint64_t turned_order;                   /* of these, with the first leaf day above the last */
+    uint64_t seasons_apart[SEASONS];         /* rows with another factor by the other season's list */
+    uint64_t edges_apart[EDGES];             /* of these, on the days about the first and the last leaf day */
+    uint64_t refused_apart[SEASONS];         /* refused steps that have a row by the other season's list */
+    uint64_t past_a_refusal;                 /* steps behind that at which the run by their season's list ends */
+    uint64_t unused_damaged[STEP + 1];       /* runs and steps refused 4 by the list of a season without a step */
+    uint64_t equal_lists;                    /* accepted runs with equal lists, with other leaf days too */
+    uint64_t other_years;                    /* of these, with steps that are in another season then */
+    uint64_t complements;                    /* accepted runs in both seasons, with the seasons exchanged */
+    uint64_t overlaps;                       /* accepted runs with lists that overlap, but are not equal */
+    uint64_t thinned_apart[SEASONS];         /* rows with another factor by fewer objects in one season's list */
 } soak;
 
 /* Ends the program, after it has told what does not hold of which call of which job. */
@@ -88,7 +111,10 @@ void try_step_of_run(soak *in, source *from, const job *of);
 /* One step whose walk ends in the way and at the place of this turn, as a run, by itself and as a factor call. */
 void try_walk(soak *in, source *from);
 /* Counts the walk of a step with that sun, and says what is wrong with its number, or NULL. */
-const char *wrong_walk(soak *in, enum call call, const job *of, double altitude, double azimuth, uint64_t number);
+const char *wrong_walk(soak *in, enum call call, const job *of, enum list season, double altitude, double azimuth,
+                       uint64_t number);
+/* A job of one step at that time, all readings 0.5. */
+void one_step(source *from, uint64_t leap_year, double time, job *made);
 /* Prints how many walks ended in each way at each place; how many of these there were none of. */
 int tell_walks(const soak *in);
 /* Puts the sun of the single step into the job, for the factor. */
@@ -108,6 +134,20 @@ void try_fins(soak *in, source *from);
 /* Whether there are fins on both sides of the window; whether the factor's sun is at a difference beyond 180. */
 int has_both_fins(const job *of);
 int is_beyond(const job *of);
+/* What is wrong with a number by the leaf days alone, or NULL. */
+const char *wrong_leaf_days(const pilgartze_site *site, uint64_t number);
+/* The job with a leaf day that there is not. */
+void try_no_leaf_days(soak *in, source *from, const job *of);
+/* One step of any time, by itself and as a run, with an empty list in one season. */
+void try_season(soak *in, source *from);
+/* The run and the single step, and those with the list of one season in both places. */
+void try_by_seasons(soak *in, source *from, const job *of);
+/* The job with equal lists, or with the same memory twice, by other leaf days. */
+void try_equal_lists(soak *in, source *from, const job *of);
+/* The job with the one season's list a part of the other's, and with it in the same memory. */
+void try_overlap(soak *in, source *from, const job *of);
+/* The job with lists exchanged, and with the leaf days of the other season. */
+void try_complement(soak *in, source *from, const job *of);
 /* Two threads at once, with the same lists. */
 void try_threads(soak *in, source *from, const job *of);
 /* One list lent for all three series. */

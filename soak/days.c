@@ -97,8 +97,8 @@ static size_t shorter(source *from, size_t length)
     return one_in(from, 2) ? length - 1 : random_below(from, length);
 }
 
-/* The job with table and totals long enough, and with one of them too short: refused 7, but 14 and 1 to 6 come before.
- * The lists stand on the first desk already. */
+/* The job with table and totals long enough, and with one of them too short: refused 7, but 14, 15 and 1 to 6 come
+ * before. The lists stand on the first desk already. */
 void try_short_tables(soak *in, source *from, const job *of)
 {
     static const char *const wrong[] = {"with a short table of days not the number that it should be",

@@ -312,8 +312,8 @@ void try_fins(soak *in, source *from)
     made = made.lists[0] == NULL ? job_with_room() : made;
     made.surface = (pilgartze_surface){90.0, 180.0, 1.0, uniform(from, 0.1, 3.0), uniform(from, 0.1, 3.0)};
     made.altitude = uniform(from, 0.0, 90.0);
-    memcpy(made.lists[SECTORS], &all_round, sizeof all_round);
-    made.lengths[SECTORS] = sizeof all_round;
+    memcpy(made.lists[made.sectors], &all_round, sizeof all_round);
+    made.lengths[made.sectors] = sizeof all_round;
     made.edition = PILGARTZE_EDITION_1;
     place_fins(&fins, PILGARTZE_LEFT_FIN, 180.0, &made);
     answer.sum = factor_of_fins(in, &made);

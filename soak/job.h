@@ -6,7 +6,7 @@
 #include "random.h"
 
 /* The lists that are only read. */
-enum list { DIFFUSE, DIRECT, REFLECTIVITY, SECTORS, WINDOW, LISTS };
+enum list { DIFFUSE, DIRECT, REFLECTIVITY, SUMMER, WINTER, WINDOW, LISTS };
 
 enum call { RUN, STEP, IRRADIANCE, FACTOR, CALLS };
 
@@ -29,6 +29,7 @@ typedef struct job {
     double azimuth;
     uint8_t *lists[LISTS];
     size_t lengths[LISTS];
+    enum list sectors;     /* the list that the factor takes: SUMMER or WINTER */
     size_t results[CALLS]; /* the lengths of the results lists */
     size_t days;           /* the length of the run's table of days */
     size_t totals;         /* and of its totals */
@@ -39,6 +40,12 @@ size_t most_of(enum list list);
 uint64_t some_edition(source *from);
 /* Any other whole number: about these two, beside them by a high bit, or of any bits. */
 uint64_t no_edition(source *from);
+/* Leaf days in range: any, about the ends of the year, or about the day of the single step. */
+void some_leaf_days(source *from, job *made);
+/* At least one of them above 365. */
+void no_leaf_days(source *from, job *made);
+/* The other season. */
+enum list other_season(enum list season);
 /* Takes the room for the lists. */
 job job_with_room(void);
 /* The numbers of a day on a surface that faces the ground, so that no step needs a sector; no lists. */
@@ -48,16 +55,22 @@ job bare_job(void);
 size_t step_count(const pilgartze_run_times *run);
 double step_time(const pilgartze_run_times *run, size_t step);
 size_t series_index(const pilgartze_site *site, double time);
+/* The day of a step, from 0, and the list that it walks: SUMMER or WINTER. */
+size_t day_of(double time);
+enum list season_at(const pilgartze_site *site, double time);
 /* How many days a month has, which is counted from 0. */
 size_t month_length(uint64_t leap_year, size_t month);
 pilgartze_reading reading_at(const job *of, size_t index);
 
 /* A job with all in range and, for the most part, accepted; now and then of a whole year where those are wanted. Every
  * other one is aimed. Of those with objects at the window every other one has fins on both sides, and the sun often
- * beyond 180 from the way it faces. */
+ * beyond 180 from the way it faces. The winter list is another than the summer list, the same with fewer objects, or
+ * the same. */
 void sound_job(source *from, job *made, int years);
 /* A sound job, one with some of it spoilt, or anything at all; gives whether it is sound. */
 int any_job(source *from, job *made, int years);
+/* Some of a sector's objects gone, from the last on. */
+void thin_sector(source *from, pilgartze_sector *sector);
 /* Another edition, site and surface for the same lists. */
 void other_numbers(source *from, job *made);
 

@@ -1,5 +1,6 @@
 /* Runs that differ in their shading objects alone, of either edition: the same objects in another order and number have
- * the same results, and with fewer of them no sum is smaller. */
+ * the same results, and with fewer of them no factor or sum is smaller; with fewer in the list of one season the
+ * factors of the other are the same. */
 #include "checks.h"
 
 /* ---- Other objects -------------------------------------------------------------------------------------------- */
@@ -38,36 +39,41 @@ static void reorder_sector(pilgartze_sector *sector)
                               sizeof sector->objects[0]);
 }
 
-/* Some of the objects gone, from the last on. */
-static void thin_sector(source *from, pilgartze_sector *sector)
+/* What becomes of the objects: all reordered, some of them gone, or gone from the list of one season alone. */
+enum other { REORDERED, FEWER, FEWER_IN_SUMMER, FEWER_IN_WINTER };
+
+/* A season's list in the room. */
+static void other_sectors(source *from, const job *of, enum list season, enum other how, uint8_t *room, job *made)
 {
-    const size_t left = random_below(from, (size_t)sector->count + 1);
-    memset(&sector->objects[left], 0, (PILGARTZE_MOST_OBJECTS - left) * sizeof sector->objects[0]);
-    sector->count = left;
+    const int kept = (how == FEWER_IN_SUMMER && season == WINTER) || (how == FEWER_IN_WINTER && season == SUMMER);
+    size_t at;
+    made->lists[season] = memcpy(room, of->lists[season], of->lengths[season]);
+    for (at = 0; at < of->lengths[season] && !kept; at += sizeof(pilgartze_sector)) {
+        pilgartze_sector sector;
+        memcpy(&sector, room + at, sizeof sector);
+        if (how == REORDERED) {
+            reorder_sector(&sector);
+        } else {
+            thin_sector(from, &sector);
+        }
+        memcpy(room + at, &sector, sizeof sector);
+    }
 }
 
-/* The job's objects reordered, or where they are to be fewer, with some of them gone. */
-static job with_other_objects(source *from, const job *of, int fewer)
+static job with_other_objects(source *from, const job *of, enum other how)
 {
-    static uint8_t sectors[PILGARTZE_MOST_SECTORS * sizeof(pilgartze_sector)];
+    static uint8_t sectors[SEASONS][PILGARTZE_MOST_SECTORS * sizeof(pilgartze_sector)];
     static uint8_t window[PILGARTZE_MOST_WINDOW_OBJECTS * sizeof(pilgartze_window_object)];
-    const size_t objects = of->lengths[WINDOW] / sizeof(pilgartze_window_object);
+    size_t left = of->lengths[WINDOW] / sizeof(pilgartze_window_object);
     job made = *of;
-    size_t at, left;
-    made.lists[SECTORS] = memcpy(sectors, of->lists[SECTORS], of->lengths[SECTORS]);
+    other_sectors(from, of, SUMMER, how, sectors[0], &made);
+    other_sectors(from, of, WINTER, how, sectors[1], &made);
     made.lists[WINDOW] = memcpy(window, of->lists[WINDOW], of->lengths[WINDOW]);
-    for (at = 0; at < of->lengths[SECTORS]; at += sizeof(pilgartze_sector)) {
-        pilgartze_sector sector;
-        memcpy(&sector, sectors + at, sizeof sector);
-        if (fewer) {
-            thin_sector(from, &sector);
-        } else {
-            reorder_sector(&sector);
-        }
-        memcpy(sectors + at, &sector, sizeof sector);
+    if (how == REORDERED) {
+        left = reordered(window, left, PILGARTZE_MOST_WINDOW_OBJECTS, sizeof(pilgartze_window_object));
+    } else if (how == FEWER) {
+        left = random_below(from, left + 1);
     }
-    left = fewer ? random_below(from, objects + 1)
-                 : reordered(window, objects, PILGARTZE_MOST_WINDOW_OBJECTS, sizeof(pilgartze_window_object));
     made.lengths[WINDOW] = left * sizeof(pilgartze_window_object);
     return made;
 }
@@ -92,8 +98,42 @@ static const char *wrong_with_fewer(const uint8_t *totals, const uint8_t *with_f
     return NULL;
 }
 
+/* Whether objects may be gone at a step of that season. */
+static int may_be_fewer(enum other how, enum list season)
+{
+    return how == FEWER || (how == FEWER_IN_SUMMER && season == SUMMER) || (how == FEWER_IN_WINTER && season == WINTER);
+}
+
+/* No factor is smaller with fewer objects; all else of a row is the same, and so is the factor of the season that has
+ * all its objects. */
+static const char *wrong_rows_with_fewer(soak *in, const job *of, size_t rows, enum other how)
+{
+    double time = of->run.start;
+    size_t i;
+    for (i = 0; i < rows; i++) {
+        const enum list season = season_at(&of->site, time);
+        pilgartze_row one, other;
+        memcpy(&one, in->first.at.results + i * sizeof one, sizeof one);
+        memcpy(&other, in->second.at.results + i * sizeof other, sizeof other);
+        if (memcmp(&one, &other, offsetof(pilgartze_row, factor)) != 0) {
+            return "with fewer objects another sun or irradiance";
+        }
+        if (bits_of(one.factor) != bits_of(other.factor)) {
+            if (!may_be_fewer(how, season)) {
+                return "with fewer objects in one season another factor in the other";
+            }
+            if (!(one.factor < other.factor)) {
+                return "with fewer objects a smaller factor";
+            }
+            in->thinned_apart[season - SUMMER] += how == FEWER ? 0 : 1;
+        }
+        time += of->run.step;
+    }
+    return NULL;
+}
+
 /* An accepted job stands on the first desk, with its answer; the other one is run on the second. */
-static void compare_with(soak *in, const job *of, const pilgartze_answer *answer, const job *other, int fewer)
+static void compare_with(soak *in, const job *of, const pilgartze_answer *answer, const job *other, enum other how)
 {
     const uint64_t leap_year = of->site.leap_year;
     pilgartze_answer second;
@@ -102,9 +142,10 @@ static void compare_with(soak *in, const job *of, const pilgartze_answer *answer
     second = tried(in, &in->second, RUN, other, 1, 0xAA);
     if (second.number != 0) {
         wrong = "with other objects a refusal";
-    } else if (fewer) {
+    } else if (how != REORDERED) {
         wrong = wrong_with_fewer(in->first.at.totals, in->second.at.totals, leap_year);
         wrong = wrong == NULL && answer->sum > second.sum ? "with fewer objects a smaller sum" : wrong;
+        wrong = wrong == NULL ? wrong_rows_with_fewer(in, of, (size_t)answer->count, how) : wrong;
     } else if (!same_answer(answer, &second) ||
                memcmp(in->first.at.totals, in->second.at.totals, PILGARTZE_TOTALS_LENGTH(leap_year)) != 0) {
         wrong = "the same objects, and another answer or other totals";
@@ -118,15 +159,13 @@ static void compare_with(soak *in, const job *of, const pilgartze_answer *answer
 
 void try_other_objects(soak *in, source *from, const job *of)
 {
+    static const enum other ways[] = {REORDERED, FEWER, FEWER_IN_SUMMER, FEWER_IN_WINTER};
     pilgartze_answer answer;
-    job other;
+    size_t i;
     lay_out(&in->first, of, 0, 0, 1);
     answer = tried(in, &in->first, RUN, of, 0, 0x55);
-    if (answer.number != 0) {
-        return;
+    for (i = 0; i < sizeof ways / sizeof ways[0] && answer.number == 0; i++) {
+        const job other = with_other_objects(from, of, ways[i]);
+        compare_with(in, of, &answer, &other, ways[i]);
     }
-    other = with_other_objects(from, of, 0);
-    compare_with(in, of, &answer, &other, 0);
-    other = with_other_objects(from, of, 1);
-    compare_with(in, of, &answer, &other, 1);
 }

@@ -53,6 +53,22 @@ static void count_sound(soak *in, const job *made)
     in->beyond += has_both_fins(made) && is_beyond(made) ? 1 : 0;
 }
 
+static void try_seasons(soak *in, source *from, const job *made)
+{
+    if (one_in(from, 4)) {
+        try_by_seasons(in, from, made);
+    }
+    if (one_in(from, 12)) {
+        try_equal_lists(in, from, made);
+    }
+    if (one_in(from, 12)) {
+        try_overlap(in, from, made);
+    }
+    if (one_in(from, 12)) {
+        try_complement(in, from, made);
+    }
+}
+
 static void one_turn(soak *in, job *made)
 {
     source from = source_of(in->seed, in->turn);
@@ -70,6 +86,9 @@ static void one_turn(soak *in, job *made)
     if (one_in(&from, 4)) {
         try_no_edition(in, &from, made);
     }
+    if (one_in(&from, 8)) {
+        try_no_leaf_days(in, &from, made);
+    }
     if (one_in(&from, 16)) {
         try_threads(in, &from, made);
     }
@@ -79,12 +98,16 @@ static void one_turn(soak *in, job *made)
     if (one_in(&from, 8)) {
         try_other_objects(in, &from, made);
     }
+    try_seasons(in, &from, made);
     if (one_in(&from, 4)) {
         try_editions(in, &from, made, RUN);
     }
     try_editions(in, &from, made, FACTOR);
     try_fins(in, &from);
     try_walk(in, &from);
+    if (one_in(&from, 2)) {
+        try_season(in, &from);
+    }
 }
 
 static void all_turns(soak *in, const options *by)
@@ -104,7 +127,8 @@ static void all_turns(soak *in, const options *by)
 /* A number that a call can give and never gave is a failure: what it guards was then not tried. */
 static int tell_seen(const soak *in)
 {
-    static const uint64_t numbers[] = {0, 1, 2, 3, 4, 5, 6, 7, 8, 9, 10, 11, PILGARTZE_REFUSED_EDITION};
+    static const uint64_t numbers[] = {0, 1, 2, 3, 4, 5, 6, 7, 8, 9, 10, 11, PILGARTZE_REFUSED_EDITION,
+                                       PILGARTZE_REFUSED_LEAF_DAY};
     const size_t count = sizeof numbers / sizeof numbers[0];
     int unseen = 0;
     int call;
@@ -178,6 +202,44 @@ static void tell_editions(const soak *in)
            (unsigned long long)in->fins_alone[0][1], (unsigned long long)in->fins_alone[1][1]);
 }
 
+/* Each two counts are those of summer and of winter. */
+static void tell_seasons(const soak *in)
+{
+    printf("seasons: %llu and %llu single steps with a sector, %llu and %llu with an empty list; %llu accepted runs "
+           "in both, %llu of them with the first leaf day above the last; by the other season's list %llu and %llu "
+           "rows are others, of these on the first leaf day %llu, on the last %llu, on the day before the first "
+           "%llu, behind the last %llu, and %llu and %llu refused steps are not refused; %llu steps behind a refusal "
+           "in the other season; refused 4 by a list without a step %llu runs and %llu steps; %llu runs with equal "
+           "lists, %llu of them with a step in another season by other leaf days; %llu with the seasons exchanged, "
+           "%llu with lists that overlap; by fewer objects in one list %llu and %llu rows are others\n",
+           (unsigned long long)in->season_steps[0][1], (unsigned long long)in->season_steps[1][1],
+           (unsigned long long)in->season_steps[0][0], (unsigned long long)in->season_steps[1][0],
+           (unsigned long long)in->by_seasons, (unsigned long long)in->turned_order,
+           (unsigned long long)in->seasons_apart[0], (unsigned long long)in->seasons_apart[1],
+           (unsigned long long)in->edges_apart[FIRST], (unsigned long long)in->edges_apart[LAST],
+           (unsigned long long)in->edges_apart[BEFORE], (unsigned long long)in->edges_apart[BEHIND],
+           (unsigned long long)in->refused_apart[0], (unsigned long long)in->refused_apart[1],
+           (unsigned long long)in->past_a_refusal,
+           (unsigned long long)in->unused_damaged[RUN], (unsigned long long)in->unused_damaged[STEP],
+           (unsigned long long)in->equal_lists, (unsigned long long)in->other_years,
+           (unsigned long long)in->complements, (unsigned long long)in->overlaps,
+           (unsigned long long)in->thinned_apart[0], (unsigned long long)in->thinned_apart[1]);
+}
+
+/* Of each call that has leaf days what it gives with others: 14 or 1, 2 to 7, or none of these. */
+static void tell_leaf_days(const soak *in)
+{
+    int call;
+    printf("leaf days above 365, where the call is otherwise refused 14 or 1, refused 2 to 7, or comes to its steps:");
+    for (call = RUN; call < FACTOR; call++) {
+        const uint64_t *const seen = in->no_leaf_days[call];
+        printf("%s %s %llu, %llu, %llu", call == RUN ? "" : ";", name_of((enum call)call),
+               (unsigned long long)seen[REFUSED_FIRST], (unsigned long long)seen[REFUSED_LATER],
+               (unsigned long long)seen[NOT_REFUSED]);
+    }
+    printf("\n");
+}
+
 static void tell_sums(const soak *in)
 {
     printf("sums above 0: %llu by steps of an hour, %llu by several steps that are no power of two nor the series', "
@@ -217,6 +279,31 @@ static int too_few_totals(const soak *in)
         return 1;
     }
     return 0;
+}
+
+/* What a wrong season, list or order of refusals would not show in. On the heap there are too few jobs for fewer
+ * objects in each season and for each of the days about the leaf days. */
+static int too_few_seasons(const soak *in)
+{
+    int seldom = in->by_seasons == 0 || in->turned_order == 0 || in->past_a_refusal == 0 ||
+                 in->unused_damaged[RUN] == 0 || in->unused_damaged[STEP] == 0 || in->equal_lists == 0 ||
+                 in->other_years == 0 || in->complements == 0 || in->overlaps == 0;
+    int i;
+    for (i = 0; i < SEASONS; i++) {
+        seldom = seldom || in->seasons_apart[i] == 0 || in->refused_apart[i] == 0 ||
+                 (in->thinned_apart[i] == 0 && !in->on_the_heap) || in->season_steps[i][0] == 0 ||
+                 in->season_steps[i][1] == 0;
+    }
+    for (i = 0; i < EDGES; i++) {
+        seldom = seldom || (in->edges_apart[i] == 0 && !in->on_the_heap);
+    }
+    for (i = 0; i < FACTOR * OTHERWISE; i++) {
+        seldom = seldom || in->no_leaf_days[i / OTHERWISE][i % OTHERWISE] == 0;
+    }
+    if (seldom) {
+        printf("soak: a kind of season or of leaf days was never seen\n");
+    }
+    return seldom ? 1 : 0;
 }
 
 /* Fins on both sides of many windows, many with the sun beyond 180, and shade of each side's in each edition. On the
@@ -260,6 +347,8 @@ static int told(const soak *in, const options *by)
     tell_totals(in);
     tell_sums(in);
     tell_editions(in);
+    tell_seasons(in);
+    tell_leaf_days(in);
     if (by->jobs == 1) {
         return 0;
     }
@@ -267,7 +356,8 @@ static int told(const soak *in, const options *by)
         printf("soak: something was never seen, numbers and walks: %d\n", unseen);
         return 1;
     }
-    return too_seldom_aimed(in) + too_few_days(in) + too_few_totals(in) + too_few_sums(in) + too_few_fins(in) > 0;
+    return (too_seldom_aimed(in) + too_few_days(in) + too_few_totals(in) + too_few_sums(in) + too_few_fins(in) +
+            too_few_seasons(in)) > 0;
 }
 
 int main(int count, char **words)

@@ -16,7 +16,7 @@ static uint8_t *room_for(size_t length)
 
 size_t most_of(enum list list)
 {
-    static const size_t most[LISTS] = {MOST_SERIES, MOST_SERIES, MOST_SERIES, MOST_SECTORS, MOST_WINDOW};
+    static const size_t most[LISTS] = {MOST_SERIES, MOST_SERIES, MOST_SERIES, MOST_SECTORS, MOST_SECTORS, MOST_WINDOW};
     return most[list];
 }
 
@@ -28,6 +28,7 @@ job job_with_room(void)
     for (list = 0; list < LISTS; list++) {
         made.lists[list] = room_for(most_of((enum list)list));
     }
+    made.sectors = SUMMER;
     return made;
 }
 
@@ -37,11 +38,14 @@ job bare_job(void)
     memset(&made, 0, sizeof made);
     made.edition = PILGARTZE_EDITION_1;
     made.site.series_step = 1.0;
+    made.site.first_leaf_day = 90;
+    made.site.last_leaf_day = 300;
     made.run.end = 24.0;
     made.run.step = 1.0;
     made.surface.tilt = 180.0;
     made.surface.height = 1.0;
     made.surface.width = 1.0;
+    made.sectors = SUMMER;
     return made;
 }
 
@@ -64,6 +68,68 @@ uint64_t no_edition(source *from)
     default:
         return random_word(from) | 4;
     }
+}
+
+/* ---- Seasons -------------------------------------------------------------------------------------------------- */
+
+static uint64_t some_leaf_day(source *from, const job *made)
+{
+    switch (random_below(from, 4)) {
+    case 0:
+        return random_below(from, PILGARTZE_DAYS);
+    case 1:
+        return one_in(from, 2) ? random_below(from, 2) : PILGARTZE_DAYS - 1 - random_below(from, 2);
+    default: {
+        const double about = made->time / 24.0 + (double)random_below(from, 4) - 1.0;
+        return about > 0.0 && about < PILGARTZE_DAYS ? (uint64_t)about : random_below(from, PILGARTZE_DAYS);
+    }
+    }
+}
+
+void some_leaf_days(source *from, job *made)
+{
+    pilgartze_site *const site = &made->site;
+    site->first_leaf_day = some_leaf_day(from, made);
+    site->last_leaf_day = some_leaf_day(from, made);
+    if (one_in(from, 8)) {
+        site->last_leaf_day = site->first_leaf_day;
+    }
+    if (one_in(from, 16) && site->last_leaf_day + 1 < PILGARTZE_DAYS) {
+        site->first_leaf_day = site->last_leaf_day + 1; /* summer all the year */
+    }
+}
+
+/* About 366, beside a leaf day by a high bit, or of any bits. */
+static uint64_t no_leaf_day(source *from)
+{
+    switch (random_below(from, 4)) {
+    case 0:
+        return PILGARTZE_DAYS + random_below(from, 2);
+    case 1:
+        return random_below(from, PILGARTZE_DAYS) +
+               (UINT64_C(1) << (one_in(from, 2) ? 32 : 9 + random_below(from, 55)));
+    case 2:
+        return UINT64_MAX - random_below(from, 3);
+    default:
+        return random_word(from) | 512;
+    }
+}
+
+void no_leaf_days(source *from, job *made)
+{
+    const size_t which = random_below(from, 3);
+    some_leaf_days(from, made);
+    if (which != 0) {
+        made->site.first_leaf_day = no_leaf_day(from);
+    }
+    if (which != 1) {
+        made->site.last_leaf_day = no_leaf_day(from);
+    }
+}
+
+enum list other_season(enum list season)
+{
+    return season == SUMMER ? WINTER : SUMMER;
 }
 
 /* ---- Steps ---------------------------------------------------------------------------------------------------- */
@@ -96,6 +162,20 @@ size_t series_index(const pilgartze_site *site, double time)
 {
     const double place = (time - 24.0 * (double)site->start_day) / site->series_step;
     return place < 0.0 ? 0 : (size_t)place;
+}
+
+size_t day_of(double time)
+{
+    return (size_t)time / 24;
+}
+
+enum list season_at(const pilgartze_site *site, double time)
+{
+    const uint64_t first = site->first_leaf_day;
+    const uint64_t last = site->last_leaf_day;
+    const uint64_t day = day_of(time);
+    const int summer = first <= last ? first <= day && day <= last : day >= first || day <= last;
+    return summer ? SUMMER : WINTER;
 }
 
 size_t month_length(uint64_t leap_year, size_t month)
@@ -200,6 +280,8 @@ void other_numbers(source *from, job *made)
     made->time = uniform(from, 0.0, 8759.0);
     made->altitude = uniform(from, 0.0, 90.0);
     made->azimuth = uniform(from, -180.0, 180.0);
+    made->sectors = one_in(from, 2) ? SUMMER : WINTER;
+    some_leaf_days(from, made);
 }
 
 /* ---- Lists ---------------------------------------------------------------------------------------------------- */
@@ -238,7 +320,7 @@ static pilgartze_object distant_object(source *from)
 }
 
 /* All the way round, in equal parts or not. */
-static void sound_sectors(source *from, job *made)
+static void sound_sectors(source *from, job *made, enum list list)
 {
     const size_t count = one_in(from, 4) ? 1 + random_below(from, PILGARTZE_MOST_SECTORS) : 1 + random_below(from, 4);
     double start = 0.0;
@@ -252,10 +334,44 @@ static void sound_sectors(source *from, job *made)
             pilgartze_add_object(&sector, distant_object(from));
             objects -= 1;
         }
-        memcpy(made->lists[SECTORS] + i * sizeof sector, &sector, sizeof sector);
+        memcpy(made->lists[list] + i * sizeof sector, &sector, sizeof sector);
         start = end;
     }
-    made->lengths[SECTORS] = count * sizeof(pilgartze_sector);
+    made->lengths[list] = count * sizeof(pilgartze_sector);
+}
+
+void thin_sector(source *from, pilgartze_sector *sector)
+{
+    const size_t left = random_below(from, (size_t)sector->count + 1);
+    memset(&sector->objects[left], 0, (PILGARTZE_MOST_OBJECTS - left) * sizeof sector->objects[0]);
+    sector->count = left;
+}
+
+/* The winter list from the summer list, where the trees are to be bare with fewer objects. */
+static void sound_winter(source *from, job *made, int bare)
+{
+    size_t at;
+    made->lengths[WINTER] = made->lengths[SUMMER];
+    for (at = 0; at < made->lengths[SUMMER]; at += sizeof(pilgartze_sector)) {
+        pilgartze_sector sector;
+        memcpy(&sector, made->lists[SUMMER] + at, sizeof sector);
+        if (bare) {
+            thin_sector(from, &sector);
+        }
+        memcpy(made->lists[WINTER] + at, &sector, sizeof sector);
+    }
+}
+
+static void sound_seasons(source *from, job *made)
+{
+    made->sectors = one_in(from, 2) ? SUMMER : WINTER;
+    some_leaf_days(from, made);
+    sound_sectors(from, made, SUMMER);
+    if (one_in(from, 2)) {
+        sound_sectors(from, made, WINTER);
+    } else {
+        sound_winter(from, made, one_in(from, 2));
+    }
 }
 
 static void sound_window(source *from, job *made)
@@ -321,9 +437,9 @@ void sound_job(source *from, job *made, int years)
     steps = step_count(&made->run);
     values = steps == 0 ? 0 : series_index(&made->site, step_time(&made->run, steps - 1)) + 1;
     sound_series(from, made, values);
-    sound_sectors(from, made);
     sound_window(from, made);
     sound_single(from, made, steps);
+    sound_seasons(from, made);
     made->results[RUN] = steps * sizeof(pilgartze_row) + (one_in(from, 2) ? random_below(from, 100) : 0);
     made->results[STEP] = sizeof(pilgartze_row) + (one_in(from, 2) ? random_below(from, 100) : 0);
     made->results[IRRADIANCE] = sizeof(pilgartze_breakdown) + (one_in(from, 2) ? random_below(from, 100) : 0);

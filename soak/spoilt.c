@@ -37,6 +37,8 @@ static const field whole_numbers[] = {
     {offsetof(job, site.start_day), 0.0, 365.0},
     {offsetof(job, site.leap_year), 0.0, 1.0},
     {offsetof(job, site.direct_beam_conversion), 0.0, 1.0},
+    {offsetof(job, site.first_leaf_day), 0.0, 365.0},
+    {offsetof(job, site.last_leaf_day), 0.0, 365.0},
 };
 
 #define COUNT(list) (sizeof(list) / sizeof((list)[0]))
@@ -183,12 +185,24 @@ static void spoil_word(source *from, job *made)
 /* A sector's start or end at another angle. */
 static void spoil_bound(source *from, job *made)
 {
-    const size_t sectors = made->lengths[SECTORS] / sizeof(pilgartze_sector);
+    const enum list list = one_in(from, 2) ? SUMMER : WINTER;
+    const size_t sectors = made->lengths[list] / sizeof(pilgartze_sector);
     if (sectors > 0) {
         const size_t at = random_below(from, sectors) * sizeof(pilgartze_sector) + 8 * random_below(from, 2);
         const double bound = one_in(from, 4) ? 180.0 - made->azimuth : uniform(from, 0.0, 360.0);
-        memcpy(made->lists[SECTORS] + at, &bound, sizeof bound);
+        memcpy(made->lists[list] + at, &bound, sizeof bound);
     }
+}
+
+/* One season's list empty, the first sectors of the other's, or all of them. */
+static void spoil_season(source *from, job *made)
+{
+    const enum list list = one_in(from, 2) ? SUMMER : WINTER;
+    const enum list other = other_season(list);
+    const size_t sectors = made->lengths[other] / sizeof(pilgartze_sector);
+    const size_t left = one_in(from, 2) ? random_below(from, sectors + 1) : one_in(from, 2) ? 0 : sectors;
+    made->lengths[list] = left * sizeof(pilgartze_sector);
+    memcpy(made->lists[list], made->lists[other], made->lengths[list]);
 }
 
 static void reveal_put_in(source *from, job *made)
@@ -207,9 +221,9 @@ static void reveal_put_in(source *from, job *made)
 void spoil(source *from, job *made)
 {
     static void (*const ways[])(source *, job *) = {
-        spoil_double, spoil_double, spoil_double,  spoil_double,  spoil_whole_number, spoil_edition,
-        spoil_times,  aim,          spoil_length,  spoil_results, spoil_days,         spoil_totals,
-        spoil_bytes,  spoil_word,   spoil_bound,   reveal_put_in,
+        spoil_double, spoil_double, spoil_double, spoil_double,  spoil_whole_number, spoil_edition,
+        spoil_times,  aim,          spoil_length, spoil_results, spoil_days,         spoil_totals,
+        spoil_bytes,  spoil_word,   spoil_bound,  reveal_put_in, spoil_season,       no_leaf_days,
     };
     ways[random_below(from, COUNT(ways))](from, made);
 }
@@ -282,7 +296,7 @@ static void tell_list(const char *name, const uint8_t *list, size_t length)
 
 void tell_job(const job *of)
 {
-    static const char *const names[] = {"diffuse", "direct", "reflectivity", "sectors", "window"};
+    static const char *const names[] = {"diffuse", "direct", "reflectivity", "summer", "winter", "window"};
     uint64_t words[offsetof(job, lists) / 8];
     size_t i;
     memcpy(words, of, sizeof words);
@@ -290,8 +304,8 @@ void tell_job(const job *of)
     for (i = 0; i < sizeof words / 8; i++) {
         printf(" %016llX", (unsigned long long)words[i]);
     }
-    printf("\n  results, bytes: run %zu, step %zu, irradiance %zu; days: %zu; totals: %zu\n", of->results[RUN],
-           of->results[STEP], of->results[IRRADIANCE], of->days, of->totals);
+    printf("\n  results, bytes: run %zu, step %zu, irradiance %zu; days: %zu; totals: %zu; the factor's list: %s\n",
+           of->results[RUN], of->results[STEP], of->results[IRRADIANCE], of->days, of->totals, names[of->sectors]);
     for (i = 0; i < LISTS; i++) {
         tell_list(names[i], of->lists[i], of->lengths[i]);
     }

@@ -22,11 +22,6 @@ static size_t month_of(uint64_t leap_year, size_t day)
     return month;
 }
 
-static size_t day_of(double time)
-{
-    return (size_t)time / 24;
-}
-
 /* A NaN is no largest total; of equal ones the last counts. */
 static void add_row(pilgartze_totals *to, const pilgartze_row *row, double step)
 {

@@ -33,14 +33,14 @@ static enum end end_at(const pilgartze_sector *sector, int first, double last, d
     return azimuth < 180.0 - sector->start && azimuth > 180.0 - sector->end ? MATCH : NO_SECTOR;
 }
 
-static walk walk_along(const job *of, double azimuth)
+static walk walk_along(const job *of, enum list season, double azimuth)
 {
-    const size_t count = of->lengths[SECTORS] / sizeof(pilgartze_sector);
+    const size_t count = of->lengths[season] / sizeof(pilgartze_sector);
     double last = 0.0;
     walk met = {NO_SECTOR, 0};
     while (met.place < count) {
         pilgartze_sector sector;
-        memcpy(&sector, of->lists[SECTORS] + met.place * sizeof sector, sizeof sector);
+        memcpy(&sector, of->lists[season] + met.place * sizeof sector, sizeof sector);
         met.end = end_at(&sector, met.place == 0, last, azimuth);
         if (met.end != NO_SECTOR) {
             return met;
@@ -51,16 +51,17 @@ static walk walk_along(const job *of, double azimuth)
     return met;
 }
 
-const char *wrong_walk(soak *in, enum call call, const job *of, double altitude, double azimuth, uint64_t number)
+const char *wrong_walk(soak *in, enum call call, const job *of, enum list season, double altitude, double azimuth,
+                       uint64_t number)
 {
     static const uint64_t numbers[] = {PILGARTZE_REFUSED_GAP, PILGARTZE_REFUSED_TURNED, 0, PILGARTZE_REFUSED_NO_SECTOR};
     walk met;
     if (!inside_the_beam(&of->surface, altitude, azimuth)) {
         return number == 0 ? NULL : "refused outside the beam";
     }
-    met = walk_along(of, azimuth);
+    met = walk_along(of, season, azimuth);
     if (met.end != NO_SECTOR) {
-        in->walks[call][met.end][met.place] += 1;
+        in->walks[call][season - SUMMER][met.end][met.place] += 1;
     }
     if (number == numbers[met.end] || (met.end == MATCH && number == PILGARTZE_REFUSED_REVEAL)) {
         return NULL;
@@ -68,14 +69,14 @@ const char *wrong_walk(soak *in, enum call call, const job *of, double altitude,
     return "not the number by which the walk ends";
 }
 
-/* Twelve places to a line. */
+/* Twelve places to a line, those of both seasons together. */
 static void tell_places(const soak *in, enum call call, enum end end, size_t first)
 {
     static const char *const words[] = {"gap", "turned", "match"};
     size_t place;
     printf("%-6s %-6s at %2zu..%2zu", name_of(call), words[end], first, first + 11);
     for (place = first; place < first + 12; place++) {
-        printf("%9llu", (unsigned long long)in->walks[call][end][place]);
+        printf("%9llu", (unsigned long long)(in->walks[call][0][end][place] + in->walks[call][1][end][place]));
     }
     printf("\n");
 }
@@ -90,7 +91,8 @@ int tell_walks(const soak *in)
         const enum end end = (enum end)(i % 3);
         for (place = 0; place < PILGARTZE_MOST_SECTORS; place++) {
             const int possible = end != GAP || place > 0; /* no sector stands before the first */
-            unmet += possible && in->walks[call][end][place] == 0 ? 1 : 0;
+            unmet += possible && in->walks[call][0][end][place] == 0 ? 1 : 0;
+            unmet += possible && in->walks[call][1][end][place] == 0 ? 1 : 0;
             if (place % 12 == 0 && !in->on_the_heap) {
                 tell_places(in, call, end, place);
             }
@@ -101,10 +103,13 @@ int tell_walks(const soak *in)
 
 /* ---- A walk for each way and place ---------------------------------------------------------------------------- */
 
-/* Each way to end at each place, in turn; the first sector has no gap before it. */
+/* So many: each way to end at each place; the first sector has no gap before it. */
+#define WALKS (3 * PILGARTZE_MOST_SECTORS - 1)
+
+/* Each of them in turn. */
 static walk walk_of_turn(uint64_t turn)
 {
-    const size_t which = 1 + (size_t)(turn % (3 * PILGARTZE_MOST_SECTORS - 1));
+    const size_t which = 1 + (size_t)(turn % WALKS);
     walk made;
     made.end = (enum end)(which / PILGARTZE_MOST_SECTORS);
     made.place = which % PILGARTZE_MOST_SECTORS;
@@ -122,7 +127,7 @@ static double end_of(size_t k, size_t place, double sun)
 }
 
 /* As many sectors as there may be; a gap is an overlap at every other place. */
-static void sectors_ending(source *from, job *made, walk by, double sun)
+static void sectors_ending(source *from, job *made, enum list season, walk by, double sun)
 {
     double start = 0.0;
     size_t k;
@@ -137,13 +142,30 @@ static void sectors_ending(source *from, job *made, walk by, double sun)
             sector.end = sector.start / 2.0;
         }
         pilgartze_add_object(&sector, pilgartze_distant_obstacle(uniform(from, 0.1, 20.0), uniform(from, 0.1, 20.0)));
-        memcpy(made->lists[SECTORS] + k * sizeof sector, &sector, sizeof sector);
+        memcpy(made->lists[season] + k * sizeof sector, &sector, sizeof sector);
     }
-    made->lengths[SECTORS] = PILGARTZE_MOST_SECTORS * sizeof(pilgartze_sector);
+    made->lengths[season] = PILGARTZE_MOST_SECTORS * sizeof(pilgartze_sector);
 }
 
-/* One step about noon, all readings 0.5. */
-static void one_step(source *from, job *made)
+/* A list along which the walk ends in another way. */
+static void other_walk(job *made, enum list season, walk by)
+{
+    const pilgartze_sector only = by.end == MATCH ? pilgartze_free_sector(360.0, 0.0)
+                                                  : pilgartze_free_sector(0.0, 360.0);
+    memcpy(made->lists[season], &only, sizeof only);
+    made->lengths[season] = sizeof only;
+}
+
+/* Leaf days by which the single step is in that season; the factor takes its list too. */
+static void put_in_season(source *from, job *made, enum list season)
+{
+    do {
+        some_leaf_days(from, made);
+    } while (season_at(&made->site, made->time) != season);
+    made->sectors = season;
+}
+
+void one_step(source *from, uint64_t leap_year, double time, job *made)
 {
     const double half = 0.5;
     int list;
@@ -153,9 +175,10 @@ static void one_step(source *from, job *made)
     made->site.latitude = uniform(from, 30.0, 60.0);
     made->site.longitude = uniform(from, -5.0, 5.0);
     made->site.series_step = 1.0;
-    made->site.start_day = random_below(from, 365);
-    made->time = 24.0 * (double)made->site.start_day + 10.0 + (double)random_below(from, 4);
-    made->run = (pilgartze_run_times){made->time, made->time + 1.0, 1.0};
+    made->site.leap_year = leap_year;
+    made->site.start_day = day_of(time);
+    made->time = time;
+    made->run = (pilgartze_run_times){time, time < 8783.0 ? time + 0.5 : 8784.0, 1.0};
     made->surface = (pilgartze_surface){90.0, 180.0, uniform(from, 0.0, 5.0), 1.5, 1.2};
     made->reading = (pilgartze_reading){half, half, half};
     for (list = DIFFUSE; list <= REFLECTIVITY; list++) {
@@ -168,7 +191,7 @@ static void one_step(source *from, job *made)
     made->results[STEP] = sizeof(pilgartze_row);
     made->results[IRRADIANCE] = sizeof(pilgartze_breakdown);
     made->days = PILGARTZE_DAYS_LENGTH;
-    made->totals = PILGARTZE_TOTALS_LENGTH(0);
+    made->totals = PILGARTZE_TOTALS_LENGTH(leap_year);
 }
 
 void sun_of_step(soak *in, job *of)
@@ -189,20 +212,23 @@ void try_walk(soak *in, source *from)
     static const enum call calls[] = {RUN, STEP, FACTOR};
     static job made;
     const walk by = walk_of_turn(in->turn);
+    const enum list season = in->turn / WALKS % SEASONS == 0 ? SUMMER : WINTER;
     size_t i;
     made = made.lists[0] == NULL ? job_with_room() : made;
-    one_step(from, &made);
+    one_step(from, 0, 24.0 * (double)random_below(from, 365) + 10.0 + (double)random_below(from, 4), &made);
+    put_in_season(from, &made, season);
     lay_out(&in->second, &made, 0, 0, 1);
     sun_of_step(in, &made);
     made.surface.orientation = 180.0 - made.azimuth;
-    sectors_ending(from, &made, by, made.surface.orientation);
+    sectors_ending(from, &made, season, by, made.surface.orientation);
+    other_walk(&made, other_season(season), by);
     lay_out(&in->first, &made, (unsigned)random_word(from), 0, one_in(from, 2));
     for (i = 0; i < sizeof calls / sizeof calls[0]; i++) {
         const pilgartze_answer answer = tried(in, &in->first, calls[i], &made, one_in(from, 2), 0);
         /* rows and factors have been looked at */
         const int unknown = answer.number != 0 && calls[i] != FACTOR;
         const char *wrong =
-            unknown ? wrong_walk(in, calls[i], &made, made.altitude, made.azimuth, answer.number) : NULL;
+            unknown ? wrong_walk(in, calls[i], &made, season, made.altitude, made.azimuth, answer.number) : NULL;
         wrong = wrong == NULL && answer.number != numbers[by.end] ? "not the walk that was meant" : wrong;
         if (wrong != NULL) {
             failed(in, wrong, calls[i], &made, &answer);

@@ -41,7 +41,8 @@ void try_wide_lists(soak *in)
     expect(in, &of, &at, STEP, 0);
     expect(in, &of, &at, IRRADIANCE, 0);
     expect(in, &of, &at, FACTOR, 0);
-    for (list = SECTORS; list <= WINDOW; list++) {
+    for (list = SUMMER; list <= WINDOW; list++) {
+        of.sectors = list == WINTER ? WINTER : SUMMER;
         of.lengths[list] = WIDE - 216;
         expect(in, &of, &at, RUN, PILGARTZE_REFUSED_OBJECT);
         expect(in, &of, &at, STEP, PILGARTZE_REFUSED_OBJECT);

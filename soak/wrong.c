@@ -1,7 +1,7 @@
 /* Engines that are wrong in one way each, which the soak has to find: the sound library under other names, and around
  * it what the flaw does that the environment variable SOAK_FLAW names. soak/flaws says by what each must be found. What
  * flaws do to the totals of days and months stands in soak/wrong_totals.c, what they do to editions and fins in
- * soak/wrong_editions.c. */
+ * soak/wrong_editions.c, and to leaf days and seasons in soak/wrong_seasons.c. */
 #define _POSIX_C_SOURCE 200809L
 #include "wrong.h"
 
@@ -56,8 +56,7 @@ __attribute__((noinline)) static void go_deep(void)
     }
 }
 
-/* Lets another thread come between, also where there is one processor only. */
-static void wait_a_little(void)
+void wait_a_little(void)
 {
     const struct timespec little = {0, 20000};
     nanosleep(&little, NULL);
@@ -68,8 +67,9 @@ static void fill_days(uint8_t *days)
 {
     uint8_t none = 0;
     pilgartze_year_totals own;
-    sound_run(PILGARTZE_EDITION_1, 0.0, 0.0, 0, 0, 1.0, 0, 0, 1.0, 1.0, 1.0, 90.0, 0.0, 0.0, 1.0, 1.0, &none, 0, &none,
-              0, &none, 0, &none, 0, &none, 0, days, PILGARTZE_DAYS_LENGTH, (uint8_t *)&own, sizeof own, &none, 0);
+    sound_run(PILGARTZE_EDITION_1, 0.0, 0.0, 0, 0, 1.0, 0, 0, 0, 0, 1.0, 1.0, 1.0, 90.0, 0.0, 0.0, 1.0, 1.0, &none, 0,
+              &none, 0, &none, 0, &none, 0, &none, 0, &none, 0, days, PILGARTZE_DAYS_LENGTH, (uint8_t *)&own,
+              sizeof own, &none, 0);
 }
 
 static void before_days(DAYS_LIST)
@@ -89,7 +89,7 @@ static void before_days(DAYS_LIST)
     }
 }
 
-static void before_run(LIST(direct), LIST(reflectivity), LIST(sectors), LIST(window))
+static void before_run(LIST(direct), LIST(reflectivity), OBJECT_LISTS)
 {
     if (flaw("changes_a_series")) {
         change(direct, direct_length);
@@ -102,7 +102,16 @@ static void before_run(LIST(direct), LIST(reflectivity), LIST(sectors), LIST(win
         read_at(reflectivity + reflectivity_length);
     }
     if (flaw("reads_before_the_sectors")) {
-        read_at(sectors - 1);
+        read_at(summer - 1);
+    }
+    if (flaw("reads_before_the_winter_list")) {
+        read_at(winter - 1);
+    }
+    if (flaw("reads_past_the_winter_list")) {
+        read_at(winter + winter_length);
+    }
+    if (flaw("changes_the_winter_list")) {
+        change(winter, winter_length);
     }
     if (flaw("deep_stack")) {
         go_deep();
@@ -110,7 +119,7 @@ static void before_run(LIST(direct), LIST(reflectivity), LIST(sectors), LIST(win
     if (flaw("rounds_upwards")) {
         fesetround(FE_UPWARD);
     }
-    (void)sectors_length;
+    (void)summer_length;
 }
 
 /* ---- And after it --------------------------------------------------------------------------------------------- */
@@ -236,7 +245,7 @@ static int sum_of_its_own(void)
     return flaw("sum_from_the_last") || flaw("hours_from_the_last") || flaw("step_left_out") ||
            flaw("step_times_direct_first") || flaw("step_once_at_the_end") || flaw("series_step_in_the_sum") ||
            flaw("last_step_up_to_the_end") || flaw("product_not_rounded") || flaw("factor_1_for_the_sun_overhead") ||
-           takes_other_fins();
+           takes_other_fins() || takes_other_seasons();
 }
 
 static double wrong_sum(double sum, const uint8_t *results, size_t rows, const run_hours *of)
@@ -445,11 +454,12 @@ static pilgartze_answer run_with_wrong_lists(RUN_ARGUMENTS, DAYS_LIST, TOTALS_LI
 {
     const int first = flaw("first_sector_not_walked");
     const int last = flaw("last_sector_not_walked");
-    return sound_run(edition, SITE, start, end, step, SURFACE, diffuse, SHORT(diffuse_length), direct,
-                     SHORT(direct_length), reflectivity, SHORT(reflectivity_length),
-                     sectors + left_out(first, sectors_length), walked(first, last, sectors_length), window,
-                     looked_at(window_length), days, wrong_days_length(days_length), totals,
-                     wrong_totals_length(leap_year, totals_length), results, SHORT(results_length));
+    return run_by_seasons(edition, SITE, start, end, step, SURFACE, diffuse, SHORT(diffuse_length), direct,
+                          SHORT(direct_length), reflectivity, SHORT(reflectivity_length),
+                          summer + left_out(first, summer_length), walked(first, last, summer_length),
+                          winter + left_out(first, winter_length), walked(first, last, winter_length), window,
+                          looked_at(window_length), days, wrong_days_length(days_length), totals,
+                          wrong_totals_length(leap_year, totals_length), results, SHORT(results_length));
 }
 
 /* The same by way of buffers that all threads share. */
@@ -481,6 +491,20 @@ static pilgartze_answer run_with_buffers(RUN_ARGUMENTS, DAYS_LIST, TOTALS_LIST, 
     return answer;
 }
 
+/* By other fins in each of so many rows. */
+static void change_factors(uint64_t edition, uint64_t first_leaf_day, uint64_t last_leaf_day, double start, double step,
+                           SURFACE_NUMBERS, OBJECT_LISTS, uint8_t *results, size_t rows)
+{
+    double time = start;
+    size_t i;
+    for (i = 0; i < rows; i++) {
+        const int in_summer = is_summer(first_leaf_day, last_leaf_day, time);
+        change_factor(edition, SURFACE, in_summer ? summer : winter, in_summer ? summer_length : winter_length, window,
+                      window_length, results + ROW * i);
+        time += step;
+    }
+}
+
 /* With a table or totals of its own where a flaw takes some that are too short, and with factors by other fins. */
 static pilgartze_answer run_with_own_tables(RUN_ARGUMENTS, DAYS_LIST, TOTALS_LIST, RESULTS_LIST)
 {
@@ -497,7 +521,8 @@ static pilgartze_answer run_with_own_tables(RUN_ARGUMENTS, DAYS_LIST, TOTALS_LIS
         totals_length = sizeof own_totals;
     }
     answer = run_with_buffers(edition, SITE, start, end, step, SURFACE, SERIES, OBJECTS, DAYS, TOTALS, RESULTS);
-    change_factors(edition, SURFACE, OBJECTS, results, (size_t)(answer.number == 0 ? answer.count : answer.step));
+    change_factors(edition, first_leaf_day, last_leaf_day, start, step, SURFACE, OBJECTS, results,
+                   (size_t)(answer.number == 0 ? answer.count : answer.step));
     return answer;
 }
 
@@ -538,11 +563,13 @@ static pilgartze_answer run_in_edition(RUN_ARGUMENTS, DAYS_LIST, TOTALS_LIST, RE
 
 static uint64_t step_in_edition(STEP_ARGUMENTS, RESULTS_LIST)
 {
-    const size_t length = walked(0, flaw("step_last_sector_not_walked"), sectors_length);
-    const uint64_t number = sound_step(edition, SITE, time, SURFACE, READING, sectors, SHORT(length), window,
-                                       looked_at(window_length), RESULTS);
+    const int last = flaw("step_last_sector_not_walked");
+    const uint64_t number = step_by_seasons(edition, SITE, time, SURFACE, READING, summer,
+                                            SHORT(walked(0, last, summer_length)), winter,
+                                            SHORT(walked(0, last, winter_length)), window, looked_at(window_length),
+                                            RESULTS);
     if (number == 0) {
-        change_factors(edition, SURFACE, OBJECTS, results, 1);
+        change_factors(edition, first_leaf_day, last_leaf_day, time, 1.0, SURFACE, OBJECTS, results, 1);
     }
     if (flaw("step_has_its_own_row") && number == 0) {
         results[8] ^= 1;
@@ -593,19 +620,24 @@ static pilgartze_factor_answer factor_in_edition(FACTOR_ARGUMENTS)
 static int site_refused(SITE_NUMBERS)
 {
     uint8_t room[sizeof(pilgartze_breakdown)];
-    return sound_irradiance(SITE, 0.0, 90.0, 0.0, 0.0, 1.0, 1.0, 0.0, 0.0, 0.0, room, sizeof room) != 0;
+    return sound_irradiance(SITE, 0.0, 90.0, 0.0, 0.0, 1.0, 1.0, 0.0, 0.0, 0.0, room, sizeof room) ==
+           PILGARTZE_REFUSED_SITE;
 }
 
 pilgartze_answer pilgartze_run(RUN_ARGUMENTS, DAYS_LIST, TOTALS_LIST, RESULTS_LIST)
 {
-    uint8_t room[SECTORS_ROOM];
+    static __thread uint8_t room[2][SECTORS_ROOM]; /* so that the stack is hardly more than the library's */
     edition = edition_taken(edition);
     if (known_edition(edition)) {
-        sectors = sectors_taken(sectors, sectors_length, room);
+        summer = sectors_taken(summer, summer_length, room[0]);
+        winter = sectors_taken(winter, winter_length, room[1]);
         return run_in_edition(edition, SITE, start, end, step, SURFACE, SERIES, OBJECTS, DAYS, TOTALS, RESULTS);
     }
     if (flaw("run_tries_the_site_first") && site_refused(SITE)) {
         return (pilgartze_answer){PILGARTZE_REFUSED_SITE, 0, 0, 0.0};
+    }
+    if (flaw("run_tries_the_leaf_days_before_14") && no_leaf_day(first_leaf_day, last_leaf_day)) {
+        return (pilgartze_answer){PILGARTZE_REFUSED_LEAF_DAY, 0, 0, 0.0};
     }
     if (flaw("run_tries_the_days_first") && days_length < PILGARTZE_DAYS_LENGTH) {
         return (pilgartze_answer){PILGARTZE_REFUSED_RESULTS, 0, 0, 0.0};
@@ -616,15 +648,19 @@ pilgartze_answer pilgartze_run(RUN_ARGUMENTS, DAYS_LIST, TOTALS_LIST, RESULTS_LI
 
 uint64_t pilgartze_step(STEP_ARGUMENTS, RESULTS_LIST)
 {
-    uint8_t room[SECTORS_ROOM];
+    static __thread uint8_t room[2][SECTORS_ROOM];
     edition = flaw("step_takes_any_edition") && !known_edition(edition) ? PILGARTZE_EDITION_2 : edition_taken(edition);
     if (known_edition(edition)) {
         edition = flaw("step_has_edition_1") ? PILGARTZE_EDITION_1 : edition;
-        sectors = sectors_taken(sectors, sectors_length, room);
+        summer = sectors_taken(summer, summer_length, room[0]);
+        winter = sectors_taken(winter, winter_length, room[1]);
         return step_in_edition(edition, SITE, time, SURFACE, READING, OBJECTS, RESULTS);
     }
     if (flaw("step_tries_the_site_first") && site_refused(SITE)) {
         return PILGARTZE_REFUSED_SITE;
+    }
+    if (flaw("step_tries_the_leaf_days_before_14") && no_leaf_day(first_leaf_day, last_leaf_day)) {
+        return PILGARTZE_REFUSED_LEAF_DAY;
     }
     if (flaw("step_at_14_stores") && results_length > 0) {
         results[0] ^= 1;
@@ -634,7 +670,7 @@ uint64_t pilgartze_step(STEP_ARGUMENTS, RESULTS_LIST)
 
 uint64_t pilgartze_irradiance(SITE_NUMBERS, double time, SURFACE_NUMBERS, READINGS, RESULTS_LIST)
 {
-    const uint64_t number = sound_irradiance(SITE, time, SURFACE, READING, RESULTS);
+    const uint64_t number = irradiance_by_seasons(SITE, time, SURFACE, READING, RESULTS);
     if (flaw("irradiance_stores_ten_words") && number == 0 && results_length >= 80) {
         memset(results + 72, 0, 8);
     }
@@ -660,13 +696,13 @@ pilgartze_factor_answer pilgartze_factor(FACTOR_ARGUMENTS)
     if (known_edition(edition)) {
         edition = flaw("factor_has_edition_1") ? PILGARTZE_EDITION_1 : edition;
         sectors = sectors_taken(sectors, sectors_length, room);
-        return factor_in_edition(edition, altitude, azimuth, SURFACE, OBJECTS);
+        return factor_in_edition(edition, altitude, azimuth, SURFACE, FACTOR_OBJECTS);
     }
     answer = sound_factor(PILGARTZE_EDITION_1, altitude, azimuth, SURFACE, &none, 0, &none, 0);
     if (flaw("factor_tries_the_surface_first") && answer.number == PILGARTZE_REFUSED_SURFACE) {
         return answer;
     }
-    answer = sound_factor(edition, altitude, azimuth, SURFACE, OBJECTS);
+    answer = sound_factor(edition, altitude, azimuth, SURFACE, FACTOR_OBJECTS);
     answer.factor = flaw("factor_1_at_14") ? 1.0 : answer.factor;
     return answer;
 }

@@ -8,8 +8,10 @@
 
 #define SITE_NUMBERS                                                                                              \
     double latitude, double longitude, int64_t timezone, uint64_t start_day, double series_step, uint64_t leap_year, \
-        uint64_t direct_beam_conversion
-#define SITE latitude, longitude, timezone, start_day, series_step, leap_year, direct_beam_conversion
+        uint64_t direct_beam_conversion, uint64_t first_leaf_day, uint64_t last_leaf_day
+#define SITE                                                                                                  \
+    latitude, longitude, timezone, start_day, series_step, leap_year, direct_beam_conversion, first_leaf_day, \
+        last_leaf_day
 #define SURFACE_NUMBERS double tilt, double orientation, double base_height, double height, double width
 #define SURFACE tilt, orientation, base_height, height, width
 #define LIST(name) const uint8_t *name, size_t name##_length
@@ -17,8 +19,10 @@
 #define SERIES diffuse, diffuse_length, direct, direct_length, reflectivity, reflectivity_length
 #define READINGS double diffuse, double direct, double reflectivity
 #define READING diffuse, direct, reflectivity
-#define OBJECT_LISTS LIST(sectors), LIST(window)
-#define OBJECTS sectors, sectors_length, window, window_length
+#define OBJECT_LISTS LIST(summer), LIST(winter), LIST(window)
+#define OBJECTS summer, summer_length, winter, winter_length, window, window_length
+#define FACTOR_LISTS LIST(sectors), LIST(window)
+#define FACTOR_OBJECTS sectors, sectors_length, window, window_length
 #define DAYS_LIST uint8_t *days, size_t days_length
 #define DAYS days, days_length
 #define TOTALS_LIST uint8_t *totals, size_t totals_length
@@ -28,7 +32,7 @@
 #define RUN_ARGUMENTS                                                                                                \
     uint64_t edition, SITE_NUMBERS, double start, double end, double step, SURFACE_NUMBERS, SERIES_LISTS, OBJECT_LISTS
 #define STEP_ARGUMENTS uint64_t edition, SITE_NUMBERS, double time, SURFACE_NUMBERS, READINGS, OBJECT_LISTS
-#define FACTOR_ARGUMENTS uint64_t edition, double altitude, double azimuth, SURFACE_NUMBERS, OBJECT_LISTS
+#define FACTOR_ARGUMENTS uint64_t edition, double altitude, double azimuth, SURFACE_NUMBERS, FACTOR_LISTS
 
 /* The library's calls. */
 pilgartze_answer sound_run(RUN_ARGUMENTS, DAYS_LIST, TOTALS_LIST, RESULTS_LIST);
@@ -73,7 +77,20 @@ pilgartze_answer run_at_14(pilgartze_answer answer, DAYS_LIST, TOTALS_LIST, RESU
 int takes_other_fins(void);
 /* The factor that it gives; the library's, where it is none of these. */
 pilgartze_factor_answer factor_by_other_fins(FACTOR_ARGUMENTS);
-/* The same in each of so many rows. */
-void change_factors(uint64_t edition, SURFACE_NUMBERS, OBJECT_LISTS, uint8_t *results, size_t rows);
+/* The same in a row of a step with that list. */
+void change_factor(uint64_t edition, SURFACE_NUMBERS, FACTOR_LISTS, uint8_t *row);
+
+/* The sound calls, with the leaf days, the seasons and the lists that a flaw takes. */
+pilgartze_answer run_by_seasons(RUN_ARGUMENTS, DAYS_LIST, TOTALS_LIST, RESULTS_LIST);
+uint64_t step_by_seasons(STEP_ARGUMENTS, RESULTS_LIST);
+uint64_t irradiance_by_seasons(SITE_NUMBERS, double time, SURFACE_NUMBERS, READINGS, RESULTS_LIST);
+/* Whether the flaw is one by which a step walks another list. */
+int takes_other_seasons(void);
+/* Whether a step is in summer. */
+int is_summer(uint64_t first_leaf_day, uint64_t last_leaf_day, double time);
+/* Whether a leaf day is above 365. */
+int no_leaf_day(uint64_t first_leaf_day, uint64_t last_leaf_day);
+/* Lets another thread come between, also where there is one processor only. */
+void wait_a_little(void);
 
 #endif

@@ -150,7 +150,7 @@ pilgartze_factor_answer factor_by_other_fins(FACTOR_ARGUMENTS)
     const int beyond = fabs(difference) > 180.0;
     uint8_t taken[OBJECT * PILGARTZE_MOST_WINDOW_OBJECTS];
     if (!takes_other_fins() || window_length > sizeof taken || window_length % OBJECT != 0) {
-        return sound_factor(edition, altitude, azimuth, SURFACE, OBJECTS);
+        return sound_factor(edition, altitude, azimuth, SURFACE, FACTOR_OBJECTS);
     }
     window_length = take_objects(edition, difference, window, window_length, taken);
     window = taken;
@@ -158,18 +158,17 @@ pilgartze_factor_answer factor_by_other_fins(FACTOR_ARGUMENTS)
     if (flaw("difference_wrapped_in_edition_1") && beyond) {
         edition = PILGARTZE_EDITION_2;
     }
-    return sound_factor(edition, altitude, azimuth, SURFACE, OBJECTS);
+    return sound_factor(edition, altitude, azimuth, SURFACE, FACTOR_OBJECTS);
 }
 
-void change_factors(uint64_t edition, SURFACE_NUMBERS, OBJECT_LISTS, uint8_t *results, size_t rows)
+void change_factor(uint64_t edition, SURFACE_NUMBERS, FACTOR_LISTS, uint8_t *row)
 {
-    size_t i;
-    for (i = 0; i < rows && takes_other_fins(); i++) {
+    pilgartze_row changed;
+    if (takes_other_fins()) {
         pilgartze_factor_answer answer;
-        pilgartze_row row;
-        memcpy(&row, results + i * sizeof row, sizeof row);
-        answer = factor_by_other_fins(edition, row.altitude, row.azimuth, SURFACE, OBJECTS);
-        row.factor = answer.number == 0 ? answer.factor : row.factor;
-        memcpy(results + i * sizeof row, &row, sizeof row);
+        memcpy(&changed, row, sizeof changed);
+        answer = factor_by_other_fins(edition, changed.altitude, changed.azimuth, SURFACE, FACTOR_OBJECTS);
+        changed.factor = answer.number == 0 ? answer.factor : changed.factor;
+        memcpy(row, &changed, sizeof changed);
     }
 }
