@@ -611,38 +611,50 @@ static void check_one_list(void)
     }
 }
 
-/* A wall that shades all in summer, and nothing in winter. */
-static uint64_t factor_of_season(const pilgartze_site *site, double orientation, double time, double *factor)
+/* A wall all round that shades all in summer, and nothing in winter. */
+static pilgartze_shading walled_in_summer(void)
+{
+    static pilgartze_sector summer, winter;
+    const pilgartze_shading made = {PILGARTZE_EDITION_2, &summer, 1, &winter, 1, NULL, 0};
+    winter = pilgartze_free_sector(0.0, 360.0);
+    summer = winter;
+    pilgartze_add_object(&summer, pilgartze_distant_obstacle(1000.0, 10.0));
+    return made;
+}
+
+static void check_step_of_day(const pilgartze_site *site, uint64_t day, double hour, double orientation)
 {
     const pilgartze_surface surface = {90.0, orientation, 0.9, 1.2, 1.8};
     const pilgartze_reading reading = {100.0, 500.0, 0.2};
-    const pilgartze_sector winter = pilgartze_free_sector(0.0, 360.0);
-    pilgartze_sector summer = winter;
-    const pilgartze_shading shading = {PILGARTZE_EDITION_2, &summer, 1, &winter, 1, NULL, 0};
+    const pilgartze_shading shading = walled_in_summer();
+    const double time = 24.0 * (double)day + hour;
     pilgartze_row row;
-    uint64_t number;
-    pilgartze_add_object(&summer, pilgartze_distant_obstacle(1000.0, 10.0));
-    number = pilgartze_step_at(site, time, &surface, &reading, &shading, &row);
-    *factor = row.factor;
-    return number;
+    check(pilgartze_step_at(site, time, &surface, &reading, &shading, &row) == 0, "a step of a day", (int)day);
+    check(row.factor == (in_leaf(site, day) ? 0.0 : 1.0), "the season of a step", (int)day);
 }
 
-/* Noon to the south; and to the north, where the sun of the first and of the last hour stands, the first and the last
- * moment of the day. */
-static void check_day(const pilgartze_site *site, uint64_t day)
+/* The year by hours, to the north, where the sun is inside the beam in the first and in the last hour of each day: so a
+ * season that changes an hour too late or too soon is seen. */
+static void check_run_of_days(const pilgartze_site *site)
 {
-    static const double orientations[] = {180.0, 0.0, 0.0};
-    static const double hours[] = {12.0, 0.0, 23.999};
-    const double should = in_leaf(site, day) ? 0.0 : 1.0;
-    int i;
-    for (i = 0; i < 3; i++) {
-        double factor;
-        check(factor_of_season(site, orientations[i], 24.0 * (double)day + hours[i], &factor) == 0, "a day", (int)day);
-        check(factor == should, "the season of a day", (int)day);
+    static double dark[8784];
+    static pilgartze_row all[8784];
+    const size_t count = 24 * (size_t)PILGARTZE_DAYS_IN_YEAR(site->leap_year);
+    const pilgartze_weather weather = {dark, dark, dark, count};
+    const pilgartze_run_times year = {0.0, (double)count, 1.0};
+    const pilgartze_surface surface = {90.0, 0.0, 0.9, 1.2, 1.8};
+    const pilgartze_shading shading = walled_in_summer();
+    size_t day;
+    check(pilgartze_run_job(site, &year, &surface, &weather, &shading, &days, &totals, all, count).count == count,
+          "a year of both seasons", (int)site->leap_year);
+    for (day = 0; day < count / 24; day++) {
+        const double should = in_leaf(site, day) ? 0.0 : 1.0;
+        check(all[24 * day].factor == should, "the season of the first hour", (int)day);
+        check(all[24 * day + 23].factor == should, "the season of the last hour", (int)day);
     }
 }
 
-/* Every day of the year. */
+/* Every day of the year: by a run, and by steps at noon to the south, and at its first and last moment to the north. */
 static void check_every_day(uint64_t leap)
 {
     static const uint64_t pairs[][2] = {{0, 0},     {0, 365},   {365, 0},   {364, 364}, {365, 365}, {109, 303},
@@ -651,8 +663,11 @@ static void check_every_day(uint64_t leap)
     uint64_t i, day;
     for (i = 0; i < sizeof pairs / sizeof pairs[0]; i++) {
         const pilgartze_site site = {51.06, -1.31, 0, 0, 1.0, leap, 0, pairs[i][0], pairs[i][1]};
+        check_run_of_days(&site);
         for (day = 0; day < 365 + leap; day++) {
-            check_day(&site, day);
+            check_step_of_day(&site, day, 12.0, 180.0);
+            check_step_of_day(&site, day, 0.0, 0.0);
+            check_step_of_day(&site, day, 23.999, 0.0);
         }
     }
 }
