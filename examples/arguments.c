@@ -274,17 +274,40 @@ static void check_empty_lists(void)
     check(call.list_count == 2, "empty factor", -1);
 }
 
-/* One season without sectors leaves the other's as it is. */
-static void check_one_empty_season(void)
+/* One list with nothing in it leaves the others as they are: summer and winter from that place on, then the window. */
+static void check_one_empty(const pilgartze_shading *shading, int place)
 {
-    const pilgartze_shading leafless = {PILGARTZE_EDITION_1, NULL, 0, winter, 2, objects, 2};
-    const pilgartze_shading evergreen = {PILGARTZE_EDITION_1, summer, 3, NULL, 0, objects, 2};
-    pilgartze_step_at(&site, 41.5, &surface, &reading, &leafless, &rows[0]);
-    check_empty("no summer", 0, 1);
-    check_list("no summer", 1, winter, 432);
-    pilgartze_step_at(&site, 41.5, &surface, &reading, &evergreen, &rows[0]);
-    check_list("no winter", 0, summer, 648);
-    check_empty("no winter", 1, 2);
+    const void *const lists[3] = {shading->summer, shading->winter, shading->window};
+    const size_t lengths[3] = {216 * shading->summer_count, 216 * shading->winter_count, 32 * shading->window_count};
+    int i;
+    for (i = 0; i < 3; i++) {
+        if (lists[i] == NULL) {
+            check_empty("one empty list", place + i, place + i + 1);
+        } else {
+            check_list("beside an empty list", place + i, lists[i], lengths[i]);
+        }
+    }
+}
+
+static void check_one_empty_list(void)
+{
+    const pilgartze_weather weather = {diffuse, direct, reflectivity, 5};
+    const pilgartze_shading shadings[3] = {{PILGARTZE_EDITION_1, NULL, 0, winter, 2, objects, 2},
+                                           {PILGARTZE_EDITION_1, summer, 3, NULL, 0, objects, 2},
+                                           {PILGARTZE_EDITION_1, summer, 3, winter, 2, NULL, 0}};
+    int i;
+    for (i = 0; i < 3; i++) {
+        pilgartze_run_job(&site, &run, &surface, &weather, &shadings[i], &days, &totals, rows, 4);
+        check_one_empty(&shadings[i], 3);
+        pilgartze_step_at(&site, 41.5, &surface, &reading, &shadings[i], &rows[0]);
+        check_one_empty(&shadings[i], 0);
+    }
+    pilgartze_factor_at(PILGARTZE_EDITION_1, 51.5, 52.5, &surface, NULL, 0, objects, 2);
+    check_empty("a factor without sectors", 0, 1);
+    check_list("a factor without sectors", 1, objects, 64);
+    pilgartze_factor_at(PILGARTZE_EDITION_1, 51.5, 52.5, &surface, sectors, 5, NULL, 0);
+    check_list("a factor with no window object", 0, sectors, 1080);
+    check_empty("a factor with no window object", 1, 2);
 }
 
 /* A count of -1 wraps to no small length. */
@@ -527,7 +550,7 @@ int main(void)
     check_single_steps(&shading);
     check_factor();
     check_empty_lists();
-    check_one_empty_season();
+    check_one_empty_list();
     check_wrong_counts();
     check_sector();
     check_objects();
