@@ -349,7 +349,7 @@ fn measure_seasons(lists: Lists) -> Result<(), String> {
     println!("|---|---:|---:|---:|");
     for bare in [objects, 1] {
         let name = format!(
-            "a year, {sectors} × {objects} objects in summer, × {bare} in winter, and {near}"
+            "a year, {sectors} × {objects} objects in summer, {sectors} × {bare} in winter, and {near}"
         );
         let job = lists.two_lists(Lists(sectors, bare, near));
         compared_seasons(&job, job.winter.as_deref().expect("a winter list"))

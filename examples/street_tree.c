@@ -3,7 +3,7 @@
  * and the call of the library are in sample.h. */
 #include "sample.h"
 
-/* A tree in the pavement across the street, higher than the houses behind it. */
+/* A tree in the street, nearer and higher than the houses across it. */
 static const double tree_height = 11.0;
 static const double tree_distance = 7.0;
 static const double tree_aside = 15.0; /* degrees from the middle of its crown to either edge: it is 3.8 m wide */
