@@ -9,7 +9,9 @@ pub struct Lent<'a> {
     diffuse: Vec<u8>,
     direct: Vec<u8>,
     reflectivity: Vec<u8>,
-    sectors: Vec<u8>,
+    summer: Vec<u8>,
+    /// None where it is the summer's: then that is lent twice.
+    winter: Option<Vec<u8>>,
     window: Vec<u8>,
     days: Vec<u8>,
     totals: Vec<u8>,
@@ -24,6 +26,8 @@ const SITE: Site = Site {
     series_step: 1.0,
     leap_year: 0,
     direct_beam_conversion: crate::SITE.conversion_needed as u64,
+    first_leaf_day: crate::SITE.first_leaf_day,
+    last_leaf_day: crate::SITE.last_leaf_day,
 };
 
 const SURFACE: Surface = Surface {
@@ -34,6 +38,12 @@ const SURFACE: Surface = Surface {
     width: crate::SURFACE.width,
 };
 
+fn sectors(list: &[crate::Sector]) -> Vec<u8> {
+    list.iter()
+        .flat_map(|each| sector(each.start, each.end, &each.objects))
+        .collect()
+}
+
 impl<'a> Lent<'a> {
     pub fn new(job: &'a Job, steps: usize) -> Self {
         let Series {
@@ -41,16 +51,14 @@ impl<'a> Lent<'a> {
             direct,
             reflectivity,
         } = &job.series;
-        let sectors = job.sectors.iter();
         let window = job.window.iter();
         Lent {
             job,
             diffuse: bytes_of(diffuse),
             direct: bytes_of(direct),
             reflectivity: bytes_of(reflectivity),
-            sectors: sectors
-                .flat_map(|each| sector(each.start, each.end, &each.objects))
-                .collect(),
+            summer: sectors(&job.summer),
+            winter: job.winter.as_deref().map(sectors),
             window: window
                 .flat_map(|&(kind, size, distance, through)| {
                     window_object(kind, size, distance, through)
@@ -76,7 +84,8 @@ impl<'a> Lent<'a> {
         };
         let shading = Shading {
             edition: self.job.edition,
-            sectors: &self.sectors,
+            summer: &self.summer,
+            winter: self.winter.as_ref().unwrap_or(&self.summer),
             window: &self.window,
         };
         let (days, totals, results) = (&mut self.days, &mut self.totals, &mut self.results);
@@ -99,7 +108,8 @@ impl<'a> Lent<'a> {
         };
         let shading = Shading {
             edition: self.job.edition,
-            sectors: &self.sectors,
+            summer: &self.summer,
+            winter: self.winter.as_ref().unwrap_or(&self.summer),
             window: &self.window,
         };
         let results = &mut self.results;

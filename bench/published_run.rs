@@ -58,10 +58,11 @@ fn window_object(&(kind, depth, distance, transparency): &WindowObject) -> Windo
     }
 }
 
-pub fn given(job: &Job) -> Given {
+/// The record has one list of sectors: that of summer or that of winter.
+pub fn given(job: &Job, sectors: &[Sector]) -> Given {
     Given {
         series: job.series.clone(),
-        sectors: job.sectors.iter().map(segment).collect(),
+        sectors: sectors.iter().map(segment).collect(),
         window: job.window.iter().map(window_object).collect(),
     }
 }

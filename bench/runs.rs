@@ -1,10 +1,12 @@
 //! Microseconds for a whole run of the library and for one step, beside the published Rust's
 //! original form: tables of all hours of the year, then step by step. All is of edition 1 but for the
-//! lines that say otherwise.
+//! lines that say otherwise. Then the library alone: a year of quarter-hours beside one of hours, and a
+//! year with a summer and a winter list beside one with the same list all the year.
 //!
 //! Both sides are given the same numbers and lists, at a site in the south of England. Before a line
-//! is measured their rows and sums are compared, bit for bit. The library checks all that it is
-//! given; copying the lists that the published record takes over does not count.
+//! is measured their rows and sums are compared, bit for bit; with two lists each row is held to the
+//! published Rust's with the list of its day. The library checks all that it is given; copying the lists
+//! that the published record takes over does not count.
 
 use std::hint::black_box;
 use std::process::ExitCode;
@@ -41,13 +43,18 @@ pub struct Site {
     pub longitude: f64,
     pub timezone: i32,
     pub conversion_needed: bool,
+    pub first_leaf_day: u64,
+    pub last_leaf_day: u64,
 }
 
+/// Leaves on the trees from 20 April to 31 October.
 pub const SITE: Site = Site {
     latitude: 51.5,
     longitude: -0.5,
     timezone: 0,
     conversion_needed: true,
+    first_leaf_day: 109,
+    last_leaf_day: 303,
 };
 
 pub struct Surface {
@@ -99,7 +106,9 @@ pub struct Job {
     pub start: f64,
     pub end: f64,
     pub step: f64,
-    pub sectors: Vec<Sector>,
+    pub summer: Vec<Sector>,
+    /// None where it is the summer's.
+    pub winter: Option<Vec<Sector>>,
     pub window: Vec<WindowObject>,
 }
 
@@ -128,11 +137,21 @@ impl Lists {
         }
     }
 
-    /// Sectors of equal width all round, and objects by turns of every kind.
-    fn job(self, start: f64, end: f64, step: f64) -> Job {
-        let Lists(sectors, objects, near) = self;
+    /// Sectors of equal width all round, and objects by turns of every kind, the first so high.
+    fn sectors(self, height: f64) -> Vec<Sector> {
+        let Lists(sectors, objects, _) = self;
         let bound = |k: usize| 360.0 * k as f64 / sectors as f64;
-        let distant = |k: usize| (k as u64 % 2, 3.0 + k as f64 / 4.0, 4.0 + k as f64);
+        let distant = |k: usize| (k as u64 % 2, height + k as f64 / 4.0, 4.0 + k as f64);
+        let sector = |k: usize| Sector {
+            start: bound(k),
+            end: bound(k + 1),
+            objects: (0..objects).map(distant).collect(),
+        };
+        (0..sectors).map(sector).collect()
+    }
+
+    fn job(self, start: f64, end: f64, step: f64) -> Job {
+        let Lists(_, _, near) = self;
         let at_window = |k: usize| {
             let (kind, transparency) = [(1, 0.0), (0, 0.5), (2, 0.0), (3, 0.0)][k % 4];
             let (size, distance) = (0.5 + k as f64 / 16.0, 0.25 + k as f64 / 32.0);
@@ -144,19 +163,22 @@ impl Lists {
             start,
             end,
             step,
-            sectors: (0..sectors)
-                .map(|k| Sector {
-                    start: bound(k),
-                    end: bound(k + 1),
-                    objects: (0..objects).map(distant).collect(),
-                })
-                .collect(),
+            summer: self.sectors(3.0),
+            winter: None,
             window: (0..near).map(at_window).collect(),
         }
     }
 
     fn year(self, step: f64) -> Job {
         self.job(0.0, HOURS as f64, step)
+    }
+
+    /// A year of hours, with a winter list of its own, of lower objects.
+    fn two_lists(self, winter: Lists) -> Job {
+        Job {
+            winter: Some(winter.sectors(2.5)),
+            ..self.year(1.0)
+        }
     }
 
     fn one_step(self) -> Job {
@@ -181,27 +203,62 @@ fn alike(rattle: &[Row], rust: &[Row]) -> Result<(), String> {
     Ok(())
 }
 
-/// The rows of a job, the same on both sides. That no step is shaded is an error: lists that count
-/// for nothing would measure little.
-fn compared(job: &Job) -> Result<Vec<Row>, String> {
+/// The rows and the sum by the published Rust, with these sectors.
+fn published(job: &Job, sectors: &[Sector]) -> Result<(Vec<Row>, f64), String> {
     let mut rows = vec![];
-    let theirs = published_run::run(job, published_run::given(job), &mut rows)
+    let sum = published_run::run(job, published_run::given(job, sectors), &mut rows)
         .map_err(|error| format!("the published Rust refuses: {}", error.0))?;
+    Ok((rows, sum))
+}
+
+/// An error where the library does not give these rows and this sum.
+fn held(job: &Job, rows: &[Row], sum: f64) -> Result<(), String> {
     let mut lent = Lent::new(job, rows.len());
     let (count, ours) = lent.run()?;
-    alike(&lent.rows(), &rows)?;
-    if count != rows.len() || !same(ours, theirs) {
-        return Err(format!("{count} steps, sums {ours:?} and {theirs:?}"));
+    alike(&lent.rows(), rows)?;
+    if count != rows.len() || !same(ours, sum) {
+        return Err(format!("{count} steps, sums {ours:?} and {sum:?}"));
     }
+    Ok(())
+}
+
+/// The rows of a job with one list, the same on both sides. That no step is shaded is an error: lists
+/// that count for nothing would measure little.
+fn compared(job: &Job) -> Result<Vec<Row>, String> {
+    let (rows, sum) = published(job, &job.summer)?;
+    held(job, &rows, sum)?;
     if !job.window.is_empty() && rows.iter().all(|row| row[5] == 1.0) {
         return Err("no step is shaded".to_string());
     }
     Ok(rows)
 }
 
+fn in_leaf(hour: usize) -> bool {
+    let day = (hour / 24) as u64;
+    SITE.first_leaf_day <= day && day <= SITE.last_leaf_day
+}
+
+/// A year of hours with two lists: each row is the published Rust's with the list of its day. That the
+/// lists give the same throughout a season is an error.
+fn compared_seasons(job: &Job, winter: &[Sector]) -> Result<(), String> {
+    let (in_summer, _) = published(job, &job.summer)?;
+    let (in_winter, _) = published(job, winter)?;
+    let (mut rows, mut sum, mut differing) = (vec![], 0.0, [0, 0]);
+    for (hour, (summer, winter)) in in_summer.into_iter().zip(in_winter).enumerate() {
+        let row = if in_leaf(hour) { summer } else { winter };
+        sum += (row[5] * row[2]) * job.step;
+        differing[in_leaf(hour) as usize] += (summer != winter) as usize;
+        rows.push(row);
+    }
+    if differing.contains(&0) {
+        return Err(format!("{differing:?} rows differ between the lists"));
+    }
+    held(job, &rows, sum)
+}
+
 /// Microseconds of a run by the published Rust.
 fn rust(job: &Job, rows: &mut Vec<Row>) -> f64 {
-    let given = published_run::given(job);
+    let given = published_run::given(job, &job.summer);
     measure::nanoseconds(|| {
         black_box(published_run::run(black_box(job), given, black_box(rows))).unwrap();
     }) / 1000.0
@@ -283,6 +340,37 @@ fn measure_quarter_hours(lists: Lists) {
     );
 }
 
+/// The library alone: the same year with two lists and with one.
+fn measure_seasons(lists: Lists) -> Result<(), String> {
+    let Lists(sectors, objects, near) = lists;
+    let year = lists.year(1.0);
+    let mut one_list = Lent::new(&year, HOURS);
+    println!("| the library alone | two lists, µs | one list, µs | two lists / one list |");
+    println!("|---|---:|---:|---:|");
+    for bare in [objects, 1] {
+        let name = format!(
+            "a year, {sectors} × {objects} objects in summer, {sectors} × {bare} in winter, and {near}"
+        );
+        let job = lists.two_lists(Lists(sectors, bare, near));
+        compared_seasons(&job, job.winter.as_deref().expect("a winter list"))
+            .map_err(|words| format!("{name}: {words}"))?;
+        let mut two_lists = Lent::new(&job, HOURS);
+        let (two, one) = measure::medians(|| rattle(&mut two_lists), || rattle(&mut one_list));
+        println!("| {name} | {two:.0} | {one:.0} | {:.3} |", two / one);
+    }
+    Ok(())
+}
+
+/// The library alone: a year of hours with two lists.
+fn measure_seasons_alone(lists: Lists) -> Result<(), String> {
+    let job = lists.two_lists(lists);
+    let mut lent = Lent::new(&job, HOURS);
+    lent.run()?;
+    let name = format!("a year of hours, two lists, µs: {}", lists.name());
+    measure::alone(&name, lent.shaded(), || rattle(&mut lent));
+    Ok(())
+}
+
 /// The library alone: a year by hours in both editions and by quarter-hours, a run of one step, and the step by itself.
 fn measure_alone(lists: Lists) -> Result<(), String> {
     for (what, edition, step, count) in [
@@ -320,7 +408,10 @@ fn measure_alone(lists: Lists) -> Result<(), String> {
 fn run() -> Result<(), String> {
     let (usual, heavy, none) = (Lists(36, 2, 4), Lists(36, 8, 16), Lists(1, 0, 0));
     if measure::wants_alone() {
-        return [usual, heavy, none].into_iter().try_for_each(measure_alone);
+        [usual, heavy, none]
+            .into_iter()
+            .try_for_each(measure_alone)?;
+        return measure_seasons_alone(usual);
     }
     println!("| a run, beside the original form | Rattle, µs | Rust, µs | Rattle / Rust |");
     println!("|---|---:|---:|---:|");
@@ -333,7 +424,8 @@ fn run() -> Result<(), String> {
     measure_one_step(heavy)?;
     println!();
     measure_quarter_hours(usual);
-    Ok(())
+    println!();
+    measure_seasons(usual)
 }
 
 fn main() -> ExitCode {

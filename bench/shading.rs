@@ -39,7 +39,7 @@ mod published;
 
 use call::{sector, Call, Scene, WindowObject, LEFT_FIN, OBSTACLE, OVERHANG, RIGHT_FIN};
 use comparison::same;
-use pilgartze::{factor_by, FactorAnswer, Shading, Surface, EDITION_1, FACTOR};
+use pilgartze::{factor_by, FactorAnswer, Surface, EDITION_1, FACTOR};
 use published::shading::Judge;
 
 const CALLS: usize = 1000;
@@ -91,12 +91,17 @@ fn rattle(call: &Call) -> FactorAnswer {
         height,
         width,
     };
-    let shading = Shading {
-        edition: call.edition,
-        sectors: &call.sectors,
-        window: &call.window,
-    };
-    unsafe { factor_by(black_box(FACTOR), altitude, azimuth, &surface, shading) }
+    let sun = [altitude, azimuth];
+    unsafe {
+        factor_by(
+            black_box(FACTOR),
+            call.edition,
+            sun,
+            &surface,
+            &call.sectors,
+            &call.window,
+        )
+    }
 }
 
 /// The calls of one line, with its name.

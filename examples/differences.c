@@ -16,8 +16,8 @@ static const pilgartze_run_times year = {0.0, HOURS, 1.0};
 static const pilgartze_reading reading = {100.0, 600.0, 0.2};
 static pilgartze_sector free_sector;
 static pilgartze_sector walled_sector;
-static const pilgartze_shading bare = {PILGARTZE_EDITION_1, &free_sector, 1, NULL, 0};
-static const pilgartze_shading walled = {PILGARTZE_EDITION_1, &walled_sector, 1, NULL, 0};
+static const pilgartze_shading bare = {PILGARTZE_EDITION_1, &free_sector, 1, &free_sector, 1, NULL, 0};
+static const pilgartze_shading walled = {PILGARTZE_EDITION_1, &walled_sector, 1, &walled_sector, 1, NULL, 0};
 static int checks = 0;
 static int failures = 0;
 
@@ -37,7 +37,7 @@ static int about(double value, double wanted)
 
 static pilgartze_site site_at(double latitude, double longitude, int64_t timezone)
 {
-    pilgartze_site site = {0.0, 0.0, 0, 0, 1.0, 0, 0};
+    pilgartze_site site = {0.0, 0.0, 0, 0, 1.0, 0, 0, 0, 0};
     site.latitude = latitude;
     site.longitude = longitude;
     site.timezone = timezone;
@@ -66,11 +66,14 @@ static pilgartze_breakdown irradiance(pilgartze_site site, double time, pilgartz
 static pilgartze_factor_answer behind_in(uint64_t edition, const pilgartze_window_object *objects, size_t count,
                                          double altitude, double azimuth, pilgartze_surface surface)
 {
-    pilgartze_shading shading = {PILGARTZE_EDITION_1, &free_sector, 1, NULL, 0};
-    shading.edition = edition;
-    shading.window = objects;
-    shading.window_count = count;
-    return pilgartze_factor_at(altitude, azimuth, &surface, &shading);
+    return pilgartze_factor_at(edition, altitude, azimuth, &surface, &free_sector, 1, objects, count);
+}
+
+/* The factor with these sectors and nothing at the window, which no edition changes. */
+static pilgartze_factor_answer among(const pilgartze_sector *horizon, size_t count, double altitude, double azimuth,
+                                     pilgartze_surface surface)
+{
+    return pilgartze_factor_at(PILGARTZE_EDITION_1, altitude, azimuth, &surface, horizon, count, NULL, 0);
 }
 
 /* By the rule for fins that the Rust has. */
@@ -132,10 +135,9 @@ static void overhead_and_awning(void)
     const pilgartze_surface roof = facing(30.0, 180.0, 1.0, 1.0);
     const pilgartze_window_object awning = pilgartze_overhang(0.5, 0.0);
     const pilgartze_surface upright = facing(90.0, 180.0, 1.0, 1.0);
-    pilgartze_shading shading = {PILGARTZE_EDITION_1, &free_sector, 1, NULL, 1};
+    const pilgartze_shading shading = pilgartze_all_year(PILGARTZE_EDITION_1, &free_sector, 1, &awning, 1);
     pilgartze_breakdown sun;
     pilgartze_row row;
-    shading.window = &awning;
     check(pilgartze_step_at(&site, 322.0, &roof, &reading, &shading, &row) == 0, 18, "a roof with an awning");
     check(row.altitude == 90.0 && row.azimuth == 73.3347932457816, 18, "the sun over the roof");
     check(about(row.direct, 592.81296) && row.factor == 0.0, 18, "the shade of the awning");
@@ -233,9 +235,9 @@ static void beam(void)
     const pilgartze_surface pitched = facing(10.0, 0.0, 3.0, 0.3);
     pilgartze_surface flat = facing(0.0, 0.0, 3.0, 1.0);
     pilgartze_row row;
-    check(pilgartze_factor_at(30.0, 0.0, &flat, &walled).factor == 1.0, 10, "a rooflight turned to the north");
+    check(among(&walled_sector, 1, 30.0, 0.0, flat).factor == 1.0, 10, "a rooflight turned to the north");
     flat.orientation = 180.0;
-    check(pilgartze_factor_at(30.0, 0.0, &flat, &walled).factor == 0.0, 10, "a rooflight turned to the south");
+    check(among(&walled_sector, 1, 30.0, 0.0, flat).factor == 0.0, 10, "a rooflight turned to the south");
     check(pilgartze_step_at(&site, 4116.0, &pitched, &reading, &walled, &row) == 0, 10, "a pitched roof");
     check(row.factor == 1.0 && about(row.direct, 547.70654), 10, "light from behind on a pitched roof");
 }
@@ -250,15 +252,13 @@ static void objects(void)
     const pilgartze_window_object wall = pilgartze_obstacle(1.0, 1.0, 0.0);
     const pilgartze_window_object glass = pilgartze_obstacle(1.0, 1.0, 1.0);
     pilgartze_sector distant = pilgartze_free_sector(0.0, 360.0);
-    pilgartze_shading both = {PILGARTZE_EDITION_1, NULL, 1, NULL, 1};
     pilgartze_add_object(&distant, pilgartze_distant_obstacle(1.0, 10.0));
-    both.sectors = &distant;
-    both.window = hedges;
     check(behind(&awning, 1, 45.0, 0.0, roof).factor == 0.5, 21, "a roof's vertical projection");
     check(behind(&awning, 1, 45.0, 0.0, slant).factor == 0.75, 21, "a roof's slant height");
     check(behind(hedges, 1, 0.0, 0.0, upright).factor == 0.75, 11, "one hedge");
     check(behind(hedges, 2, 0.0, 0.0, upright).factor == 0.75, 11, "two hedges");
-    check(pilgartze_factor_at(0.0, 0.0, &upright, &both).factor == 0.5, 11, "a distant wall and a hedge");
+    check(pilgartze_factor_at(PILGARTZE_EDITION_1, 0.0, 0.0, &upright, &distant, 1, hedges, 1).factor == 0.5, 11,
+          "a distant wall and a hedge");
     check(behind(&wall, 1, 0.0, 0.0, upright).factor == 0.5, 22, "transparency 0");
     check(behind(&glass, 1, 0.0, 0.0, upright).factor == 1.0, 22, "transparency 1");
 }
@@ -329,12 +329,10 @@ static void sectors(void)
 {
     const pilgartze_surface upright = facing(90.0, 180.0, 0.0, 1.2);
     pilgartze_sector halves[] = {pilgartze_free_sector(0.0, 180.0), pilgartze_free_sector(190.0, 360.0)};
-    pilgartze_shading shading = {PILGARTZE_EDITION_1, NULL, 2, NULL, 0};
-    shading.sectors = halves;
-    check(pilgartze_factor_at(10.0, 10.0, &upright, &shading).number == 0, 15, "a gap behind the sun");
-    check(pilgartze_factor_at(10.0, -20.0, &upright, &shading).number == PILGARTZE_REFUSED_GAP, 15, "a gap before it");
+    check(among(halves, 2, 10.0, 10.0, upright).number == 0, 15, "a gap behind the sun");
+    check(among(halves, 2, 10.0, -20.0, upright).number == PILGARTZE_REFUSED_GAP, 15, "a gap before it");
     halves[1].start = 180.0;
-    check(pilgartze_factor_at(10.0, 0.0, &upright, &shading).number == PILGARTZE_REFUSED_NO_SECTOR, 9, "a border");
+    check(among(halves, 2, 10.0, 0.0, upright).number == PILGARTZE_REFUSED_NO_SECTOR, 9, "a border");
 }
 
 static void shaded_light(void)

@@ -1,6 +1,7 @@
 #!/usr/bin/env python3
-"""Calls from Python, by ctypes: four summer days by half hours, with an overhang of two depths, and some factors, in
-both editions. Of each run it also prints the totals of a day and of the month.
+"""Calls from Python, by ctypes: four days in June by half hours, with an overhang of two depths and a tree that is in
+leaf from the third day on, and some factors, in both editions. Of each run it also prints the totals of two days and of
+the month.
 
     examples/from_python.py LIBRARY
 
@@ -20,7 +21,7 @@ MONTHS = 12
 
 # include/pilgartze.h says what each field means.
 EDITION_1, EDITION_2 = 1, 2
-SITE = (51.06, -1.31, 0, 170, 1.0, 0, 0)
+SITE = (51.06, -1.31, 0, 170, 1.0, 0, 0, 172, 300)  # the last two are the leaf days, from 0: 172 is 22 June
 RUN = (4080.0, 4176.0, 0.5)
 SURFACE = (90.0, 135.0, 0.9, 1.2, 1.8)
 
@@ -68,12 +69,12 @@ def load(path):
         library = ctypes.CDLL(os.path.abspath(path))
     except OSError as error:
         sys.exit(f"{sys.argv[0]}: {error}")
-    site = [c_double, c_double, c_int64, c_uint64, c_double, c_uint64, c_uint64]
+    site = [c_double, c_double, c_int64, c_uint64, c_double, c_uint64, c_uint64, c_uint64, c_uint64]
     surface = [c_double] * 5
     one_list = [c_void_p, c_size_t]
     library.pilgartze_version.argtypes = []
     library.pilgartze_version.restype = c_uint64
-    library.pilgartze_run.argtypes = [c_uint64] + site + [c_double] * 3 + surface + one_list * 8
+    library.pilgartze_run.argtypes = [c_uint64] + site + [c_double] * 3 + surface + one_list * 9
     library.pilgartze_run.restype = Answer
     library.pilgartze_factor.argtypes = [c_uint64] + [c_double] * 2 + surface + one_list * 2
     library.pilgartze_factor.restype = FactorAnswer
@@ -95,18 +96,19 @@ def series(values):
 
 
 def make_shading(depth):
-    """What may shade the window, with the overhang so deep."""
-    sectors = (Sector * 2)(
-        sector(0.0, 140.0, Object(DISTANT_OBSTACLE, 12.0, 20.0)),
-        sector(140.0, 360.0, Object(DISTANT_OVERHANG, 5.0, 2.0)),
-    )
+    """What may shade the window, with the overhang so deep: in summer, in winter, and at the window itself."""
+    house = Object(DISTANT_OBSTACLE, 12.0, 20.0)
+    tree = Object(DISTANT_OBSTACLE, 9.0, 10.0)
+    bridge = Object(DISTANT_OVERHANG, 5.0, 2.0)
+    summer = (Sector * 2)(sector(0.0, 140.0, house, tree), sector(140.0, 360.0, bridge))
+    winter = (Sector * 2)(sector(0.0, 140.0, house), sector(140.0, 360.0, bridge))
     window = (WindowObject * 4)(
         WindowObject(OVERHANG, depth, 0.15, 0.0),
         WindowObject(LEFT_FIN, 0.4, 0.1, 0.0),
         WindowObject(OBSTACLE, 1.6, 1.0, 0.25),
         WindowObject(RIGHT_FIN, 0.6, 0.1, 0.0),
     )
-    return sectors, window
+    return summer, winter, window
 
 
 def print_totals(name, of):
@@ -114,30 +116,31 @@ def print_totals(name, of):
 
 
 def print_run(library, depth):
-    """The sum with the overhang so deep, that of a day and of the month, and the row of a morning hour. 17 digits tell
-    any two doubles apart."""
+    """The sum with the overhang so deep, that of a day without leaves, of one with leaves and of the month, and the row
+    of a morning hour. 17 digits tell any two doubles apart."""
     diffuse = series(10.0 * (i % 24) for i in range(HOURS))
     direct = series(7.5 * i for i in range(HOURS))
     reflectivity = series([0.2] * HOURS)
-    sectors, window = make_shading(depth)
+    summer, winter, window = make_shading(depth)
     days = (DayValues * DAYS)()
     totals = (Totals * (DAYS_IN_YEAR + MONTHS))()
     rows = (Row * STEPS)()
-    lists = lent(diffuse, direct, reflectivity, sectors, window, days, totals, rows)
+    lists = lent(diffuse, direct, reflectivity, summer, winter, window, days, totals, rows)
     answer = library.pilgartze_run(EDITION_2, *SITE, *RUN, *SURFACE, *lists)
     if answer.number != 0:
         sys.exit(f"turned down by number {answer.number} at step {answer.step}")
     print("overhang %.1f m: %d steps, %.17g Wh/m2" % (depth, answer.count, answer.sum))
     print_totals("21 June", totals[171])
+    print_totals("22 June", totals[172])
     print_totals("June", totals[DAYS_IN_YEAR + 5])
     row = rows[16]
     print("  at 8:00: " + ", ".join("%s %.17g" % (name, getattr(row, name)) for name, _ in Row._fields_))
 
 
 def print_factor(library, edition, altitude):
-    """With the sun to the right of the way that the window faces."""
-    sectors, window = make_shading(1.2)
-    answer = library.pilgartze_factor(edition, altitude, 20.0, *SURFACE, *lent(sectors, window))
+    """With the sun to the right of the way that the window faces, in winter: a factor has one list of sectors."""
+    _, winter, window = make_shading(1.2)
+    answer = library.pilgartze_factor(edition, altitude, 20.0, *SURFACE, *lent(winter, window))
     print("edition %d, altitude %.0f: number %d, factor %.17g" % (edition, altitude, answer.number, answer.factor))
 
 

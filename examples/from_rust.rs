@@ -16,6 +16,9 @@ const SITE: Site = Site {
     series_step: 1.0,
     leap_year: 0,
     direct_beam_conversion: 0,
+    // with the same sectors all the year these do not matter
+    first_leaf_day: 0,
+    last_leaf_day: 0,
 };
 
 const WINDOW: Surface = Surface {
@@ -37,11 +40,8 @@ fn main() {
         direct: &bytes_of(&[500.0; HOURS]),
         reflectivity: &bytes_of(&[0.2; HOURS]),
     };
-    let shading = Shading {
-        edition: EDITION_2,
-        sectors: &sector(0.0, 360.0, &[]),
-        window: &window_object(1, 0.5, 0.1, 0.0),
-    };
+    let (sky, overhang) = (sector(0.0, 360.0, &[]), window_object(1, 0.5, 0.1, 0.0));
+    let shading = Shading::all_year(EDITION_2, &sky, &overhang);
     let mut days = vec![0; DAYS_LENGTH];
     let mut totals = vec![0; totals_length(SITE.leap_year)];
     let mut results = vec![0; 8 * ROW * HOURS];
@@ -61,7 +61,7 @@ fn main() {
     let rows = doubles_of(&results);
     println!("at noon the factor is {:.3}", rows[ROW * 12 + 5]);
 
-    let below_the_horizon = factor(-1.0, 0.0, &WINDOW, shading);
+    let below_the_horizon = factor(EDITION_2, -1.0, 0.0, &WINDOW, &sky, &overhang);
     println!(
         "a sun below the horizon: {}",
         below_the_horizon.unwrap_err()

@@ -68,7 +68,7 @@ static void run_with_shade(const pilgartze_site *site, const pilgartze_run_times
 {
     const pilgartze_window_object overhang = pilgartze_overhang(0.6, 0.2);
     pilgartze_sector sectors[] = {pilgartze_free_sector(0.0, 150.0), pilgartze_free_sector(150.0, 360.0)};
-    const pilgartze_shading shading = {PILGARTZE_EDITION_2, sectors, 2, &overhang, 1};
+    const pilgartze_shading shading = pilgartze_all_year(PILGARTZE_EDITION_2, sectors, 2, &overhang, 1);
     pilgartze_day_table days;
     pilgartze_add_object(&sectors[0], pilgartze_distant_obstacle(6.0, 12.0));
     left->answer =
@@ -78,7 +78,7 @@ static void run_with_shade(const pilgartze_site *site, const pilgartze_run_times
 /* The days with a beam for each hour. Where a value holds for half an hour, each stands twice. */
 static void run_days(double (*beam)(int hour), double series_step, double step, outcome *left)
 {
-    const pilgartze_site london = {51.5, -0.13, 0, DAY, series_step, 0, 0};
+    const pilgartze_site london = {51.5, -0.13, 0, DAY, series_step, 0, 0, 0, 0};
     const pilgartze_run_times days = {24.0 * DAY, 24.0 * (DAY + DAYS), step};
     double diffuse[MOST_VALUES], direct[MOST_VALUES], reflectivity[MOST_VALUES];
     pilgartze_weather weather = {diffuse, direct, reflectivity, 0};

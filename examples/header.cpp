@@ -7,8 +7,7 @@ static double factor_with_no_objects(double altitude, double azimuth)
 {
     const pilgartze_surface surface = {90.0, 180.0, 0.0, 2.0, 1.0};
     const pilgartze_sector all_round = pilgartze_free_sector(0.0, 360.0);
-    const pilgartze_shading shading = {PILGARTZE_EDITION_2, &all_round, 1, nullptr, 0};
-    return pilgartze_factor_at(altitude, azimuth, &surface, &shading).factor;
+    return pilgartze_factor_at(PILGARTZE_EDITION_2, altitude, azimuth, &surface, &all_round, 1, nullptr, 0).factor;
 }
 
 int main()
