@@ -506,6 +506,9 @@ static void check_named_dates(void)
     check(pilgartze_day_of(0, 2, 29) == PILGARTZE_NO_DAY && pilgartze_day_of(1, 2, 29) == 59, "29 February", 0);
     check(pilgartze_day_of(0, 4, 31) == PILGARTZE_NO_DAY, "31 April", 0);
     check(pilgartze_day_of(0, 12, 31) == 364 && pilgartze_day_of(1, 12, 31) == 365, "31 December", 0);
+    check(pilgartze_day_of(2, 4, 20) == PILGARTZE_NO_DAY, "leap year 2", 0);
+    check(pilgartze_day_of(2028, 4, 20) == PILGARTZE_NO_DAY, "leap year 2028", 0);
+    check(pilgartze_day_of(UINT64_MAX, 4, 20) == PILGARTZE_NO_DAY, "leap year -1", 0);
     check(PILGARTZE_NO_DAY > 365, "no day", 0);
 }
 

@@ -219,7 +219,8 @@ typedef struct pilgartze_site {
     uint64_t last_leaf_day;          /* 0..365, the last. If the first is not above the last, summer is the days from
                                         the first to the last, both included; otherwise, as south of the tropics, the
                                         days from the first on and those up to the last. So the first just above the
-                                        last is summer always. pilgartze_day_of gives a date's day */
+                                        last is summer always. pilgartze_day_of gives a date's day. Set both wherever
+                                        the two lists of sectors differ: both 0 is a summer of 1 January alone */
 } pilgartze_site;
 
 /* The steps of a run, in hours from the start of the year. The first step is at start; after a step at time t another
@@ -319,7 +320,7 @@ enum pilgartze_edition {
 
 /* All that may shade the surface, in summer and in winter, and by which edition. One that is zeroed names no edition
  * and is refused (14). What stands there all the year is in both lists; they need not have the same sectors, nor
- * equally many. With one list for all the year begin it by pilgartze_all_year. */
+ * equally many. With one list for all the year, or for a year without leaves, begin it by pilgartze_all_year. */
 typedef struct pilgartze_shading {
     uint64_t edition;               /* an enum pilgartze_edition */
     const pilgartze_sector *summer; /* on days with leaves, see first_leaf_day of pilgartze_site */
@@ -603,18 +604,17 @@ static inline pilgartze_shading pilgartze_all_year(uint64_t edition, const pilga
 #define PILGARTZE_NO_DAY 366
 
 /* The day of the year, from 0, of a day (1..31) of a month (1..12): in a common year 20 April is 109, in a leap year
- * 110. */
+ * 110. Leap_year is 0 or 1, as in the site; with another, such as 2028, no date is in the year. */
 static inline uint64_t pilgartze_day_of(uint64_t leap_year, uint64_t month, uint64_t day)
 {
     static const unsigned char lengths[2][12] = {{31, 28, 31, 30, 31, 30, 31, 31, 30, 31, 30, 31},
                                                  {31, 29, 31, 30, 31, 30, 31, 31, 30, 31, 30, 31}};
-    const unsigned char *const length = lengths[leap_year != 0];
     uint64_t before = 0, m;
-    if (month - 1 >= 12 || day - 1 >= length[month - 1]) {
+    if (leap_year > 1 || month - 1 >= 12 || day - 1 >= lengths[leap_year][month - 1]) {
         return PILGARTZE_NO_DAY;
     }
     for (m = 1; m < month; m++) {
-        before += length[m - 1];
+        before += lengths[leap_year][m - 1];
     }
     return before + day - 1;
 }
