@@ -228,24 +228,12 @@ fn run_steps<'a>(
             shaded = false;
         }
         if !shaded {
-            let sun = sun_place(
-                surface,
-                kept.sun.altitude,
-                kept.sun.azimuth,
-                season.places,
-                season.count,
-            );
+            let altitude = kept.sun.altitude;
+            let azimuth = kept.sun.azimuth;
+            let sun = sun_place(surface, altitude, azimuth, season.places, season.count);
             let place = sun.place;
             let segment = season.places[place_index(place)];
-            factor = factor_at(
-                edition,
-                surface,
-                kept.sun.altitude,
-                kept.sun.azimuth,
-                sun,
-                segment,
-                objects,
-            );
+            factor = factor_at(edition, surface, altitude, azimuth, sun, segment, objects);
             shaded = true;
         }
         let answer = step_at(
