@@ -1,10 +1,12 @@
 -- The list for a day is a part of one of the two lists, and of accepted lists it is one of them whole. Assumes nothing.
 use mathlib.Core.Path.{_≡_, refl, sym, ap, _∙_, subst, subst₂}
-use mathlib.Core.Bool.{Bool, true, false, cond}
+use mathlib.Core.Bool.{Bool, true, false, cond, _||_}
 use mathlib.Core.List.{List}
-use Prim.Native.Nat.{ℕ, _*_, _/_, _%_, _≤_}
+use Prim.Native.Nat.{ℕ, _+_, _*_, _/_, _%_, _≤_}
+use native.Mathlib.Decide.{decLt}
 use native.Mathlib.Omega.{arith}
-use lib.Dec.{T}
+use borrow.Author.Tests.{le-leb, lt-leb}
+use lib.Dec.{T, leb}
 use lib.ListN.{length, take}
 use lib.Seq.{length-take-le, take-all}
 use Rattle.words.specs.Words.{wordCount}
@@ -115,3 +117,19 @@ unfolding seasonTable sectorsFor
 season-read summer winter first last day summery part count places b p n t =
     let m = n ∙ ap sectorCount p in
     λ x. record { summer = b x; count = m x; places = (t ∙ λ y. sectorPlaces (p y) (m y)) x }
+
+-- ---- days
+
+or-true : (b : Bool) → b || true ≡ true
+or-true true = refl
+or-true false = refl
+
+-- the first leaf day right behind the last: every day is summer
+pub always-summer : (last day : ℕ) → inLeaf (last + 1) last day ≡ true
+unfolding inLeaf
+always-summer last day =
+    rw (lt-leb (last + 1) last (omega arith))
+    (elim (decLt last day) [
+      | yes g ↦ rw (le-leb (last + 1) day (omega (arith, g))) refl
+      | no g ↦ rw (le-leb day last (omega (arith, g))) (or-true (leb (last + 1) day))
+    ])
