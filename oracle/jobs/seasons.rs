@@ -233,7 +233,7 @@ fn about_midnight(midnight: f64, hours: f64) -> Vec<(Times, To)> {
 }
 
 /// Each of these leaf days in both years, about the midnights at which the summer begins and ends.
-fn changes(maker: &mut Maker, plain: &Job) -> Vec<Job> {
+pub fn changes(maker: &mut Maker, plain: &Job) -> Vec<Job> {
     let mut jobs = vec![];
     for leap_year in [0, 1] {
         let hours = 24.0 * days_of(leap_year) as f64;
@@ -265,6 +265,18 @@ fn years(maker: &mut Maker, plain: &Job) -> Vec<Job> {
         }
     }
     jobs
+}
+
+/// Each of these leaf days with equal lists.
+fn equal_lists(maker: &mut Maker, plain: &Job) -> Vec<Job> {
+    let times = [2388.0, 2453.0, 4.0];
+    let with = |leaf_days: LeafDays| {
+        let mut job = of_two_lists(maker, plain, 0, times, To::South);
+        set_leaf_days(&mut job, leaf_days);
+        job.winter = job.summer.clone();
+        job
+    };
+    LEAF_DAYS.map(with).to_vec()
 }
 
 /// Every two of some days, and of words that are none, with steps of some days.
@@ -307,7 +319,7 @@ fn runs_in_seasons((first, last): LeafDays) -> [(Times, To); 7] {
 }
 
 /// The same runs with other sectors in one season.
-fn with_other_sectors(maker: &mut Maker, plain: &Job, others: &[Vec<u8>]) -> Vec<Job> {
+pub fn with_other_sectors(maker: &mut Maker, plain: &Job, others: &[Vec<u8>]) -> Vec<Job> {
     let mut jobs = vec![];
     for leaf_days in [(100, 200), (250, 150)] {
         for (times, to) in runs_in_seasons(leaf_days) {
@@ -325,7 +337,7 @@ fn with_other_sectors(maker: &mut Maker, plain: &Job, others: &[Vec<u8>]) -> Vec
 }
 
 /// Sectors that lead to 8, 9 and 10 in one season, met or not; each of these runs with a reveal too.
-fn faults_in_one_season(maker: &mut Maker, plain: &Job) -> Vec<Job> {
+pub fn faults_in_one_season(maker: &mut Maker, plain: &Job) -> Vec<Job> {
     let bounds: [&[(f64, f64)]; 6] = [
         &[(0.0, 100.0), (120.0, 360.0)],
         &[(0.0, 80.0), (80.0, 100.0), (99.0, 360.0)],
@@ -345,7 +357,7 @@ fn faults_in_one_season(maker: &mut Maker, plain: &Job) -> Vec<Job> {
 
 /// A list that leads to 4: too long, a part of a record more or less, a field that is not as it should
 /// be in its last record.
-fn damaged_lists() -> Vec<Vec<u8>> {
+pub fn damaged_lists() -> Vec<Vec<u8>> {
     let list = trees();
     let mut longer = list.clone();
     longer.push(0);
@@ -420,11 +432,11 @@ fn lengths(maker: &mut Maker, plain: &Job) -> Vec<Job> {
 }
 
 /// The faults beside 15 that a run can have; 14 is a word that names no edition.
-const FAULTS: [u32; 12] = [1, 2, 3, 4, 5, 6, 7, 8, 9, 10, 11, 14];
+pub const FAULTS: [u32; 12] = [1, 2, 3, 4, 5, 6, 7, 8, 9, 10, 11, 14];
 
 /// The job with 15 and those of these faults whose bits are in the set. Which of both leaf days it is,
 /// and which edition, goes by the set.
-fn with_faults(plain: &[Job], set: usize) -> Job {
+pub fn with_faults(plain: &[Job], set: usize) -> Job {
     let variant = set.count_ones() as usize % 2;
     let mut job = plain[variant].clone();
     job.edition = EDITIONS[set / 2 % 2];
@@ -449,6 +461,7 @@ pub fn jobs() -> Vec<Job> {
     let plain = plain_jobs(&mut maker);
     let mut jobs = changes(&mut maker, &plain[0]);
     jobs.extend(years(&mut maker, &plain[0]));
+    jobs.extend(equal_lists(&mut maker, &plain[0]));
     jobs.extend(every_two_leaf_days(&mut maker, &plain[0]));
     jobs.extend(faults_in_one_season(&mut maker, &plain[0]));
     jobs.extend(with_other_sectors(&mut maker, &plain[0], &damaged_lists()));

@@ -175,12 +175,12 @@ impl Plain {
     /// Whether a step of a run goes by the summer's list.
     pub fn summer_at(&self, job: &Job, steps: &[Step], k: usize) -> bool {
         let of = |k: usize| self.season_of(By::Run, &job.site, &steps[k], job.times[2]);
-        let changed = (0..=k).find(|&earlier| of(earlier) != of(0));
+        let changed = || (0..=k).find(|&earlier| of(earlier) != of(0));
         match () {
             _ if self.is(SeasonOfTheFirstStep) => of(0),
             _ if self.is(SeasonOneStepLate) => of(k.saturating_sub(1)),
             _ if self.is(SeasonOneStepEarly) => of((k + 1).min(steps.len() - 1)),
-            _ if self.is(SeasonChangesOnceAtMost) => of(changed.unwrap_or(0)),
+            _ if self.is(SeasonChangesOnceAtMost) => of(changed().unwrap_or(0)),
             _ if self.is(ListsOfOneLengthTakenAsOne) && job.summer.len() == job.winter.len() => {
                 true
             }
