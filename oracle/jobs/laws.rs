@@ -121,6 +121,13 @@ impl Pairs {
         Ok(())
     }
 
+    /// Notes a pair with such rows, at so many of which both editions have to agree.
+    fn note(&mut self, law: Law, rows: &Rows, alike: usize) {
+        self.tried[law as usize] += 1;
+        self.steps += rows.0.len() as u64;
+        self.alike += if law == Law::OtherEdition { alike } else { 0 } as u64;
+    }
+
     /// Notes where a pair had other objects.
     fn note_change(&mut self, law: Law, change: Change, job: &Job) {
         if matches!(law, Law::Range | Law::OtherEdition) {
@@ -266,7 +273,10 @@ fn no_nan_extent(numbers: &Numbers) -> bool {
 fn changed(law: Law, change: Change, random: &mut Random, job: &Job, rows: &Rows) -> Job {
     let sun = numbers(job, &rows.0[random.below(rows.0.len())]);
     let mut other = job.clone();
-    for summer in [true, false].into_iter().filter(|&season| change.is_in(season)) {
+    for summer in [true, false]
+        .into_iter()
+        .filter(|&season| change.is_in(season))
+    {
         let mut scene = Scene::of(&Call {
             numbers: sun,
             ..job.objects(summer)
@@ -289,9 +299,8 @@ fn other_row_elsewhere(change: Change, job: &Job, rows: &Rows, others: &Rows) ->
     let seasons = Seasons::of(&job.site);
     let steps = steps_of(&job.site, &job.times);
     let each = steps.iter().zip(rows.0.iter().zip(&others.0));
-    let same_row = |(row, other): (&[f64; ROW], &[f64; ROW])| {
-        row.iter().zip(other).all(|(&x, &y)| same(x, y))
-    };
+    let same_row =
+        |(row, other): (&[f64; ROW], &[f64; ROW])| row.iter().zip(other).all(|(&x, &y)| same(x, y));
     each.map(|(step, rows)| change.is_in(seasons.is_summer(step.day)) || same_row(rows))
         .position(|holds| !holds)
 }
@@ -372,9 +381,7 @@ pub fn try_laws(
                 super::shown_job(&other),
             ));
         }
-        pairs.tried[law as usize] += 1;
-        pairs.steps += rows.0.len() as u64;
-        pairs.alike += if law == Law::OtherEdition { alike } else { 0 } as u64;
+        pairs.note(law, &rows, alike);
         pairs.note_change(law, change, job);
         pairs.note_totals(law, change, job, left, &got);
     }

@@ -167,6 +167,8 @@ const BY_NEW: usize = 50;
 const SHORT_BY_NEW: usize = 200;
 /// The same of the jobs about seasons.
 const SEASONS_BY_NEW: usize = 40;
+/// Of the jobs that are not random one in so many, if its lists are equal, is run with other leaf days.
+const EQUAL_LISTS: u64 = 8;
 
 impl Plan<'_> {
     /// So many short jobs at the sun that at least a third of all are aimed there: somewhat more
@@ -373,7 +375,11 @@ fn smaller_jobs(job: &Job) -> Vec<Job> {
     for summer in [true, false] {
         for call in smaller(&job.objects(summer)) {
             let mut other = job.clone();
-            *(if summer { &mut other.summer } else { &mut other.winter }) = call.sectors;
+            *(if summer {
+                &mut other.summer
+            } else {
+                &mut other.winter
+            }) = call.sectors;
             other.window = call.window;
             all.push(other);
         }
@@ -749,7 +755,8 @@ impl Comparison<'_> {
             self.tally.both_nan += right.answer.sum.is_nan() as u64;
         }
         self.tally.compared += 1;
-        if self.plan.leaf_days {
+        let tried = self.by_chance || self.tally.compared % EQUAL_LISTS == 0;
+        if self.plan.leaf_days && tried {
             let (random, lent) = (&mut self.laws_random, &mut self.lent);
             self.leaf_days += leaf_days_change_nothing(random, job, &got, lent)? as u64;
         }
@@ -917,13 +924,7 @@ impl Comparison<'_> {
         let mut results = single.results.clone();
         let number = self.judge.irradiance(single, &mut results);
         let got = self.lent.irradiance(single)?;
-        self.single(
-            "irradiance",
-            IRRADIANCE_ROW,
-            single,
-            (number, results),
-            got,
-        )?;
+        self.single("irradiance", IRRADIANCE_ROW, single, (number, results), got)?;
         self.met.irradiance[number as usize] += 1;
         self.met.irradiances.note(&self.judge, single.at(aimed));
         Ok(())

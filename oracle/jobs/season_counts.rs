@@ -120,7 +120,10 @@ impl SeasonsMet {
         }
         let seasons = Seasons::of(&job.site);
         let steps = steps_of(&job.site, &job.times);
-        let seasons: Vec<bool> = steps.iter().map(|step| seasons.is_summer(step.day)).collect();
+        let seasons: Vec<bool> = steps
+            .iter()
+            .map(|step| seasons.is_summer(step.day))
+            .collect();
         if seasons.is_empty() {
             return;
         }
@@ -222,9 +225,15 @@ impl SeasonsMet {
         each("", &RUNS, &self.runs);
         each("random: ", &RUNS, &self.random_runs);
         each("", &TOLD, &self.told);
-        let lists = ["same memory for both lists", "a list in a part of the other"];
+        let lists = [
+            "same memory for both lists",
+            "a list in a part of the other",
+        ];
         each("", &lists, &[lent.same_memory, lent.overlapping]);
-        let by_new = ["by the record of a year, one list", "by the record of a year, both lists"];
+        let by_new = [
+            "by the record of a year, one list",
+            "by the record of a year, both lists",
+        ];
         each("", &by_new, &self.by_new);
         for (what, count) in counts {
             if count == 0 {

@@ -77,7 +77,10 @@ impl Maker {
         let few = self.random.below(3) as u64;
         match self.random.below(16) {
             0 => (any, other),
-            1 => (self.one_of(&[0, 1, 364, 365]), self.one_of(&[0, 1, 364, 365])),
+            1 => (
+                self.one_of(&[0, 1, 364, 365]),
+                self.one_of(&[0, 1, 364, 365]),
+            ),
             2 => (any, any),
             3 => (turn, turn),
             4 => (any.min(364) + 1, any.min(364)),
@@ -228,7 +231,8 @@ fn about_midnight(midnight: f64, hours: f64) -> Vec<(Times, To)> {
     ];
     let night = night.into_iter().map(|times| (times, To::North));
     let day = day.into_iter().map(|times| (times, To::South));
-    let fits = |([start, end, _], _): &(Times, To)| *start >= 0.0 && *end <= hours && *start < hours;
+    let fits =
+        |([start, end, _], _): &(Times, To)| *start >= 0.0 && *end <= hours && *start < hours;
     night.chain(day).filter(fits).collect()
 }
 
@@ -257,7 +261,10 @@ fn years(maker: &mut Maker, plain: &Job) -> Vec<Job> {
     for leap_year in [0, 1] {
         let hours = 24.0 * days_of(leap_year) as f64;
         let noons = LEAF_DAYS.map(|leaf_days| (leaf_days, [12.0, hours, 24.0]));
-        let others = [((109, 303), [3.0, hours, 7.1]), ((303, 109), [0.0, hours, 1.0])];
+        let others = [
+            ((109, 303), [3.0, hours, 7.1]),
+            ((303, 109), [0.0, hours, 1.0]),
+        ];
         for (leaf_days, times) in noons.into_iter().chain(others) {
             let mut job = of_two_lists(maker, plain, leap_year, times, To::South);
             set_leaf_days(&mut job, leaf_days);
@@ -440,7 +447,12 @@ pub fn with_faults(plain: &[Job], set: usize) -> Job {
     let variant = set.count_ones() as usize % 2;
     let mut job = plain[variant].clone();
     job.edition = EDITIONS[set / 2 % 2];
-    for (_, &number) in FAULTS.iter().enumerate().rev().filter(|(k, _)| set >> k & 1 == 1) {
+    for (_, &number) in FAULTS
+        .iter()
+        .enumerate()
+        .rev()
+        .filter(|(k, _)| set >> k & 1 == 1)
+    {
         match number {
             14 => job.edition = WRONG_EDITIONS[set % WRONG_EDITIONS.len()],
             _ => fault(&mut job, number, variant),
@@ -455,24 +467,26 @@ pub fn with_faults(plain: &[Job], set: usize) -> Job {
     job
 }
 
-/// Jobs about leaf days and seasons, in both editions by turns. Not part of `edges`.
+/// Jobs about leaf days and seasons, in both editions by turns, the short ones first. Not part of
+/// `edges`.
 pub fn jobs() -> Vec<Job> {
     let mut maker = Maker::new(Random::new(1, "jobs about seasons"));
     let plain = plain_jobs(&mut maker);
-    let mut jobs = changes(&mut maker, &plain[0]);
-    jobs.extend(years(&mut maker, &plain[0]));
-    jobs.extend(equal_lists(&mut maker, &plain[0]));
-    jobs.extend(every_two_leaf_days(&mut maker, &plain[0]));
-    jobs.extend(faults_in_one_season(&mut maker, &plain[0]));
-    jobs.extend(with_other_sectors(&mut maker, &plain[0], &damaged_lists()));
+    let mut jobs = vec![];
     for job in &plain {
         jobs.extend(lengths(&mut maker, job));
     }
+    jobs.extend(every_two_leaf_days(&mut maker, &plain[0]));
+    jobs.extend(equal_lists(&mut maker, &plain[0]));
+    jobs.extend(with_other_sectors(&mut maker, &plain[0], &damaged_lists()));
+    jobs.extend(faults_in_one_season(&mut maker, &plain[0]));
+    jobs.extend(changes(&mut maker, &plain[0]));
+    jobs.extend(years(&mut maker, &plain[0]));
     for (turn, job) in jobs.iter_mut().enumerate() {
         job.edition = EDITIONS[turn % EDITIONS.len()];
     }
-    jobs.extend((0..1 << FAULTS.len()).map(|set| with_faults(&plain, set)));
-    jobs
+    let sets = (0..1 << FAULTS.len()).map(|set| with_faults(&plain, set));
+    sets.chain(jobs).collect()
 }
 
 /// The single step with 15 and those of these faults whose bits are in the set; of 7 the results are
@@ -502,7 +516,10 @@ fn single_with_faults(maker: &mut Maker, plain: &[Job], set: usize) -> Single {
 pub fn singles() -> Vec<Single> {
     let mut maker = Maker::new(Random::new(1, "single steps about seasons"));
     let plain = plain_jobs(&mut maker);
-    let series = FAULTS.iter().position(|&number| number == 5).expect("a fault");
+    let series = FAULTS
+        .iter()
+        .position(|&number| number == 5)
+        .expect("a fault");
     // 5 is none of a single step
     let sets = (0..1 << FAULTS.len()).filter(|set| set >> series & 1 == 0);
     let mut singles: Vec<Single> = sets

@@ -1315,10 +1315,8 @@ impl Plain {
         }
         let site_fine = self.site_fine(&single.site) || self.is(StepSiteUnchecked) && objects;
         let objects_fine = !objects || self.lists_of_single(single).is_some();
-        let equal_lists = single.summer == single.winter;
-        let wrong_leaf_day = self.leaf_days_wrong(by, &single.site, equal_lists);
-        let all = single.readings.iter().enumerate();
-        let readings_fine = all.into_iter().all(|(k, &x)| reading_fine(k, x));
+        let wrong_leaf_day = self.leaf_days_wrong(by, &single.site, false);
+        let readings_fine = (0..3).all(|k| reading_fine(k, single.readings[k]));
         let too_short = match self.is(IrradianceResultsShort) && !objects {
             true => single.results.len() / 8 < doubles - 1,
             false => single.results.len() / 8 < doubles,
@@ -1334,10 +1332,10 @@ impl Plain {
             (!readings_fine, 6),
             (too_short && !(self.is(StepResultsUnchecked) && objects), 7),
         ];
+        self.leaf_day_placed(by, &mut checks);
         if self.is(StepReadingBeforeObject) {
             checks.swap(5, 6);
         }
-        self.leaf_day_placed(by, &mut checks);
         if self.is(StepEditionAfterSite) {
             checks.swap(0, 1);
         }
@@ -1831,8 +1829,7 @@ fn lawless_run<const WAY: u16>(
     let (job, objects) = objects_left_out(WAY, job);
     let mut answer = judge.run(&job, days, totals, results);
     if answer.number != 0 {
-        let turned = job.site.first_leaf_day > job.site.last_leaf_day;
-        answer.step += (Lawless::RefusalByTheLeafDays.is(WAY) && turned) as u64;
+        answer.step += Lawless::RefusalByTheLeafDays.is(WAY) as u64 * job.site.first_leaf_day;
         return answer;
     }
     lawless_totals(WAY, &job, objects, totals);
@@ -1841,8 +1838,8 @@ fn lawless_run<const WAY: u16>(
     let mut sum = 0.0;
     for (row, step) in results.chunks_exact_mut(8 * ROW).zip(&steps) {
         let doubles = doubles_of(row);
-        let factor = lawless_factor(WAY, &job, doubles[5], objects);
-        let factor = factor * lawless_season(WAY, &job, step);
+        let season = lawless_season(WAY, &job, step);
+        let factor = lawless_factor(WAY, &job, doubles[5], objects) * season;
         let direct = match Lawless::DirectByTheEdition.is(WAY) {
             true => doubles[2] + job.edition as f64,
             false => doubles[2],

@@ -73,11 +73,7 @@ impl Plain {
     }
 
     /// 15 in its place among the checks of a run, which came to this without it.
-    pub fn with_leaf_days<T>(
-        &self,
-        job: &Job,
-        others: Result<Vec<T>, u64>,
-    ) -> Result<Vec<T>, u64> {
+    pub fn with_leaf_days<T>(&self, job: &Job, others: Result<Vec<T>, u64>) -> Result<Vec<T>, u64> {
         if !self.leaf_days_wrong(By::Run, &job.site, job.summer == job.winter) {
             return others;
         }
@@ -131,8 +127,7 @@ impl Plain {
             _ if self.is(TurnedSummerUpToLastAlone) => day <= last,
             _ if self.is(OneAboveTheOtherNoSummer) && first == last + 1 => false,
             _ => {
-                first + without_first as u64 <= day
-                    || day <= last && !(without_last && day == last)
+                first + without_first as u64 <= day || day <= last && !(without_last && day == last)
             }
         }
     }
@@ -209,7 +204,11 @@ impl Plain {
             _ if self.is_of(by, [ObjectsOfSummerAlone, StepObjectsOfSummerAlone]) => [true, false],
             _ if self.is_of(by, [ObjectsOfWinterAlone, StepObjectsOfWinterAlone]) => [false, true],
             _ if self.is(ObjectsOfSeasonsWithSteps) => of_steps,
-            _ if self.is_of(by, [ObjectsOfTheFirstStepsSeason, StepObjectsOfItsSeasonAlone]) => {
+            _ if self.is_of(
+                by,
+                [ObjectsOfTheFirstStepsSeason, StepObjectsOfItsSeasonAlone],
+            ) =>
+            {
                 of_the_first
             }
             _ => [true; 2],
@@ -226,7 +225,9 @@ impl Plain {
             }
             _ if self.is(SummerPartOneRecordShort) => [shorter(summer), winter],
             _ if self.is(WinterPartOneRecordShort) => [summer, shorter(winter)],
-            _ if self.is(WinterPartFromTheSecondRecord) => [summer, &winter[winter.len().min(RECORD)..]],
+            _ if self.is(WinterPartFromTheSecondRecord) => {
+                [summer, &winter[winter.len().min(RECORD)..]]
+            }
             _ if self.is(WinterPartOfTheSummersLength) => [summer, cut(winter, summer.len())],
             _ if self.is(SummerPartOfTheWintersLength) => [cut(summer, winter.len()), winter],
             _ => [summer, winter],

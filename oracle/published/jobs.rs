@@ -565,6 +565,22 @@ impl Judge {
         Ok([altitude, azimuth, direct, diffuse, total, factor?])
     }
 
+    /// The row of a run's step, by the list of its day.
+    fn row_of_step(
+        &mut self,
+        job: &Job,
+        seasons: &Seasons,
+        step: Step,
+        readings: Readings,
+    ) -> Result<[f64; ROW], u64> {
+        self.walk_in(seasons.is_summer(step.day));
+        let row = self.row(&job.site, &job.surface, step.hour, readings);
+        if job.summer != job.winter {
+            self.note_both_lists(&job.surface, step.day, row.map(|row| row[5]));
+        }
+        row
+    }
+
     /// A run, and what it leaves in the table of days, in the totals and in the results.
     pub fn run(
         &mut self,
@@ -591,12 +607,7 @@ impl Judge {
             sum: 0.0,
         };
         for (k, &(step, readings)) in steps.iter().enumerate() {
-            self.walk_in(seasons.is_summer(step.day));
-            let row = self.row(&job.site, &job.surface, step.hour, readings);
-            if job.summer != job.winter {
-                self.note_both_lists(&job.surface, step.day, row.map(|row| row[5]));
-            }
-            match row {
+            match self.row_of_step(job, &seasons, step, readings) {
                 Ok(row) => {
                     store(results, ROW * k, &row);
                     answer.sum += watt_hours(&row, step_hours);

@@ -42,7 +42,11 @@ fn changes(judge: &mut Judge, maker: &mut Maker, plain: &Job, short: fn(&Job) ->
                     && site.leap_year == leap_year
                     && short(job)
             };
-            let told: Vec<&Job> = all.iter().filter(of).filter(|job| told_apart(judge, job)).collect();
+            let told: Vec<&Job> = all
+                .iter()
+                .filter(of)
+                .filter(|job| told_apart(judge, job))
+                .collect();
             let both: Vec<&Job> = told.iter().copied().filter(|job| has_both(job)).collect();
             let from = if both.is_empty() { told } else { both };
             if !from.is_empty() {
@@ -61,8 +65,14 @@ const LISTS_EVERY: usize = 17;
 fn in_one_season(maker: &mut Maker, plain: &Job, short: fn(&Job) -> bool) -> Vec<Job> {
     let faults = seasons::faults_in_one_season(maker, plain);
     let lists = seasons::with_other_sectors(maker, plain, &seasons::damaged_lists());
-    let faults = faults.into_iter().filter(|job| short(job)).step_by(FAULTS_EVERY);
-    let lists = lists.into_iter().filter(|job| short(job)).step_by(LISTS_EVERY);
+    let faults = faults
+        .into_iter()
+        .filter(|job| short(job))
+        .step_by(FAULTS_EVERY);
+    let lists = lists
+        .into_iter()
+        .filter(|job| short(job))
+        .step_by(LISTS_EVERY);
     faults.chain(lists).collect()
 }
 
@@ -99,7 +109,10 @@ fn by_chance(settings: &Settings, judge: &mut Judge, short: fn(&Job) -> bool) ->
 /// 15 with no other fault, with each, and with all of them.
 fn of_no_leaf_day(plain: &[Job]) -> Vec<(Job, Option<u64>)> {
     let faults = seasons::FAULTS;
-    let one = faults.iter().enumerate().map(|(k, &number)| (1 << k, number));
+    let one = faults
+        .iter()
+        .enumerate()
+        .map(|(k, &number)| (1 << k, number));
     let sets = [(0, 15), ((1 << faults.len()) - 1, 14)];
     let each = sets.into_iter().chain(one);
     each.map(|(set, number)| {
