@@ -307,7 +307,7 @@ fn every_two_leaf_days(maker: &mut Maker, plain: &Job) -> Vec<Job> {
 /// step; and a day of each looking away from the sun.
 fn runs_in_seasons((first, last): LeafDays) -> [(Times, To); 7] {
     let by_day = |day: u64| [24.0 * day as f64 + 9.0, 24.0 * day as f64 + 15.0, 1.0];
-    let across = |day: u64| [24.0 * day as f64 - 12.0, 24.0 * day as f64 + 14.0, 1.0];
+    let across = |day: u64| [24.0 * day as f64 - 10.0, 24.0 * day as f64 + 11.0, 1.0];
     let middle = (first + last) / 2;
     let (summer, winter) = match first <= last {
         true => (middle, last + 40),

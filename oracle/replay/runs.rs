@@ -205,6 +205,13 @@ fn short(job: &Job) -> bool {
     record(&mut Judge::new(), job.clone()).is_some()
 }
 
+/// The same of one about seasons, which may be somewhat longer.
+fn short_about_seasons(job: &Job) -> bool {
+    let series: usize = job.series.iter().map(|series| series.len()).sum();
+    let objects = job.summer.len() + job.winter.len() + job.window.len();
+    job.results.len() <= MOST_RESULTS && series + objects <= LONGEST
+}
+
 /// Runs with the number that each must have, if that is known. The totals of some are kept.
 fn known(file: &mut File, what: &str, runs: Vec<(Job, Option<u64>)>) -> Result<(), String> {
     let mut judge = Judge::new();
@@ -241,7 +248,8 @@ pub fn file(settings: &Settings) -> Result<File, String> {
     with_totals(&mut file)?;
     let of_editions = editions::runs(settings, short);
     known(&mut file, "of edition 2 or none", of_editions)?;
-    known(&mut file, "about seasons", seasons::runs(settings, short))?;
+    let of_seasons = seasons::runs(settings, short_about_seasons);
+    known(&mut file, "about seasons", of_seasons)?;
     match met.whole() {
         true => Ok(file),
         false => Err(String::from("too few runs of some number")),

@@ -9,6 +9,7 @@ use crate::jobs::seasons::{self, LEAF_DAYS};
 use crate::published::jobs::*;
 use crate::published::seasons::{Seasons, WRONG_LEAF_DAY};
 use crate::random::Random;
+use crate::shading::editions::EDITIONS;
 
 /// Whether a run has other results with its lists exchanged: what its steps walk along can be told.
 fn told_apart(judge: &mut Judge, job: &Job) -> bool {
@@ -58,22 +59,28 @@ fn changes(judge: &mut Judge, maker: &mut Maker, plain: &Job, short: fn(&Job) ->
 }
 
 /// Of these every so many.
-const FAULTS_EVERY: usize = 9;
+const LATER_EVERY: usize = 3;
+const FAULTS_EVERY: usize = 13;
 const LISTS_EVERY: usize = 17;
 
-/// Runs with sectors that are refused in one season, or would be, and with a list that leads to 4.
-fn in_one_season(maker: &mut Maker, plain: &Job, short: fn(&Job) -> bool) -> Vec<Job> {
-    let faults = seasons::faults_in_one_season(maker, plain);
-    let lists = seasons::with_other_sectors(maker, plain, &seasons::damaged_lists());
-    let faults = faults
-        .into_iter()
-        .filter(|job| short(job))
-        .step_by(FAULTS_EVERY);
-    let lists = lists
-        .into_iter()
-        .filter(|job| short(job))
-        .step_by(LISTS_EVERY);
-    faults.chain(lists).collect()
+/// Runs with sectors that are refused in one season, or would be, those past a change of season more
+/// often, and with a list that leads to 4.
+fn in_one_season(
+    judge: &mut Judge,
+    maker: &mut Maker,
+    plain: &Job,
+    short: fn(&Job) -> bool,
+) -> Vec<Job> {
+    let mut faults = seasons::faults_in_one_season(maker, plain);
+    let mut lists = seasons::with_other_sectors(maker, plain, &seasons::damaged_lists());
+    faults.retain(short);
+    lists.retain(short);
+    let past_a_change = |job: &Job| judge.run_on_copies(job).answer.step > 0;
+    let (later, others): (Vec<Job>, Vec<Job>) = faults.into_iter().partition(past_a_change);
+    let later = later.into_iter().step_by(LATER_EVERY);
+    let others = others.into_iter().step_by(FAULTS_EVERY);
+    let lists = lists.into_iter().step_by(LISTS_EVERY);
+    later.chain(others).chain(lists).collect()
 }
 
 /// So many random runs of each number.
@@ -87,7 +94,7 @@ fn by_chance(settings: &Settings, judge: &mut Judge, short: fn(&Job) -> bool) ->
     while wanted.iter().any(|&(_, count)| count > 0) {
         let mut job = maker.any_job();
         maker.put_seasons_in(&mut job);
-        job.edition = 1 + jobs.len() as u64 % 2;
+        job.edition = EDITIONS[jobs.len() % EDITIONS.len()];
         let number = judge.run_on_copies(&job).answer.number;
         let place = wanted.iter().position(|&(known, _)| known == number);
         let Some(place) = place.filter(|&place| wanted[place].1 > 0) else {
@@ -133,8 +140,11 @@ pub fn runs(settings: &Settings, short: fn(&Job) -> bool) -> Vec<(Job, Option<u6
     let mut runs: Vec<(Job, Option<u64>)> = vec![];
     let changes = changes(judge, &mut maker, &plain[0], short);
     runs.extend(changes.into_iter().map(|job| (job, Some(0))));
-    let in_one_season = in_one_season(&mut maker, &plain[0], short);
+    let in_one_season = in_one_season(judge, &mut maker, &plain[0], short);
     runs.extend(in_one_season.into_iter().map(|job| (job, None)));
+    for (turn, (job, _)) in runs.iter_mut().enumerate() {
+        job.edition = EDITIONS[turn % EDITIONS.len()];
+    }
     let by_chance = by_chance(settings, judge, short);
     runs.extend(by_chance.into_iter().map(|job| (job, None)));
     runs.extend(of_no_leaf_day(&plain));
