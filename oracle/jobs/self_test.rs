@@ -154,8 +154,7 @@ fn engines_found(settings: &Settings, plan: Plan) -> Result<usize, String> {
             By::Editions => vec![alone(plan, &editions), random_alone(plan, &nothing)],
             By::Totals => vec![alone(plan, &totals)],
             By::TotalsAndRandom => vec![alone(plan, &totals), random_alone(plan, &nothing)],
-            By::Seasons => vec![alone(plan, &seasons)],
-            By::SeasonsAndRandom => vec![alone(plan, &seasons), random_alone(plan, &nothing)],
+            By::Seasons => vec![alone(plan, &seasons), random_alone(plan, &nothing)],
         };
         for plan in plans {
             found(settings, plan, engine)?;

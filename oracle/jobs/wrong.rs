@@ -35,10 +35,8 @@ pub enum By {
     Totals,
     /// The same, and the random ones alone too.
     TotalsAndRandom,
-    /// Those about leaf days and seasons alone.
+    /// Those about leaf days and seasons alone, and the random ones alone too.
     Seasons,
-    /// The same, and the random ones alone too.
-    SeasonsAndRandom,
 }
 
 pub struct Wrong {
@@ -334,7 +332,7 @@ flaws! {
     Totals "run's totals":
         TotalsTimeByProduct,
         CountOfOneByte;
-    SeasonsAndRandom "run":
+    Seasons "run":
         // leaf days, and their place among the checks
         LeafDaysNotChecked,
         FirstLeafDayNotChecked,
@@ -407,17 +405,16 @@ flaws! {
         OverlappingListsRefused,
         WinterAfterTheSummersGap,
         SummerAfterTheWintersTurn,
-        OtherSeasonWhereNoSector;
-    Seasons "run":
+        OtherSeasonWhereNoSector,
         SeasonOfDay365OfThatBefore,
         SeasonOfDay365OfTheFirst;
-    SeasonsAndRandom "run's sum":
+    Seasons "run's sum":
         WrongLeafDaySumNan;
-    SeasonsAndRandom "run's table of days":
+    Seasons "run's table of days":
         WrongLeafDayTableFilled;
-    SeasonsAndRandom "run's totals":
+    Seasons "run's totals":
         WrongLeafDayTotalsEmptied;
-    SeasonsAndRandom "step":
+    Seasons "step":
         StepLeafDaysNotChecked,
         StepFirstLeafDayNotChecked,
         StepLastLeafDayNotChecked,
@@ -438,10 +435,9 @@ flaws! {
         StepObjectsOfSummerAlone,
         StepObjectsOfWinterAlone,
         StepObjectsOfItsSeasonAlone,
-        StepPartsOneRecordShort;
-    Seasons "step":
+        StepPartsOneRecordShort,
         StepSeasonByTheRoundedTime;
-    SeasonsAndRandom "irradiance":
+    Seasons "irradiance":
         IrradianceLeafDaysNotChecked,
         IrradianceFirstLeafDayNotChecked,
         IrradianceLastLeafDayNotChecked,
