@@ -103,6 +103,7 @@ fn run(arguments: &Arguments) -> Outcome {
         compared: true,
         laws: &LAWS,
         by_the_hour: true,
+        leaf_days: true,
     };
     jobs::section(settings, &LIBRARY, plan)?;
     shading::section(settings, FACTOR)?;

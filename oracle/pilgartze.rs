@@ -23,6 +23,10 @@ pub struct Site {
     /// 0 or 1, and so is the next.
     pub leap_year: u64,
     pub direct_beam_conversion: u64,
+    /// Days of the year, from 0, each 0..365. With the first above the last the summer goes on from it
+    /// to the end of the year, and from the year's first day to the last.
+    pub first_leaf_day: u64,
+    pub last_leaf_day: u64,
 }
 
 /// The steps of a run, in hours from the start of the year.
@@ -63,13 +67,26 @@ pub struct Reading {
 pub const EDITION_1: u64 = 1;
 pub const EDITION_2: u64 = 2;
 
-/// All that may shade the surface, and by which edition: records of 216 bytes (`sector`) and of 32
-/// (`window_object`).
+/// All that may shade the surface, and by which edition: records of 216 bytes (`sector`), those of the
+/// days with leaves and those of the others, and of 32 (`window_object`).
 #[derive(Clone, Copy, Debug)]
 pub struct Shading<'a> {
     pub edition: u64,
-    pub sectors: &'a [u8],
+    pub summer: &'a [u8],
+    pub winter: &'a [u8],
     pub window: &'a [u8],
+}
+
+impl<'a> Shading<'a> {
+    /// With the same sectors all the year; the leaf days do not matter then.
+    pub fn all_year(edition: u64, sectors: &'a [u8], window: &'a [u8]) -> Self {
+        Shading {
+            edition,
+            summer: sectors,
+            winter: sectors,
+            window,
+        }
+    }
 }
 
 // --- Lists ---
@@ -182,10 +199,11 @@ pub enum Refusal {
     NoSector = 10,
     Reveal = 11,
     Edition = 14,
+    LeafDay = 15,
 }
 
 impl Refusal {
-    const ALL: [Refusal; 12] = [
+    const ALL: [Refusal; 13] = [
         Refusal::Site,
         Refusal::Run,
         Refusal::Surface,
@@ -198,6 +216,7 @@ impl Refusal {
         Refusal::NoSector,
         Refusal::Reveal,
         Refusal::Edition,
+        Refusal::LeafDay,
     ];
 
     /// None for 0, an accepted call. The library gives no other numbers than these.
@@ -336,14 +355,18 @@ pub fn irradiance(
     Refusal::of(number).map_or(Ok(()), Err)
 }
 
-/// The direct shading factor for a given sun.
+/// The direct shading factor for a given sun. It has no day: the sectors are those of the season that is
+/// meant.
 pub fn factor(
+    edition: u64,
     altitude: f64,
     azimuth: f64,
     surface: &Surface,
-    shading: Shading,
+    sectors: &[u8],
+    window: &[u8],
 ) -> Result<f64, Refusal> {
-    unsafe { factor_by(pilgartze_factor, altitude, azimuth, surface, shading) }.result()
+    let (call, sun) = (pilgartze_factor, [altitude, azimuth]);
+    unsafe { factor_by(call, edition, sun, surface, sectors, window) }.result()
 }
 
 /// The library's version: 1.2.3 is 1002003.
@@ -367,25 +390,27 @@ functions! {
     fn pilgartze_version() -> u64 as VersionCall;
     fn pilgartze_run(
         edition: u64, latitude: f64, longitude: f64, timezone: i64, start_day: u64, series_step: f64,
-        leap_year: u64, direct_beam_conversion: u64, start: f64, end: f64, step: f64, tilt: f64,
-        orientation: f64, base_height: f64, height: f64, width: f64, diffuse: *const u8,
-        diffuse_length: usize, direct: *const u8, direct_length: usize, reflectivity: *const u8,
-        reflectivity_length: usize, sectors: *const u8, sectors_length: usize, window: *const u8,
-        window_length: usize, days: *mut u8, days_length: usize, totals: *mut u8,
+        leap_year: u64, direct_beam_conversion: u64, first_leaf_day: u64, last_leaf_day: u64,
+        start: f64, end: f64, step: f64, tilt: f64, orientation: f64, base_height: f64, height: f64,
+        width: f64, diffuse: *const u8, diffuse_length: usize, direct: *const u8,
+        direct_length: usize, reflectivity: *const u8, reflectivity_length: usize,
+        summer: *const u8, summer_length: usize, winter: *const u8, winter_length: usize,
+        window: *const u8, window_length: usize, days: *mut u8, days_length: usize, totals: *mut u8,
         totals_length: usize, results: *mut u8, results_length: usize,
     ) -> Answer as RunCall;
     fn pilgartze_step(
         edition: u64, latitude: f64, longitude: f64, timezone: i64, start_day: u64, series_step: f64,
-        leap_year: u64, direct_beam_conversion: u64, time: f64, tilt: f64, orientation: f64,
-        base_height: f64, height: f64, width: f64, diffuse: f64, direct: f64, reflectivity: f64,
-        sectors: *const u8, sectors_length: usize, window: *const u8, window_length: usize,
+        leap_year: u64, direct_beam_conversion: u64, first_leaf_day: u64, last_leaf_day: u64,
+        time: f64, tilt: f64, orientation: f64, base_height: f64, height: f64, width: f64,
+        diffuse: f64, direct: f64, reflectivity: f64, summer: *const u8, summer_length: usize,
+        winter: *const u8, winter_length: usize, window: *const u8, window_length: usize,
         results: *mut u8, results_length: usize,
     ) -> u64 as StepCall;
     fn pilgartze_irradiance(
         latitude: f64, longitude: f64, timezone: i64, start_day: u64, series_step: f64,
-        leap_year: u64, direct_beam_conversion: u64, time: f64, tilt: f64, orientation: f64,
-        base_height: f64, height: f64, width: f64, diffuse: f64, direct: f64, reflectivity: f64,
-        results: *mut u8, results_length: usize,
+        leap_year: u64, direct_beam_conversion: u64, first_leaf_day: u64, last_leaf_day: u64,
+        time: f64, tilt: f64, orientation: f64, base_height: f64, height: f64, width: f64,
+        diffuse: f64, direct: f64, reflectivity: f64, results: *mut u8, results_length: usize,
     ) -> u64 as IrradianceCall;
     fn pilgartze_factor(
         edition: u64, altitude: f64, azimuth: f64, tilt: f64, orientation: f64, base_height: f64,
@@ -419,13 +444,14 @@ pub unsafe fn run_by(
     let answer = call(
         shading.edition,
         site.latitude, site.longitude, site.timezone, site.start_day, site.series_step,
-        site.leap_year, site.direct_beam_conversion,
+        site.leap_year, site.direct_beam_conversion, site.first_leaf_day, site.last_leaf_day,
         times.start, times.end, times.step,
         surface.tilt, surface.orientation, surface.base_height, surface.height, surface.width,
         weather.diffuse.as_ptr(), weather.diffuse.len(),
         weather.direct.as_ptr(), weather.direct.len(),
         weather.reflectivity.as_ptr(), weather.reflectivity.len(),
-        shading.sectors.as_ptr(), shading.sectors.len(),
+        shading.summer.as_ptr(), shading.summer.len(),
+        shading.winter.as_ptr(), shading.winter.len(),
         shading.window.as_ptr(), shading.window.len(),
         days.as_mut_ptr(), days.len(),
         totals.as_mut_ptr(), totals.len(),
@@ -452,6 +478,8 @@ pub unsafe fn step_by(
         site.series_step,
         site.leap_year,
         site.direct_beam_conversion,
+        site.first_leaf_day,
+        site.last_leaf_day,
         time,
         surface.tilt,
         surface.orientation,
@@ -461,8 +489,10 @@ pub unsafe fn step_by(
         reading.diffuse,
         reading.direct,
         reading.reflectivity,
-        shading.sectors.as_ptr(),
-        shading.sectors.len(),
+        shading.summer.as_ptr(),
+        shading.summer.len(),
+        shading.winter.as_ptr(),
+        shading.winter.len(),
         shading.window.as_ptr(),
         shading.window.len(),
         results.as_mut_ptr(),
@@ -486,6 +516,8 @@ pub unsafe fn irradiance_by(
         site.series_step,
         site.leap_year,
         site.direct_beam_conversion,
+        site.first_leaf_day,
+        site.last_leaf_day,
         time,
         surface.tilt,
         surface.orientation,
@@ -500,15 +532,17 @@ pub unsafe fn irradiance_by(
     )
 }
 
+/// The sun is its altitude and azimuth.
 pub unsafe fn factor_by(
     call: FactorCall,
-    altitude: f64,
-    azimuth: f64,
+    edition: u64,
+    [altitude, azimuth]: [f64; 2],
     surface: &Surface,
-    shading: Shading,
+    sectors: &[u8],
+    window: &[u8],
 ) -> FactorAnswer {
     call(
-        shading.edition,
+        edition,
         altitude,
         azimuth,
         surface.tilt,
@@ -516,9 +550,9 @@ pub unsafe fn factor_by(
         surface.base_height,
         surface.height,
         surface.width,
-        shading.sectors.as_ptr(),
-        shading.sectors.len(),
-        shading.window.as_ptr(),
-        shading.window.len(),
+        sectors.as_ptr(),
+        sectors.len(),
+        window.as_ptr(),
+        window.len(),
     )
 }

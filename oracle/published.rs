@@ -27,6 +27,8 @@ pub mod irradiance;
 pub mod jobs;
 #[path = "published/sanity.rs"]
 pub mod sanity;
+#[path = "published/seasons.rs"]
+pub mod seasons;
 #[path = "published/shading.rs"]
 pub mod shading;
 #[path = "published/sun.rs"]

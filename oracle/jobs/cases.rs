@@ -47,9 +47,11 @@ impl Target {
 
 pub struct Maker {
     pub random: Random,
-    /// For tables of days and for totals, so that all else is as it would be without them.
+    /// For tables of days, for totals and for leaf days, so that all else is as it would be without
+    /// them.
     table_random: Random,
     totals_random: Random,
+    leaf_random: Random,
     pub aims: Aims,
     /// Whether jobs have fins on both sides and, at one step at least, the sun up and inside the beam
     /// across the north, so that the difference is beyond 180.
@@ -99,6 +101,7 @@ impl Maker {
         Maker {
             table_random: random.beside("tables of days"),
             totals_random: random.beside("totals"),
+            leaf_random: random.beside("leaf days"),
             random,
             aims: Aims::Seldom,
             across_the_north: false,
@@ -142,6 +145,8 @@ impl Maker {
             series_step,
             leap_year: self.random.below(2) as u64,
             direct_beam_conversion: self.random.below(2) as u64,
+            first_leaf_day: self.leaf_random.below(366) as u64,
+            last_leaf_day: self.leaf_random.below(366) as u64,
         }
     }
 
@@ -229,7 +234,7 @@ impl Maker {
 
     /// Whether a job is aimed where it has to be, and has the sun where it has to be.
     fn is_well_placed(&mut self, site: &JobSite, times: &Times, numbers: &Numbers) -> bool {
-        let across = |numbers: &Numbers| {
+        let across = |(_, numbers): &(u32, Numbers)| {
             numbers[ALTITUDE] > 0.0 && difference(numbers).abs() > 180.0 && !outside_beam(numbers)
         };
         if self.aims != Aims::Seldom && self.target.is_none() {
@@ -286,10 +291,9 @@ impl Maker {
         numbers
     }
 
-    /// Distant and near objects; few jobs have sectors that do not go all the way round.
-    fn any_lists(&mut self, numbers: &Numbers) -> (Vec<u8>, Vec<u8>) {
-        let aim = Aim::new(&mut self.random, numbers);
-        let mut sectors = scenes::any_sectors(&mut self.random, &aim);
+    /// Distant objects; few jobs have sectors that do not go all the way round.
+    fn any_sectors(&mut self, aim: &Aim) -> Vec<Sector> {
+        let mut sectors = scenes::any_sectors(&mut self.random, aim);
         if let (Some(last), true) = (sectors.len().checked_sub(1), self.random.below(8) != 0) {
             sectors[0][START] = 0.0f64.to_bits();
             sectors[last][END] = 360.0f64.to_bits();
@@ -297,6 +301,19 @@ impl Maker {
         if sectors.is_empty() && self.random.below(4) != 0 {
             sectors = vec![sector(0.0, 360.0, &[])];
         }
+        sectors
+    }
+
+    /// The same for the other season.
+    pub fn sectors_aimed_by(&mut self, numbers: &Numbers) -> Vec<Sector> {
+        let aim = Aim::new(&mut self.random, numbers);
+        self.any_sectors(&aim)
+    }
+
+    /// Distant and near objects.
+    fn any_lists(&mut self, numbers: &Numbers) -> (Vec<u8>, Vec<u8>) {
+        let aim = Aim::new(&mut self.random, numbers);
+        let sectors = self.any_sectors(&aim);
         let mut window = scenes::any_window(&mut self.random, &aim);
         if self.across_the_north {
             scenes::fins_put_in(&mut self.random, &aim, &mut window);
@@ -427,7 +444,8 @@ impl Maker {
             times,
             surface: numbers[2..].try_into().unwrap(),
             series: [vec![], vec![], vec![]],
-            sectors,
+            summer: sectors.clone(),
+            winter: sectors,
             window,
             days: vec![],
             totals: vec![],
@@ -504,7 +522,10 @@ impl Maker {
             9 => 0.5,
             10 => 0.3,
             11 => 0.7,
+            // over some days, for a change of season
             12 => self.random.uniform(1.0, 24.0),
+            13 => self.random.uniform(6.0, 24.0),
+            14 => 24.0,
             _ => self.random.uniform(0.25, 1.0),
         };
         let length = step * (1 + self.random.below(most_steps)) as f64;
@@ -654,8 +675,8 @@ impl Maker {
         job.surface[place] = self.edge_of(SURFACE_RANGES[place]);
     }
 
-    /// The objects of a job with the sun of one of its steps.
-    fn scene(&mut self, job: &Job) -> Scene {
+    /// The objects of a job, with one list as yet, and the sun of one of its steps.
+    pub fn scene(&mut self, job: &Job) -> Scene {
         let steps = steps_if_any(&job.site, &job.times);
         let (altitude, azimuth) = self.sun_of(&job.site, &steps);
         let [tilt, orientation, base_height, height, width] = job.surface;
@@ -670,7 +691,7 @@ impl Maker {
                 height,
                 width,
             ],
-            sectors: job.sectors.clone(),
+            sectors: job.summer.clone(),
             window: job.window.clone(),
         })
     }
@@ -836,7 +857,8 @@ impl Maker {
             time,
             surface: job.surface,
             readings,
-            sectors: job.sectors.clone(),
+            summer: job.summer.clone(),
+            winter: job.winter.clone(),
             window: job.window.clone(),
             results: self.bytes(8 * doubles + more),
         }
@@ -844,6 +866,6 @@ impl Maker {
 }
 
 fn put_back(job: &mut Job, call: Call) {
-    job.sectors = call.sectors;
+    job.set_sectors(call.sectors);
     job.window = call.window;
 }

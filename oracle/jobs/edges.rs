@@ -97,7 +97,7 @@ fn lengths(jobs: &mut Vec<Job>, job: &Job, maker: &mut Maker) {
 
 /// The lists of objects at every length about a whole record, and about the most there may be.
 fn object_lengths(jobs: &mut Vec<Job>, job: &Job) {
-    let scene = Scene::of(&job.objects());
+    let scene = Scene::of(&job.objects(true));
     let width = 360.0 / (MOST_SECTORS + 2) as f64;
     let around =
         (0..MOST_SECTORS + 2).map(|i| sector(i as f64 * width, (i + 1) as f64 * width, &[]));
@@ -124,7 +124,7 @@ fn object_lengths(jobs: &mut Vec<Job>, job: &Job) {
     };
     for len in about(MOST_SECTORS, SECTOR_WORDS) {
         let mut other = job.clone();
-        other.sectors = long.sectors[..len].to_vec();
+        other.set_sectors(long.sectors[..len].to_vec());
         jobs.push(other);
     }
     for len in about(MOST_WINDOW_OBJECTS, WINDOW_WORDS) {
@@ -180,11 +180,15 @@ pub fn fault(job: &mut Job, number: u32, variant: usize) {
             job.series[list] = nan.repeat(words);
         }
         7 => job.results.truncate(40),
-        8 => job.sectors = sectors_of(&[(0.0, 1e-9), (2.0, 360.0)]),
-        9 => job.sectors = sectors_of(&[(200.0, 100.0)]),
-        10 => job.sectors = sectors_of(&[]),
+        8 => job.set_sectors(sectors_of(&[(0.0, 1e-9), (2.0, 360.0)])),
+        9 => job.set_sectors(sectors_of(&[(200.0, 100.0)])),
+        10 => job.set_sectors(sectors_of(&[])),
+        15 => {
+            let days = [&mut job.site.first_leaf_day, &mut job.site.last_leaf_day];
+            *days.into_iter().nth(variant).expect("one of two") = 366;
+        }
         _ => {
-            let mut scene = Scene::of(&job.objects());
+            let mut scene = Scene::of(&job.objects(true));
             scene.window.truncate(15);
             let one = 1.0f64.to_bits();
             scene.window.push([REVEAL, one, one, 0]);
@@ -308,7 +312,7 @@ fn square_and_overhead(jobs: &mut Vec<Job>, job: &Job, maker: &mut Maker) {
             other.surface[0] = 15.0;
             other.surface[1] = 180.0;
             other.times = [hour - before, hour + after, 1.0];
-            other.sectors = sectors_of(&[(0.0, 360.0)]);
+            other.set_sectors(sectors_of(&[(0.0, 360.0)]));
             maker.fit(&mut other);
             jobs.push(other);
         }
@@ -342,7 +346,7 @@ pub fn under_the_sun() -> Vec<Job> {
                 (job.site.timezone, job.site.start_day) = (0, 0);
                 job.surface[..2].copy_from_slice(&[0.0, orientation]);
                 job.times = [hour - before, hour + 1.0, 1.0];
-                job.sectors = sectors_of(bounds);
+                job.set_sectors(sectors_of(bounds));
                 maker.fit(&mut job);
                 jobs.push(job);
             }
@@ -391,11 +395,9 @@ pub fn walks() -> Vec<Job> {
                 sectors,
                 window: vec![],
             };
-            let sectors = scene.call().sectors;
-            jobs.push(Job {
-                sectors,
-                ..job.clone()
-            });
+            let mut job = job.clone();
+            job.set_sectors(scene.call().sectors);
+            jobs.push(job);
         }
     }
     jobs
@@ -574,7 +576,7 @@ fn in_the_north(maker: &mut Maker, plain: &Job, latitude: f64, hour: f64) -> Job
     (job.site.start_day, job.site.series_step) = ((hour / 24.0) as u64, 1.0);
     job.surface = [90.0, 0.0, 0.5, 1.0, 1.0];
     job.times = [hour, hour + 1.0, 1.0];
-    job.sectors = sectors_of(&[(0.0, 360.0)]);
+    job.set_sectors(sectors_of(&[(0.0, 360.0)]));
     maker.fit(&mut job);
     job
 }

@@ -1,11 +1,12 @@
 //! Two jobs compared: the factor's laws over whole runs, from the first step to the last, over their
 //! sums and over their totals of days and months. Both name the same edition, but for what the editions
-//! have in common.
+//! have in common. Objects are other ones in summer, in winter or in both. And what equal lists come to.
 
 use super::lent::Lent;
 use crate::comparison::{same, shown, Outcome, Settings};
 use crate::pilgartze::{totals_of, Totals, MONTHS};
 use crate::published::jobs::*;
+use crate::published::seasons::{leaf_days_fine, Seasons};
 use crate::published::shading::{outside_beam, Numbers};
 use crate::published::totals::{days_of, month_of};
 use crate::random::Random;
@@ -24,7 +25,46 @@ pub struct Pairs {
     smaller: u64,
     /// Steps with left fins at which both editions have the same factor.
     alike: u64,
+    /// Pairs with other objects in one season alone or in both, and steps of the season that was left
+    /// as it was.
+    changed: [u64; CHANGES.len()],
+    left_alone: [u64; CHANGES.len()],
+    /// Days and months whose sum was smaller with further objects there.
+    smaller_in: [u64; CHANGES.len()],
     skipped: u64,
+}
+
+/// Where the other job of a pair has other objects.
+#[derive(Clone, Copy, PartialEq)]
+enum Change {
+    Summer,
+    Winter,
+    /// In both, and at the window.
+    Everywhere,
+}
+
+const CHANGES: [(Change, &str); 3] = [
+    (Change::Summer, "summer alone"),
+    (Change::Winter, "winter alone"),
+    (Change::Everywhere, "both and at the window"),
+];
+
+impl Change {
+    /// One of them, by chance; what is said of no objects, and of editions, is said of all.
+    fn any(law: Law, random: &mut Random) -> Change {
+        match law {
+            Law::Range | Law::Emptied | Law::OtherEdition => Change::Everywhere,
+            _ => CHANGES[random.below(CHANGES.len())].0,
+        }
+    }
+
+    fn is_in(self, summer: bool) -> bool {
+        match self {
+            Change::Summer => summer,
+            Change::Winter => !summer,
+            Change::Everywhere => true,
+        }
+    }
 }
 
 impl Pairs {
@@ -54,13 +94,56 @@ impl Pairs {
             }
             settings.detail("steps alike in both editions", self.alike);
         }
+        if laws.contains(&Law::Enlarged) {
+            self.report_seasons(settings)?;
+        }
         settings.detail("laws not tried: an extent might be NaN", self.skipped);
         Ok(())
+    }
+
+    fn report_seasons(&self, settings: &Settings) -> Outcome {
+        for (place, (change, season)) in CHANGES.into_iter().enumerate() {
+            let mut counts = vec![
+                (format!("pairs, in {season}"), self.changed[place]),
+                (format!("smaller, in {season}"), self.smaller_in[place]),
+            ];
+            if change != Change::Everywhere {
+                let words = format!("steps left alone, in {season}");
+                counts.push((words, self.left_alone[place]));
+            }
+            for (what, count) in counts {
+                if count == 0 {
+                    return Err(format!("run: no {what}"));
+                }
+                settings.detail(&what, count);
+            }
+        }
+        Ok(())
+    }
+
+    /// Notes a pair with such rows, at so many of which both editions have to agree.
+    fn note(&mut self, law: Law, rows: &Rows, alike: usize) {
+        self.tried[law as usize] += 1;
+        self.steps += rows.0.len() as u64;
+        self.alike += if law == Law::OtherEdition { alike } else { 0 } as u64;
+    }
+
+    /// Notes where a pair had other objects.
+    fn note_change(&mut self, law: Law, change: Change, job: &Job) {
+        if matches!(law, Law::Range | Law::OtherEdition) {
+            return;
+        }
+        self.changed[change as usize] += 1;
+        let seasons = Seasons::of(&job.site);
+        let steps = steps_of(&job.site, &job.times);
+        let left = |step: &&Step| !change.is_in(seasons.is_summer(step.day));
+        self.left_alone[change as usize] += steps.iter().filter(left).count() as u64;
     }
 
     fn note_totals(
         &mut self,
         law: Law,
+        change: Change,
         job: &Job,
         left: &Left<RunAnswer>,
         other: &Left<RunAnswer>,
@@ -68,8 +151,10 @@ impl Pairs {
         let (kept, other) = (totals_of(&left.totals), totals_of(&other.totals));
         let records = days_of(job.site.leap_year) + MONTHS;
         for (kept, other) in kept.iter().zip(&other).take(records) {
+            let smaller = law == Law::Enlarged && other.sum < kept.sum;
             self.records += (kept.count > 0) as u64;
-            self.smaller += (law == Law::Enlarged && other.sum < kept.sum) as u64;
+            self.smaller += smaller as u64;
+            self.smaller_in[change as usize] += smaller as u64;
         }
     }
 }
@@ -183,25 +268,51 @@ fn no_nan_extent(numbers: &Numbers) -> bool {
     extents_are_numbers(numbers) || outside_beam(numbers)
 }
 
-/// The job with other objects, or in the other edition; further objects are aimed by the sun of one of the rows.
-fn changed(law: Law, random: &mut Random, job: &Job, rows: &Rows) -> Job {
+/// The job with other objects there, or in the other edition; further objects are aimed by the sun of
+/// one of the rows.
+fn changed(law: Law, change: Change, random: &mut Random, job: &Job, rows: &Rows) -> Job {
     let sun = numbers(job, &rows.0[random.below(rows.0.len())]);
-    let mut scene = Scene::of(&Call {
-        numbers: sun,
-        ..job.objects()
-    });
-    law.change(random, &mut scene);
-    let call = scene.call();
-    Job {
-        edition: call.edition,
-        sectors: call.sectors,
-        window: call.window,
-        ..job.clone()
+    let mut other = job.clone();
+    for summer in [true, false]
+        .into_iter()
+        .filter(|&season| change.is_in(season))
+    {
+        let mut scene = Scene::of(&Call {
+            numbers: sun,
+            ..job.objects(summer)
+        });
+        law.change(random, &mut scene);
+        let call = scene.call();
+        match summer {
+            true => other.summer = call.sectors,
+            false => other.winter = call.sectors,
+        }
+        if change == Change::Everywhere {
+            (other.edition, other.window) = (call.edition, call.window);
+        }
     }
+    other
+}
+
+/// The first step of a season whose objects are the same in both jobs that has another row.
+fn other_row_elsewhere(change: Change, job: &Job, rows: &Rows, others: &Rows) -> Option<usize> {
+    let seasons = Seasons::of(&job.site);
+    let steps = steps_of(&job.site, &job.times);
+    let each = steps.iter().zip(rows.0.iter().zip(&others.0));
+    let same_row =
+        |(row, other): (&[f64; ROW], &[f64; ROW])| row.iter().zip(other).all(|(&x, &y)| same(x, y));
+    each.map(|(step, rows)| change.is_in(seasons.is_summer(step.day)) || same_row(rows))
+        .position(|holds| !holds)
 }
 
 /// What breaks the law in this job and one with other objects, by what they left, in words.
-fn broken(law: Law, job: &Job, left: &Left<RunAnswer>, other: &Left<RunAnswer>) -> Option<String> {
+fn broken(
+    law: Law,
+    change: Change,
+    job: &Job,
+    left: &Left<RunAnswer>,
+    other: &Left<RunAnswer>,
+) -> Option<String> {
     let [.., step_hours] = job.times;
     let (rows, other_rows) = (Rows::of(left), Rows::of(other));
     let (sum, other_sum) = (left.answer.sum, other.answer.sum);
@@ -215,6 +326,9 @@ fn broken(law: Law, job: &Job, left: &Left<RunAnswer>, other: &Left<RunAnswer>) 
             let (factor, other) = (shown(row[5]), shown(other[5]));
             return Some(format!("step {step}, factors {factor} and {other}"));
         }
+    }
+    if let Some(step) = other_row_elsewhere(change, job, &rows, &other_rows) {
+        return Some(format!("step {step}, of the season that was left alone"));
     }
     if !sums_hold(law, sum, other_sum, rows.unshaded(step_hours)) {
         return Some(format!("sums {} and {}", shown(sum), shown(other_sum)));
@@ -253,12 +367,13 @@ pub fn try_laws(
         if law == Law::OtherEdition && alike == 0 {
             continue;
         }
-        let other = changed(law, random, job, &rows);
+        let change = Change::any(law, random);
+        let other = changed(law, change, random, job, &rows);
         if law != Law::Range && other == *job {
             continue;
         }
         let got = lent.run(&other)?;
-        if let Some(words) = broken(law, job, left, &got) {
+        if let Some(words) = broken(law, change, job, left, &got) {
             return Err(format!(
                 "run breaks the law of the {}: {words}\n{}\nand\n{}",
                 law.name(),
@@ -266,10 +381,34 @@ pub fn try_laws(
                 super::shown_job(&other),
             ));
         }
-        pairs.tried[law as usize] += 1;
-        pairs.steps += rows.0.len() as u64;
-        pairs.alike += if law == Law::OtherEdition { alike } else { 0 } as u64;
-        pairs.note_totals(law, job, left, &got);
+        pairs.note(law, &rows, alike);
+        pairs.note_change(law, change, job);
+        pairs.note_totals(law, change, job, left, &got);
     }
     Ok(())
+}
+
+/// "An older job, with one list, is a job with two equal lists": with these any leaf days that are
+/// accepted give the same answer and leave the same bytes, whatever was refused. Whether the job is one.
+pub fn leaf_days_change_nothing(
+    random: &mut Random,
+    job: &Job,
+    left: &Left<RunAnswer>,
+    lent: &mut Lent,
+) -> Result<bool, String> {
+    if job.summer != job.winter || !leaf_days_fine(&job.site) {
+        return Ok(false);
+    }
+    let mut other = job.clone();
+    other.site.first_leaf_day = random.below(366) as u64;
+    other.site.last_leaf_day = random.below(366) as u64;
+    let got = lent.run(&other)?;
+    match super::other_part(left, &got) {
+        None => Ok(true),
+        Some(part) => Err(format!(
+            "run with equal lists and other leaf days: another {part}\n{}\nand\n{}",
+            super::shown_job(job),
+            super::shown_job(&other),
+        )),
+    }
 }

@@ -75,19 +75,49 @@ impl Pages {
 /// A side of the comparison, with pages for the lists.
 pub struct Lent {
     library: Library,
-    /// Diffuse, direct, reflectivity, sectors, window, days, totals, results.
+    /// Diffuse, direct, reflectivity, summer, winter, window, days, totals, results.
     pages: [Pages; LISTS],
     turn: usize,
+    /// Calls with both lists of sectors in the same memory, and with one in a part of the other's.
+    pub same_memory: u64,
+    pub overlapping: u64,
     /// A list, and the end of its pages at which it stands, where that is not by turns.
     pub list_side: Option<(usize, Side)>,
 }
 
-const LISTS: usize = 8;
-const ONLY_READ: usize = 5;
-pub const DAYS_LIST: usize = 5;
-pub const TOTALS_LIST: usize = 6;
-const RESULTS: usize = 7;
+const LISTS: usize = 9;
+const ONLY_READ: usize = 6;
+const SUMMER: usize = 3;
+const WINTER: usize = 4;
+pub const DAYS_LIST: usize = 6;
+pub const TOTALS_LIST: usize = 7;
+const RESULTS: usize = 8;
 const WRITTEN: [usize; 3] = [DAYS_LIST, TOTALS_LIST, RESULTS];
+
+/// A list of sectors that is lent as a part of the other, from that byte of it on.
+#[derive(Clone, Copy)]
+struct Part {
+    list: usize,
+    of: usize,
+    from: usize,
+}
+
+/// One of both lists of sectors as a part of the other, at its start or at its end, if it is one.
+fn part_of_the_other(lists: &[&[u8]; LISTS]) -> Option<Part> {
+    let part = |(list, of): (usize, usize)| {
+        let (inner, outer) = (lists[list], lists[of]);
+        let from = match () {
+            _ if inner.is_empty() => None,
+            _ if outer.starts_with(inner) => Some(0),
+            _ if outer.ends_with(inner) => Some(outer.len() - inner.len()),
+            _ => None,
+        };
+        from.map(|from| Part { list, of, from })
+    };
+    [(WINTER, SUMMER), (SUMMER, WINTER)]
+        .into_iter()
+        .find_map(part)
+}
 
 impl Lent {
     /// For lists of at most that many bytes.
@@ -96,17 +126,41 @@ impl Lent {
             library,
             pages: std::array::from_fn(|_| Pages::holding(most)),
             turn: 0,
+            same_memory: 0,
+            overlapping: 0,
             list_side: None,
         }
     }
 
-    /// Whether a list stands at the back of its pages; all 256 patterns come in 256 turns, as 41 is
+    /// Whether a list stands at the back of its pages; all 512 patterns come in 512 turns, as 41 is
     /// odd.
     fn at_back(&self, list: usize) -> bool {
         match self.list_side {
             Some((other, side)) if list == other => side == Side::Back,
             _ => self.turn * 41 >> list & 1 == 1,
         }
+    }
+
+    /// One list of sectors as a part of the other, where it is one, in every other call.
+    fn part(&mut self, lists: &[&[u8]; LISTS]) -> Option<Part> {
+        let part = part_of_the_other(lists).filter(|_| self.turn % 2 == 0)?;
+        let whole = lists[part.list].len() == lists[part.of].len();
+        self.same_memory += whole as u64;
+        self.overlapping += !whole as u64;
+        Some(part)
+    }
+
+    /// Puts the lists into their pages, and gives their addresses.
+    fn put(&mut self, call: &'static str, lists: &[&[u8]; LISTS]) -> [*mut u8; LISTS] {
+        let part = self.part(lists);
+        let mut starts: [*mut u8; LISTS] = std::array::from_fn(|k| {
+            let back = self.at_back(k);
+            self.pages[k].put(call, back, lists[k], lists[DAYS_LIST].len())
+        });
+        if let Some(Part { list, of, from }) = part {
+            starts[list] = unsafe { starts[of].add(from) };
+        }
+        starts
     }
 
     /// Lends the lists, each against the front or the back of its pages, by turns; looks at them
@@ -118,10 +172,7 @@ impl Lent {
         function: impl FnOnce(&Library, [&[u8]; ONLY_READ], [&mut [u8]; 3]) -> T,
     ) -> Result<Left<T>, String> {
         self.turn += 1;
-        let starts: [*mut u8; LISTS] = std::array::from_fn(|k| {
-            let back = self.at_back(k);
-            self.pages[k].put(call, back, lists[k], lists[DAYS_LIST].len())
-        });
+        let starts = self.put(call, &lists);
         let read = |k: usize| unsafe { std::slice::from_raw_parts(starts[k], lists[k].len()) };
         let written =
             WRITTEN.map(|k| unsafe { std::slice::from_raw_parts_mut(starts[k], lists[k].len()) });
@@ -156,14 +207,15 @@ impl Lent {
             diffuse,
             direct,
             reflectivity,
-            &job.sectors,
+            &job.summer,
+            &job.winter,
             &job.window,
             &job.days,
             &job.totals,
             &job.results,
         ];
         self.with("run", lists, |library, lent, [days, totals, results]| {
-            let [diffuse, direct, reflectivity, sectors, window] = lent;
+            let [diffuse, direct, reflectivity, summer, winter, window] = lent;
             let weather = Weather {
                 diffuse,
                 direct,
@@ -171,7 +223,8 @@ impl Lent {
             };
             let shading = Shading {
                 edition: job.edition,
-                sectors,
+                summer,
+                winter,
                 window,
             };
             let (call, site) = (library.run, &job.site);
@@ -187,13 +240,15 @@ impl Lent {
         let Single { site, time, .. } = single;
         let surface = surface_of(single.surface);
         let reading = reading_of(single.readings);
-        let (sectors, window, results) = (&single.sectors, &single.window, &single.results);
-        let lists: [&[u8]; LISTS] = [&[], &[], &[], sectors, window, &[], &[], results];
+        let (summer, winter) = (&single.summer, &single.winter);
+        let (window, results) = (&single.window, &single.results);
+        let lists: [&[u8]; LISTS] = [&[], &[], &[], summer, winter, window, &[], &[], results];
         self.with("step", lists, |library, lent, [.., results]| {
-            let [.., sectors, window] = lent;
+            let [.., summer, winter, window] = lent;
             let shading = Shading {
                 edition: single.edition,
-                sectors,
+                summer,
+                winter,
                 window,
             };
             let call = library.step;

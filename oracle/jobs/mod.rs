@@ -6,10 +6,13 @@ pub mod cases;
 pub mod edges;
 pub mod laws;
 pub mod lent;
+mod season_counts;
+pub mod seasons;
 pub mod self_test;
 pub mod tables;
 pub mod totals;
 pub mod wrong;
+mod wrong_seasons;
 mod wrong_totals;
 
 use crate::comparison::{same, shown, Outcome, Settings, Tally, With};
@@ -17,6 +20,7 @@ use crate::guarded::Side;
 use crate::pilgartze::{DAY, EDITION_2, TOTALS};
 use crate::published::beyond::{Aimed, Sums};
 use crate::published::jobs::*;
+use crate::published::seasons::{leaf_days_fine, Seasons};
 use crate::published::shading::{outside_beam, Judge as FactorJudge, Numbers};
 use crate::published::walk::End;
 use crate::random::Random;
@@ -27,8 +31,9 @@ use crate::shading::smaller;
 use crate::shading::walks::Walks;
 use crate::stand_ins::Beyond;
 use cases::{Aims, Maker, MOST_BYTES};
-use laws::{keeps_its_figure, try_laws, Pairs};
+use laws::{keeps_its_figure, leaf_days_change_nothing, try_laws, Pairs};
 use lent::{Lent, Library, DAYS_LIST, TOTALS_LIST};
+use season_counts::SeasonsMet;
 use tables::Tables;
 use totals::TotalsMet;
 
@@ -47,6 +52,9 @@ pub struct Fixed {
     pub totals: Vec<Job>,
     /// Jobs about the days and months of the totals.
     pub calendar: Vec<Job>,
+    /// Jobs about leaf days and seasons, and single steps.
+    pub seasons: Vec<Job>,
+    pub singles: Vec<Single>,
 }
 
 impl Fixed {
@@ -56,7 +64,18 @@ impl Fixed {
         Fixed {
             edges,
             walks: edges::all_in_both_editions(&edges::walks()),
+            seasons: seasons::jobs(),
+            singles: seasons::singles(),
             ..Fixed::lists()
+        }
+    }
+
+    /// Those about leaf days and seasons.
+    pub fn seasons() -> Self {
+        Fixed {
+            seasons: seasons::jobs(),
+            singles: seasons::singles(),
+            ..Fixed::default()
         }
     }
 
@@ -109,7 +128,13 @@ impl Fixed {
     }
 
     fn runs(&self) -> usize {
-        let once = [&self.edges, &self.walks, &self.turns, &self.calendar];
+        let once = [
+            &self.edges,
+            &self.walks,
+            &self.turns,
+            &self.calendar,
+            &self.seasons,
+        ];
         let twice = [&self.tables, &self.totals];
         let runs = |jobs: &[&Vec<Job>]| jobs.iter().map(|jobs| jobs.len()).sum::<usize>();
         runs(&once) + 2 * runs(&twice)
@@ -132,12 +157,18 @@ pub struct Plan<'a> {
     pub laws: &'a [Law],
     /// Whether runs by the hour are held to the figures that they had without the step in the sum.
     pub by_the_hour: bool,
+    /// Whether jobs with equal lists are run with other leaf days too.
+    pub leaf_days: bool,
 }
 
 /// Among so many random jobs, and short ones, one is also judged by the published record of the whole
 /// job.
 const BY_NEW: usize = 50;
 const SHORT_BY_NEW: usize = 200;
+/// The same of the jobs about seasons.
+const SEASONS_BY_NEW: usize = 40;
+/// Of the jobs that are not random one in so many, if its lists are equal, is run with other leaf days.
+const EQUAL_LISTS: u64 = 8;
 
 impl Plan<'_> {
     /// So many short jobs at the sun that at least a third of all are aimed there: somewhat more
@@ -150,23 +181,23 @@ impl Plan<'_> {
 // --- Their objects ---
 
 impl Job {
-    /// Edition and objects as a call of the factor has them, without sun and surface.
-    pub fn objects(&self) -> Call {
+    /// Edition and objects of a season as a call of the factor has them, without sun and surface.
+    pub fn objects(&self, summer: bool) -> Call {
         Call {
             edition: self.edition,
             numbers: [0.0; 7],
-            sectors: self.sectors.clone(),
+            sectors: if summer { &self.summer } else { &self.winter }.clone(),
             window: self.window.clone(),
         }
     }
 }
 
 impl Single {
-    pub fn objects(&self) -> Call {
+    pub fn objects(&self, summer: bool) -> Call {
         Call {
             edition: self.edition,
             numbers: [0.0; 7],
-            sectors: self.sectors.clone(),
+            sectors: if summer { &self.summer } else { &self.winter }.clone(),
             window: self.window.clone(),
         }
     }
@@ -180,12 +211,14 @@ pub fn shown_job(job: &Job) -> String {
         start_day,
         leap_year,
         direct_beam_conversion,
+        first_leaf_day,
+        last_leaf_day,
         ..
     } = job.site;
     let edition = job.edition;
     let whole = format!(
         "  edition {edition}, timezone {timezone}, start day {start_day}, leap year {leap_year}, conversion \
-         {direct_beam_conversion}"
+         {direct_beam_conversion}, leaf days {first_leaf_day} to {last_leaf_day}"
     );
     let doubles = [
         ("latitude", job.site.latitude),
@@ -204,7 +237,10 @@ pub fn shown_job(job: &Job) -> String {
     lines.push(format!("  table of days, {days} bytes"));
     lines.push(format!("  totals, {totals} bytes"));
     lines.push(format!("  results, {results} bytes"));
-    lines.push(shown_objects(&job.surface, &job.sectors, &job.window));
+    lines.push(String::from("  in summer"));
+    lines.push(shown_objects(&job.surface, &job.summer, &job.window));
+    lines.push(String::from("  in winter"));
+    lines.push(shown_objects(&job.surface, &job.winter, &job.window));
     lines.join("\n")
 }
 
@@ -243,7 +279,8 @@ fn shown_single(single: &Single) -> String {
         times: [single.time, single.time, 1.0],
         surface: single.surface,
         series: single.readings.map(|x| x.to_le_bytes().to_vec()),
-        sectors: single.sectors.clone(),
+        summer: single.summer.clone(),
+        winter: single.winter.clone(),
         window: single.window.clone(),
         days: vec![],
         totals: vec![],
@@ -332,16 +369,21 @@ fn difference(job: &Job, judge: &mut Judge, lent: &mut Lent) -> String {
     }
 }
 
-/// The job without one of its records, or with fewer steps.
+/// The job without one of its records in either season, or with fewer steps.
 fn smaller_jobs(job: &Job) -> Vec<Job> {
-    let mut all: Vec<Job> = smaller(&job.objects())
-        .into_iter()
-        .map(|call| Job {
-            sectors: call.sectors,
-            window: call.window,
-            ..job.clone()
-        })
-        .collect();
+    let mut all = vec![];
+    for summer in [true, false] {
+        for call in smaller(&job.objects(summer)) {
+            let mut other = job.clone();
+            *(if summer {
+                &mut other.summer
+            } else {
+                &mut other.winter
+            }) = call.sectors;
+            other.window = call.window;
+            all.push(other);
+        }
+    }
     let steps = steps_if_any(&job.site, &job.times);
     for place in [steps.len() / 2, steps.len().saturating_sub(1)] {
         if place > 0 && place < steps.len() && steps[place].time < job.times[1] {
@@ -422,16 +464,17 @@ const WORDS: [&str; NUMBERS] = [
     "line",
     "unknown",
     "edition",
+    "leaf day",
 ];
 
 /// One more than the greatest number of a refusal.
-const NUMBERS: usize = 15;
+const NUMBERS: usize = 16;
 
 /// The numbers that a run gives.
-const GIVEN: [usize; 13] = [0, 1, 2, 3, 4, 5, 6, 7, 8, 9, 10, 11, 14];
+const GIVEN: [usize; 14] = [0, 1, 2, 3, 4, 5, 6, 7, 8, 9, 10, 11, 14, 15];
 
 /// Those that come before anything is stored.
-const BEFORE_ANY_STORE: [usize; 8] = [1, 2, 3, 4, 5, 6, 7, 14];
+const BEFORE_ANY_STORE: [usize; 9] = [1, 2, 3, 4, 5, 6, 7, 14, 15];
 
 /// Sums beyond ±1 in the steps of one kind of call, how many calls were aimed at them, and how many
 /// walks under an altitude's sum above 1 ended at a sector and at none.
@@ -548,6 +591,7 @@ struct Met {
     step_walks: Walks,
     tables: Tables,
     totals: TotalsMet,
+    seasons: SeasonsMet,
     /// Of the random jobs.
     fins: FinsMet,
 }
@@ -593,18 +637,18 @@ impl Met {
                 counts.push((words, self.later[number]));
             }
         }
-        for number in [0, 1, 2, 3, 4, 6, 7, 8, 9, 10, 11, 14] {
+        for number in [0, 1, 2, 3, 4, 6, 7, 8, 9, 10, 11, 14, 15] {
             let words = format!("single step, {number} {}", WORDS[number]);
             counts.push((words, self.step[number]));
         }
-        for number in [0, 1, 2, 3, 6, 7] {
+        for number in [0, 1, 2, 3, 6, 7, 15] {
             let words = format!("irradiance, {number} {}", WORDS[number]);
             counts.push((words, self.irradiance[number]));
         }
         counts
     }
 
-    fn report(&self, settings: &Settings) -> Outcome {
+    fn report(&self, settings: &Settings, lent: &Lent) -> Outcome {
         let kinds = [
             ("accepted, no steps", self.no_steps),
             ("accepted, start above end", self.one_above_end),
@@ -624,6 +668,7 @@ impl Met {
             settings.detail(what, *count);
         }
         self.sums.report(settings)?;
+        self.seasons.report(settings, lent)?;
         self.fins.report(settings, "job")?;
         self.tables.report(settings)?;
         self.totals.report(settings)?;
@@ -638,8 +683,9 @@ impl Met {
 }
 
 /// Whether the editions have another factor at a step.
-fn editions_part(judge: &mut FactorJudge, job: &Job, numbers: &Numbers) -> bool {
-    let judged = judge.answer(EDITION_1, numbers, &job.sectors, &job.window);
+fn editions_part(judge: &mut FactorJudge, job: &Job, summer: bool, numbers: &Numbers) -> bool {
+    let sectors = if summer { &job.summer } else { &job.winter };
+    let judged = judge.answer(EDITION_1, numbers, sectors, &job.window);
     let other = || judge.factor_in(EDITION_2);
     judged.answer.number == 0 && !other().is_ok_and(|other| same(judged.answer.factor, other))
 }
@@ -647,13 +693,15 @@ fn editions_part(judge: &mut FactorJudge, job: &Job, numbers: &Numbers) -> bool 
 /// What a job with fins on both sides has for them, at any of its steps inside the beam.
 fn seen(judge: &mut Judge, factors: &mut FactorJudge, job: &Job) -> Seen {
     let mut seen = Seen::default();
-    if !has_fins_on_both_sides(&job.window) {
+    if !has_fins_on_both_sides(&job.window) || !leaf_days_fine(&job.site) {
         return seen;
     }
-    for numbers in judge.suns(&job.site, &job.times, &job.surface) {
+    let seasons = Seasons::of(&job.site);
+    for (day, numbers) in judge.suns(&job.site, &job.times, &job.surface) {
         if !outside_beam(&numbers) {
             seen.note(&numbers, true);
-            seen.other |= !seen.other && editions_part(factors, job, &numbers);
+            let summer = seasons.is_summer(day);
+            seen.other |= !seen.other && editions_part(factors, job, summer, &numbers);
         }
     }
     seen
@@ -671,9 +719,12 @@ struct Comparison<'a> {
     laws_random: Random,
     editions_random: Random,
     tally: Tally,
+    /// Whether the job under way is a random one.
+    by_chance: bool,
     by_new: u64,
     years_accepted: u64,
     by_the_hour: u64,
+    leaf_days: u64,
 }
 
 impl Comparison<'_> {
@@ -692,15 +743,23 @@ impl Comparison<'_> {
             self.met.runs.note(&self.judge, aimed);
             let walks = self.judge.walks.iter();
             walks.for_each(|&walked| self.met.run_walks.note(walked));
+            let by_chance = self.by_chance;
+            self.met.seasons.note(&self.judge, job, &right, by_chance);
             if also_by_new && !BEFORE_ANY_STORE.contains(&(right.answer.number as usize)) {
                 by_new(job, &right)?;
                 self.by_new += 1;
+                self.met.seasons.by_new[lists_walked(job) - 1] += 1;
             }
             self.met.tables.note(&mut self.judge, job, &right);
             self.met.totals.note(&mut self.judge, job, &right);
             self.tally.both_nan += right.answer.sum.is_nan() as u64;
         }
         self.tally.compared += 1;
+        let tried = self.by_chance || self.tally.compared % EQUAL_LISTS == 0;
+        if self.plan.leaf_days && tried {
+            let (random, lent) = (&mut self.laws_random, &mut self.lent);
+            self.leaf_days += leaf_days_change_nothing(random, job, &got, lent)? as u64;
+        }
         if got.answer.number == 0 {
             if self.plan.by_the_hour {
                 self.by_the_hour += keeps_its_figure(job, &got)? as u64;
@@ -739,7 +798,25 @@ impl Comparison<'_> {
         for job in &fixed.calendar {
             self.job(job, None, false)?;
         }
-        self.at_both_ends(&fixed.totals, TOTALS_LIST)
+        self.at_both_ends(&fixed.totals, TOTALS_LIST)?;
+        self.seasons(maker)
+    }
+
+    /// Those about leaf days and seasons, one in some judged by the published record of the whole job.
+    fn seasons(&mut self, maker: &mut Maker) -> Outcome {
+        let fixed = self.plan.fixed;
+        for (turn, job) in fixed.seasons.iter().enumerate() {
+            self.job_and_singles(maker, job, turn % SEASONS_BY_NEW == 0)?;
+        }
+        let singles: &[Single] = match self.plan.compared {
+            true => &fixed.singles,
+            false => &[],
+        };
+        for single in singles {
+            self.step(single, None)?;
+            self.irradiance(single, None)?;
+        }
+        Ok(())
     }
 
     /// Jobs of which that list is lent at the back and at the front of its pages, each time in another
@@ -786,7 +863,10 @@ impl Comparison<'_> {
     /// One of them, in any edition.
     fn random_job(&mut self, maker: &mut Maker, mut job: Job, also_by_new: bool) -> Outcome {
         job.edition = any_edition(&mut self.editions_random);
+        maker.put_seasons_in(&mut job);
+        self.by_chance = true;
         self.job_and_singles(maker, &job, also_by_new)?;
+        self.by_chance = false;
         if self.plan.compared {
             let seen = seen(&mut self.judge, &mut self.factors, &job);
             self.met.fins.note(job.edition, &seen);
@@ -797,7 +877,7 @@ impl Comparison<'_> {
     fn report(&self, settings: &Settings) -> Outcome {
         settings.report("jobs", With::Published, self.tally)?;
         if self.plan.compared {
-            self.met.report(settings)?;
+            self.met.report(settings, &self.lent)?;
             settings.detail("also judged by the record of a year", self.by_new);
             settings.detail("jobs of a whole year", 2 * self.plan.years as u64);
             settings.detail("of these accepted", self.years_accepted);
@@ -810,6 +890,12 @@ impl Comparison<'_> {
                 return Err(String::from("run: none by the hour has a sum"));
             }
             settings.detail("by the hour, sum as without the step", self.by_the_hour);
+        }
+        if self.plan.leaf_days {
+            if self.leaf_days == 0 {
+                return Err(String::from("run: none with equal lists"));
+            }
+            settings.detail("equal lists, same by other leaf days", self.leaf_days);
         }
         self.pairs.report(settings, self.plan.laws)
     }
@@ -830,17 +916,15 @@ impl Comparison<'_> {
     /// Both single-step calls of a step.
     fn singles(&mut self, maker: &mut Maker, job: &Job, aimed: Option<u32>) -> Outcome {
         self.step(&maker.single_of(job, ROW), aimed)?;
-        let single = maker.single_of(job, IRRADIANCE_ROW);
+        self.irradiance(&maker.single_of(job, IRRADIANCE_ROW), aimed)
+    }
+
+    /// The sun and the irradiance of one step.
+    fn irradiance(&mut self, single: &Single, aimed: Option<u32>) -> Outcome {
         let mut results = single.results.clone();
-        let number = self.judge.irradiance(&single, &mut results);
-        let got = self.lent.irradiance(&single)?;
-        self.single(
-            "irradiance",
-            IRRADIANCE_ROW,
-            &single,
-            (number, results),
-            got,
-        )?;
+        let number = self.judge.irradiance(single, &mut results);
+        let got = self.lent.irradiance(single)?;
+        self.single("irradiance", IRRADIANCE_ROW, single, (number, results), got)?;
         self.met.irradiance[number as usize] += 1;
         self.met.irradiances.note(&self.judge, single.at(aimed));
         Ok(())
@@ -888,16 +972,18 @@ pub fn section(settings: &Settings, library: &Library, plan: Plan) -> Outcome {
         laws_random: settings.random("laws of jobs"),
         editions_random: settings.random("editions of jobs"),
         tally: Tally::default(),
+        by_chance: false,
         by_new: 0,
         years_accepted: 0,
         by_the_hour: 0,
+        leaf_days: 0,
     };
     let mut maker = Maker::new(settings.random("jobs"));
     all.fixed_jobs(&mut maker)?;
     all.random_jobs(&mut maker)?;
     for turn in 0..plan.years {
         maker.across_the_north = turn % 2 == 0;
-        let job = maker.whole_year(turn);
+        let job = maker.year_of_two_lists(turn);
         let accepted = all.met.run[0];
         for job in &edges::in_both_editions(&job) {
             all.job(job, None, true)?;

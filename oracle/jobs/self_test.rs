@@ -30,6 +30,8 @@ const SITE: JobSite = JobSite {
     series_step: 1.0,
     leap_year: 0,
     direct_beam_conversion: 0,
+    first_leaf_day: 0,
+    last_leaf_day: 0,
 };
 
 /// The specification's counts of steps.
@@ -115,6 +117,7 @@ fn plain_engine(settings: &Settings, plan: Plan) -> Outcome {
     let with_laws = Plan {
         laws: &LAWS,
         by_the_hour: true,
+        leaf_days: true,
         ..plan
     };
     section(settings, &right, with_laws)
@@ -140,7 +143,7 @@ fn random_alone<'a>(plan: Plan<'a>, nothing: &'a Fixed) -> Plan<'a> {
 /// How many wrong engines there are, all of which are found.
 fn engines_found(settings: &Settings, plan: Plan) -> Result<usize, String> {
     let (days, sums, totals) = (Fixed::days(), Fixed::sums(), Fixed::totals());
-    let editions = Fixed::editions();
+    let (editions, seasons) = (Fixed::editions(), Fixed::seasons());
     let nothing = Fixed::default();
     let mut count = 0;
     for engine in &wrong::engines() {
@@ -151,6 +154,7 @@ fn engines_found(settings: &Settings, plan: Plan) -> Result<usize, String> {
             By::Editions => vec![alone(plan, &editions), random_alone(plan, &nothing)],
             By::Totals => vec![alone(plan, &totals)],
             By::TotalsAndRandom => vec![alone(plan, &totals), random_alone(plan, &nothing)],
+            By::Seasons => vec![alone(plan, &seasons), random_alone(plan, &nothing)],
         };
         for plan in plans {
             found(settings, plan, engine)?;
@@ -160,7 +164,8 @@ fn engines_found(settings: &Settings, plan: Plan) -> Result<usize, String> {
     Ok(count)
 }
 
-/// The same of those that break a law, or the figures of runs by the hour, which are tried alone.
+/// The same of those that break a law, the figures of runs by the hour, or what equal lists come to,
+/// each of which is tried alone.
 fn lawless_found(settings: &Settings, plan: Plan) -> Result<usize, String> {
     let plan = Plan {
         compared: false,
@@ -183,6 +188,14 @@ fn lawless_found(settings: &Settings, plan: Plan) -> Result<usize, String> {
         found(settings, figures, engine)?;
         count += 1;
     }
+    let leaf_days = Plan {
+        leaf_days: true,
+        ..plan
+    };
+    for engine in &wrong::by_leaf_days() {
+        found(settings, leaf_days, engine)?;
+        count += 1;
+    }
     Ok(count)
 }
 
@@ -201,6 +214,7 @@ pub fn run(seed: u64) -> Outcome {
         compared: true,
         laws: &[],
         by_the_hour: false,
+        leaf_days: false,
     };
     step_counts()?;
     known_totals()?;

@@ -84,7 +84,7 @@ pub fn each_number(maker: &mut Maker, plain: &Job, variant: usize) -> Vec<Job> {
     };
     let mut jobs = vec![plain.clone(), no_steps, wrong_edition];
     let (first_step, _) = one_step(plain, maker);
-    let refused = (1..=11).map(|number| (plain, number));
+    let refused = (1..=11).chain([15]).map(|number| (plain, number));
     for (job, number) in refused.chain((8..=11).map(|number| (&first_step, number))) {
         let mut job = job.clone();
         fault(&mut job, number, variant);
@@ -155,7 +155,7 @@ pub fn turns_of_the_year() -> Vec<Job> {
                 (job.site.latitude, job.site.longitude) = (latitude, 0.0);
                 (job.site.timezone, job.site.start_day) = (0, (times[0] / 24.0) as u64);
                 job.surface[..2].copy_from_slice(&[40.0, orientation]);
-                job.sectors = sectors_of(&[(0.0, 360.0)]);
+                job.set_sectors(sectors_of(&[(0.0, 360.0)]));
                 job.times = times;
                 maker.fit(&mut job);
                 jobs.push(job);

@@ -145,7 +145,7 @@ pub fn job_over(maker: &mut Maker, plain: &Job, leap_year: u64, times: Times) ->
     (job.site.timezone, job.site.start_day) = (0, (times[0] / 24.0).min(365.0) as u64);
     (job.site.series_step, job.site.direct_beam_conversion) = (1.0, 0);
     job.surface = [90.0, 180.0, 1.0, 1.5, 1.2];
-    job.sectors = sector(0.0, 360.0, &[(0, 2.0, 5.0)]).to_vec();
+    job.set_sectors(sector(0.0, 360.0, &[(0, 2.0, 5.0)]).to_vec());
     let near = [
         window_object(1, 0.5, 0.1, 0.0),
         window_object(0, 2.5, 3.0, 0.3),
@@ -223,9 +223,9 @@ pub fn refused_later(maker: &mut Maker, plain: &Job, leap_year: u64, midnight: f
             let times = [midnight - from, midnight + 14.0, step];
             let mut job = job_over(maker, plain, leap_year, times);
             match number {
-                8 => job.sectors = sectors_of(&[(180.0, 360.0), (0.0, 180.0)]),
-                9 => job.sectors = sectors_of(&[(180.0, 360.0), (360.0, 100.0)]),
-                10 => job.sectors = sectors_of(&[(180.0, 360.0)]),
+                8 => job.set_sectors(sectors_of(&[(180.0, 360.0), (0.0, 180.0)])),
+                9 => job.set_sectors(sectors_of(&[(180.0, 360.0), (360.0, 100.0)])),
+                10 => job.set_sectors(sectors_of(&[(180.0, 360.0)])),
                 _ => job.window.extend(window_object(4, 0.5, 0.1, 0.0)),
             }
             jobs.push(job);

@@ -1,12 +1,15 @@
 //! Engines that are wrong in one small way each. The self-test has to find them all.
 //!
 //! They are one plain form of the run and of the single steps, by which a flaw is built in where it
-//! is asked for; a step's row is the judge's own. `wrong_totals.rs` has what it does about the totals.
+//! is asked for; a step's row is the judge's own. `wrong_totals.rs` has what it does about the totals,
+//! `wrong_seasons.rs` about the seasons.
 
 use super::lent::Library;
+use super::wrong_seasons::By as Calls;
 use crate::pilgartze::{days_in_year, totals_length, totals_of, DAY, DAYS, EDITION_2};
 use crate::published::days::{day_in, day_table, DayValues};
 use crate::published::jobs::*;
+use crate::published::seasons::{Seasons, WRONG_LEAF_DAY};
 use crate::published::shading::{
     outside_beam, MOST_SECTORS, MOST_WINDOW_OBJECTS, SECTOR_WORDS, WINDOW_WORDS, WRONG_EDITION,
 };
@@ -32,6 +35,8 @@ pub enum By {
     Totals,
     /// The same, and the random ones alone too.
     TotalsAndRandom,
+    /// Those about leaf days and seasons alone, and the random ones alone too.
+    Seasons,
 }
 
 pub struct Wrong {
@@ -47,7 +52,7 @@ pub struct Wrong {
 macro_rules! flaws {
     ($($by:ident $told:literal: $($flaw:ident),* $(,)?;)*) => {
         #[derive(Clone, Copy, PartialEq)]
-        #[repr(u8)]
+        #[repr(u16)]
         pub enum Flaw {
             /// None: the plain form itself has to pass.
             Nothing,
@@ -60,7 +65,7 @@ macro_rules! flaws {
                 by: By::$by,
                 told: String::from($told),
                 what: stringify!($flaw),
-                library: only($told, engine::<{ Flaw::$flaw as u8 }>()),
+                library: only($told, engine::<{ Flaw::$flaw as u16 }>()),
             },)*)*]
         }
     };
@@ -327,6 +332,121 @@ flaws! {
     Totals "run's totals":
         TotalsTimeByProduct,
         CountOfOneByte;
+    Seasons "run":
+        // leaf days, and their place among the checks
+        LeafDaysNotChecked,
+        FirstLeafDayNotChecked,
+        LastLeafDayNotChecked,
+        LeafDay366Taken,
+        LeafDay365Refused,
+        LeafDay365RefusedInACommonYear,
+        LeafDay0Refused,
+        LeafDayOfFourBytes,
+        LeafDayAsASignedNumber,
+        TurnedLeafDaysRefused,
+        LeafDaysNotCheckedWithEqualLists,
+        LeafDayBeforeEdition,
+        LeafDayBeforeSite,
+        LeafDayAfterRun,
+        LeafDayAfterSurface,
+        LeafDayAfterResults,
+        LeafDayAtTheFirstStep,
+        // what is stored and answered where one is wrong
+        WrongLeafDayStepOne,
+        WrongLeafDayCountKept,
+        WrongLeafDayResultsCleared,
+        // the days of the summer
+        SummerWithoutItsLastDay,
+        SummerWithoutItsFirstDay,
+        SummerADayLonger,
+        SummerADayEarly,
+        EqualLeafDaysNoSummer,
+        EqualLeafDaysAlwaysSummer,
+        LeafDaysExchanged,
+        TurnedSummerNotWrapped,
+        TurnedSummerBetween,
+        TurnedSummerFromFirstAlone,
+        TurnedSummerUpToLastAlone,
+        TurnedSummerWithoutItsLastDay,
+        TurnedSummerWithoutItsFirstDay,
+        OneAboveTheOtherNoSummer,
+        // the season of a step
+        SummerAlways,
+        WinterAlways,
+        SeasonsExchanged,
+        SeasonOfTheFirstStep,
+        SeasonOneStepLate,
+        SeasonOneStepEarly,
+        SeasonChangesOnceAtMost,
+        SeasonDaysFromOne,
+        SeasonFromTheStartDay,
+        SeasonByThePlaceInTheSeries,
+        SeasonByTheMonth,
+        SeasonByTheRoundedTime,
+        SeasonByTheStepsEnd,
+        SeasonByTheStepsMiddle,
+        SeasonPassesOverTheLeapDay,
+        SeasonCountsALeapDayAlways,
+        SeasonByOneByteOfTheDay,
+        // both lists in the checks
+        ObjectsOfSummerAlone,
+        ObjectsOfWinterAlone,
+        ObjectsOfSeasonsWithSteps,
+        ObjectsOfTheFirstStepsSeason,
+        // the part that is walked along
+        PartsOneRecordShort,
+        SummerPartOneRecordShort,
+        WinterPartOneRecordShort,
+        WinterPartFromTheSecondRecord,
+        WinterPartOfTheSummersLength,
+        SummerPartOfTheWintersLength,
+        ListsOfOneLengthTakenAsOne,
+        OneMemoryTakenForNoWinter,
+        OverlappingListsRefused,
+        WinterAfterTheSummersGap,
+        SummerAfterTheWintersTurn,
+        OtherSeasonWhereNoSector,
+        SeasonOfDay365OfThatBefore,
+        SeasonOfDay365OfTheFirst;
+    Seasons "run's sum":
+        WrongLeafDaySumNan;
+    Seasons "run's table of days":
+        WrongLeafDayTableFilled;
+    Seasons "run's totals":
+        WrongLeafDayTotalsEmptied;
+    Seasons "step":
+        StepLeafDaysNotChecked,
+        StepFirstLeafDayNotChecked,
+        StepLastLeafDayNotChecked,
+        StepLeafDay366Taken,
+        StepLeafDayBeforeEdition,
+        StepLeafDayBeforeSite,
+        StepLeafDayAfterRun,
+        StepLeafDayAfterResults,
+        StepWrongLeafDayStores,
+        StepSummerAlways,
+        StepWinterAlways,
+        StepSeasonsExchanged,
+        StepSummerWithoutItsLastDay,
+        StepSummerWithoutItsFirstDay,
+        StepTurnedSummerNotWrapped,
+        StepSeasonDaysFromOne,
+        StepSeasonFromTheStartDay,
+        StepObjectsOfSummerAlone,
+        StepObjectsOfWinterAlone,
+        StepObjectsOfItsSeasonAlone,
+        StepPartsOneRecordShort,
+        StepSeasonByTheRoundedTime;
+    Seasons "irradiance":
+        IrradianceLeafDaysNotChecked,
+        IrradianceFirstLeafDayNotChecked,
+        IrradianceLastLeafDayNotChecked,
+        IrradianceLeafDay366Taken,
+        IrradianceTurnedLeafDaysRefused,
+        IrradianceLeafDayBeforeSite,
+        IrradianceLeafDayAfterRun,
+        IrradianceLeafDayAfterResults,
+        IrradianceWrongLeafDayStores;
     All "step":
         StepStoresOnRefusal,
         StepAtTheYearsEnd,
@@ -355,7 +475,7 @@ flaws! {
 }
 
 pub struct Plain {
-    flaw: u8,
+    flaw: u16,
 }
 
 /// What a run is after its checks: its steps, and the readings of each.
@@ -363,7 +483,7 @@ pub type Checked = Vec<(Step, Readings)>;
 
 impl Plain {
     pub fn is(&self, flaw: Flaw) -> bool {
-        flaw as u8 == self.flaw
+        flaw as u16 == self.flaw
     }
 
     // --- The edition and its fins ---
@@ -543,22 +663,47 @@ impl Plain {
         }
     }
 
-    fn lists(&self, job: &Job) -> Option<Lists> {
-        let (sector, object) = (8 * SECTOR_WORDS, 8 * WINDOW_WORDS);
-        let (mut sectors, mut window) = (&job.sectors[..], &job.window[..]);
-        if self.is(PartRecordDropped) {
-            sectors = &sectors[..sectors.len() / sector * sector];
-            window = &window[..window.len() / object * object];
+    /// The bytes of a list that the checks look at.
+    fn looked_at<'a>(&self, list: &'a [u8], record: usize, most: usize) -> &'a [u8] {
+        match list.len() {
+            len if self.is(PartRecordDropped) => &list[..len / record * record],
+            len if self.is(LongListsTaken) => &list[..len.min(most * record)],
+            _ => list,
         }
-        if self.is(LongListsTaken) {
-            sectors = &sectors[..sectors.len().min(MOST_SECTORS * sector)];
-            window = &window[..window.len().min(MOST_WINDOW_OBJECTS * object)];
+    }
+
+    /// The lists of a run or a step, the seasons of whose steps are these; one that is not looked at
+    /// and not as it should be has no sector.
+    fn lists(
+        &self,
+        by: Calls,
+        [summer, winter, window]: [&[u8]; 3],
+        seasons: &[bool],
+    ) -> Option<Lists> {
+        let window = self.looked_at(window, 8 * WINDOW_WORDS, MOST_WINDOW_OBJECTS);
+        let sectors = [summer, winter].map(|list: &[u8]| {
+            let list = self.looked_at(list, 8 * SECTOR_WORDS, MOST_SECTORS);
+            (list, lists_of(list, &[], &[]).is_some())
+        });
+        let looked_at = self.lists_looked_at(by, seasons);
+        let mut parts: [&[u8]; 2] = [&[]; 2];
+        for (k, (list, fine)) in sectors.into_iter().enumerate() {
+            match fine {
+                true => parts[k] = list,
+                false if looked_at[k] => return None,
+                false => {}
+            }
         }
-        lists_of(sectors, window)
+        let [summer, winter] = self.parts(by, parts);
+        lists_of(self.walked(by, summer), self.walked(by, winter), window)
     }
 
     /// The bytes of the sectors that are walked along.
-    fn walked<'a>(&self, sectors: &'a [u8], [first, last]: [Flaw; 2]) -> &'a [u8] {
+    fn walked<'a>(&self, by: Calls, sectors: &'a [u8]) -> &'a [u8] {
+        let [first, last] = match by {
+            Calls::Run => [FirstSectorNotWalked, LastSectorNotWalked],
+            _ => [StepFirstSectorNotWalked, StepLastSectorNotWalked],
+        };
         let len = sectors.len();
         let record = 8 * SECTOR_WORDS;
         if self.is(first) {
@@ -568,6 +713,30 @@ impl Plain {
             true => &sectors[..len.min((MOST_SECTORS - 1) * record)],
             false => sectors,
         }
+    }
+
+    fn lists_of_run(&self, job: &Job) -> Option<Lists> {
+        let steps = match self.times_fine(&job.times) {
+            true => self.steps(job),
+            false => vec![],
+        };
+        let seasons: Vec<bool> = match self.is(ObjectsOfSeasonsWithSteps) {
+            true => (0..steps.len())
+                .map(|k| self.summer_at(job, &steps, k))
+                .collect(),
+            false => steps
+                .first()
+                .map(|_| self.summer_at(job, &steps, 0))
+                .into_iter()
+                .collect(),
+        };
+        let lists = [&job.summer[..], &job.winter, &job.window];
+        self.lists(Calls::Run, lists, &seasons)
+    }
+
+    fn lists_of_single(&self, single: &Single) -> Option<Lists> {
+        let lists = [&single.summer[..], &single.winter, &single.window];
+        self.lists(Calls::Step, lists, &[self.summer_of_single(single)])
     }
 
     /// 5, then 6, over all steps.
@@ -612,7 +781,7 @@ impl Plain {
     /// 1 to 4, and the steps.
     fn fields_checked(&self, job: &Job) -> Result<Vec<Step>, u64> {
         let surface_fine = surface_fine(&job.surface);
-        let objects_fine = self.lists(job).is_some();
+        let objects_fine = self.lists_of_run(job).is_some();
         if !self.site_fine(&job.site) {
             return Err(1);
         }
@@ -646,12 +815,14 @@ impl Plain {
         words < ROW * rows && !self.is(ResultsNeverTooShort)
     }
 
-    /// The checks with that of the edition in its place.
+    /// The checks with those of the leaf days and of the edition in their places.
     fn checked(&self, job: &Job, lengths: [usize; 3]) -> Result<Checked, u64> {
+        let checked = self.with_leaf_days(job, self.others_checked(job, lengths));
         if self.edition(job.edition).is_some() {
-            return self.others_checked(job, lengths);
+            return checked;
         }
-        match self.others_checked(job, lengths) {
+        match checked {
+            Err(WRONG_LEAF_DAY) if self.is(LeafDayBeforeEdition) => Err(WRONG_LEAF_DAY),
             Err(1) if self.is(EditionAfterSite) => Err(1),
             Err(number) if self.is_either([EditionAfterResults, EditionAtTheFirstStep]) => {
                 Err(number)
@@ -753,6 +924,7 @@ impl Plain {
         let whole = days.len() >= DAYS_LENGTH;
         let filled = self.is(TableFilledBeforeTheChecks) && whole
             || self.is(WrongEditionTableFilled) && whole && number == WRONG_EDITION
+            || self.is(WrongLeafDayTableFilled) && whole && number == WRONG_LEAF_DAY
             || self.is(TableFilledBeforeTheResultsCheck) && whole && number == 7
             || self.is(ShortTableFilledInPart) && !whole && number == 7;
         if filled {
@@ -877,10 +1049,34 @@ impl Plain {
         judge.row_of(surface, doubles)
     }
 
-    fn row(&self, judge: &mut Judge, job: &Job, step: Step, readings: Readings) -> Row {
+    /// The row of a step by the list of its season, perhaps also by the other.
+    fn row(
+        &self,
+        judge: &mut Judge,
+        job: &Job,
+        summer: bool,
+        (step, readings): (Step, Readings),
+    ) -> Row {
+        match self.row_in(judge, job, summer, step, readings) {
+            Err(number) if self.tried_again(summer, number) => {
+                self.row_in(judge, job, !summer, step, readings)
+            }
+            row => row,
+        }
+    }
+
+    fn row_in(
+        &self,
+        judge: &mut Judge,
+        job: &Job,
+        summer: bool,
+        step: Step,
+        readings: Readings,
+    ) -> Row {
         if self.is(NoSectorWithoutWalk) {
             return Err(10);
         }
+        judge.walk_in(summer);
         // the judge panics at an hour past the leap year's
         let hour = step.hour.min(8783);
         let (site, surface) = (&job.site, &job.surface);
@@ -891,7 +1087,7 @@ impl Plain {
             }
             None => self.row_at(judge, site, surface, hour, readings),
         };
-        let mut row = self.with_fins(row, surface, || job.objects());
+        let mut row = self.with_fins(row, surface, || job.objects(summer));
         if let (Ok(row), true) = (&mut row, self.is(FactorOneAlways)) {
             row[5] = 1.0;
         }
@@ -901,18 +1097,32 @@ impl Plain {
         row
     }
 
+    /// The answer to a wrong edition or leaf day, by the flaws about its step, its count and its sum.
+    fn refused_first(&self, number: u64, [step, count, sum]: [Flaw; 3]) -> RunAnswer {
+        RunAnswer {
+            number,
+            step: self.is(step) as u64,
+            count: self.is(count) as u64,
+            sum: if self.is(sum) { f64::NAN } else { 0.0 },
+        }
+    }
+
     fn refused(&self, number: u64, step: usize, sum: f64) -> RunAnswer {
         if number == WRONG_EDITION {
-            return RunAnswer {
-                number,
-                step: self.is(WrongEditionStepOne) as u64,
-                count: self.is(WrongEditionCountKept) as u64,
-                sum: if self.is(WrongEditionSumNan) {
-                    f64::NAN
-                } else {
-                    0.0
-                },
-            };
+            let flaws = [
+                WrongEditionStepOne,
+                WrongEditionCountKept,
+                WrongEditionSumNan,
+            ];
+            return self.refused_first(number, flaws);
+        }
+        if number == WRONG_LEAF_DAY {
+            let flaws = [
+                WrongLeafDayStepOne,
+                WrongLeafDayCountKept,
+                WrongLeafDaySumNan,
+            ];
+            return self.refused_first(number, flaws);
         }
         RunAnswer {
             number,
@@ -1004,8 +1214,10 @@ impl Plain {
         results: &mut [u8],
     ) -> (RunAnswer, Vec<[f64; ROW]>) {
         let mut rows = vec![];
+        let only_steps: Vec<Step> = steps.iter().map(|&(step, _)| step).collect();
         for (k, &(step, readings)) in steps.iter().enumerate() {
-            match self.row(judge, job, step, readings) {
+            let summer = self.summer_at(job, &only_steps, k);
+            match self.row(judge, job, summer, (step, readings)) {
                 Ok(_) if self.is(FirstStepCopied) && k > 0 => rows.push(rows[0]),
                 Ok(row) => rows.push(row),
                 Err(number) => {
@@ -1036,7 +1248,9 @@ impl Plain {
             Err(number) => {
                 self.table_of_refused(number, job, days);
                 self.totals_of_refused(number, job, totals);
-                if self.is(WrongEditionResultsCleared) && number == WRONG_EDITION {
+                if self.is(WrongEditionResultsCleared) && number == WRONG_EDITION
+                    || self.is(WrongLeafDayResultsCleared) && number == WRONG_LEAF_DAY
+                {
                     results.fill(0);
                 }
                 return self.refused(number, 0, 0.0);
@@ -1065,11 +1279,7 @@ impl Plain {
         results: &mut [u8],
     ) -> (RunAnswer, Vec<[f64; ROW]>) {
         let edition = self.edition(job.edition).unwrap_or(EDITION_1);
-        judge.lend(edition, self.lists(job).unwrap());
-        let walked = self.walked(&job.sectors, [FirstSectorNotWalked, LastSectorNotWalked]);
-        if walked.len() < job.sectors.len() {
-            judge.lend(edition, lists_of(walked, &job.window).unwrap());
-        }
+        judge.lend(edition, self.lists_of_run(job).unwrap());
         let before = results.to_vec();
         if self.is(RowsClearedFirst) {
             results[..8 * ROW * steps.len()].fill(0);
@@ -1090,7 +1300,8 @@ impl Plain {
 
     // --- Single steps ---
 
-    fn single_checked(&self, single: &Single, objects: bool, doubles: usize) -> Option<u64> {
+    fn single_checked(&self, single: &Single, by: Calls, doubles: usize) -> Option<u64> {
+        let objects = by == Calls::Step;
         let time = single.time;
         let time_fine = 0.0 <= time && time <= 8784.0 || self.is(StepNanTime) && time.is_nan();
         let hours = self.hours(&single.site) + self.is(StepAtTheYearsEnd) as u32;
@@ -1099,9 +1310,9 @@ impl Plain {
             surface[3] = 1.0;
         }
         let site_fine = self.site_fine(&single.site) || self.is(StepSiteUnchecked) && objects;
-        let objects_fine = !objects || lists_of(&single.sectors, &single.window).is_some();
-        let all = single.readings.iter().enumerate();
-        let readings_fine = all.into_iter().all(|(k, &x)| reading_fine(k, x));
+        let objects_fine = !objects || self.lists_of_single(single).is_some();
+        let wrong_leaf_day = self.leaf_days_wrong(by, &single.site, false);
+        let readings_fine = (0..3).all(|k| reading_fine(k, single.readings[k]));
         let too_short = match self.is(IrradianceResultsShort) && !objects {
             true => single.results.len() / 8 < doubles - 1,
             false => single.results.len() / 8 < doubles,
@@ -1110,14 +1321,16 @@ impl Plain {
         let mut checks = [
             (wrong_edition, WRONG_EDITION),
             (!site_fine, 1),
+            (wrong_leaf_day, WRONG_LEAF_DAY),
             (!time_fine || time.floor() as u32 >= hours, 2),
             (!surface_fine(&surface), 3),
             (!objects_fine, 4),
             (!readings_fine, 6),
             (too_short && !(self.is(StepResultsUnchecked) && objects), 7),
         ];
+        self.leaf_day_placed(by, &mut checks);
         if self.is(StepReadingBeforeObject) {
-            checks.swap(4, 5);
+            checks.swap(5, 6);
         }
         if self.is(StepEditionAfterSite) {
             checks.swap(0, 1);
@@ -1128,21 +1341,46 @@ impl Plain {
         checks.iter().find(|(holds, _)| *holds).map(|&(_, n)| n)
     }
 
+    /// 15 among the checks of a single step, where it is by the flaw.
+    fn leaf_day_placed(&self, by: Calls, checks: &mut [(bool, u64); 8]) {
+        let [before_site, after_run, after_results] = match by {
+            Calls::Irradiance => [
+                IrradianceLeafDayBeforeSite,
+                IrradianceLeafDayAfterRun,
+                IrradianceLeafDayAfterResults,
+            ],
+            _ => [
+                StepLeafDayBeforeSite,
+                StepLeafDayAfterRun,
+                StepLeafDayAfterResults,
+            ],
+        };
+        match () {
+            _ if self.is(StepLeafDayBeforeEdition) => checks[..3].rotate_right(1),
+            _ if self.is(before_site) => checks.swap(1, 2),
+            _ if self.is(after_run) => checks.swap(2, 3),
+            _ if self.is(after_results) => checks[2..].rotate_left(1),
+            _ => {}
+        }
+    }
+
     fn step(&self, judge: &mut Judge, single: &Single, results: &mut [u8]) -> u64 {
-        if let Some(number) = self.single_checked(single, true, ROW) {
-            if self.is(StepWrongEditionStores) && number == WRONG_EDITION {
+        if let Some(number) = self.single_checked(single, Calls::Step, ROW) {
+            if self.is(StepWrongEditionStores) && number == WRONG_EDITION
+                || self.is(StepWrongLeafDayStores) && number == WRONG_LEAF_DAY
+            {
                 results.fill(0);
             }
             return number;
         }
-        let flaws = [StepFirstSectorNotWalked, StepLastSectorNotWalked];
-        let walked = self.walked(&single.sectors, flaws);
         let edition = self.edition(single.edition).unwrap();
-        judge.lend(edition, lists_of(walked, &single.window).unwrap());
+        judge.lend(edition, self.lists_of_single(single).unwrap());
+        let summer = self.summer_of_single(single);
+        judge.walk_in(summer);
         let hour = (single.time.floor() as u32).min(8783);
         let (site, surface) = (&single.site, &single.surface);
         let row = self.row_at(judge, site, surface, hour, single.readings);
-        match self.with_fins(row, surface, || single.objects()) {
+        match self.with_fins(row, surface, || single.objects(summer)) {
             Ok(mut row) => {
                 if self.is(StepWithoutFactor) {
                     row[5] = 1.0;
@@ -1161,7 +1399,10 @@ impl Plain {
     }
 
     fn irradiance(&self, judge: &mut Judge, single: &Single, results: &mut [u8]) -> u64 {
-        if let Some(number) = self.single_checked(single, false, IRRADIANCE_ROW) {
+        if let Some(number) = self.single_checked(single, Calls::Irradiance, IRRADIANCE_ROW) {
+            if self.is(IrradianceWrongLeafDayStores) && number == WRONG_LEAF_DAY {
+                results.fill(0);
+            }
             return number;
         }
         let mut site = single.site;
@@ -1201,7 +1442,7 @@ unsafe fn write_beside(start: *mut u8, len: usize) {
 /// The three calls with what they are given made into records.
 macro_rules! extern_calls {
     ($run:ident, $step:ident, $irradiance:ident, $flaw:ident, $answers:expr) => {
-        unsafe extern "C" fn $run<const $flaw: u8>(
+        unsafe extern "C" fn $run<const $flaw: u16>(
             edition: u64,
             latitude: f64,
             longitude: f64,
@@ -1210,6 +1451,8 @@ macro_rules! extern_calls {
             series_step: f64,
             leap_year: u64,
             direct_beam_conversion: u64,
+            first_leaf_day: u64,
+            last_leaf_day: u64,
             start: f64,
             end: f64,
             step: f64,
@@ -1224,8 +1467,10 @@ macro_rules! extern_calls {
             direct_len: usize,
             reflectivity: *const u8,
             reflectivity_len: usize,
-            sectors: *const u8,
-            sectors_len: usize,
+            summer: *const u8,
+            summer_len: usize,
+            winter: *const u8,
+            winter_len: usize,
             window: *const u8,
             window_len: usize,
             days: *mut u8,
@@ -1235,7 +1480,7 @@ macro_rules! extern_calls {
             results: *mut u8,
             results_len: usize,
         ) -> RunAnswer {
-            let job = Job {
+            let mut job = Job {
                 edition,
                 site: JobSite {
                     latitude,
@@ -1245,6 +1490,8 @@ macro_rules! extern_calls {
                     series_step,
                     leap_year,
                     direct_beam_conversion,
+                    first_leaf_day,
+                    last_leaf_day,
                 },
                 times: [start, end, step],
                 surface: [tilt, orientation, base_height, height, width],
@@ -1253,22 +1500,32 @@ macro_rules! extern_calls {
                     list(direct, direct_len),
                     list(reflectivity, reflectivity_len),
                 ],
-                sectors: list(sectors, sectors_len),
+                summer: list(summer, summer_len),
+                winter: list(winter, winter_len),
                 window: list(window, window_len),
                 days: list(days, days_len),
                 totals: list(totals, totals_len),
                 results: vec![],
             };
-            if $flaw == SeriesWrittenTo as u8 && direct_len > 100 {
+            let ends = |start: *const u8, len: usize| start as usize..start as usize + len;
+            let (summers, winters) = (ends(summer, summer_len), ends(winter, winter_len));
+            if $flaw == OneMemoryTakenForNoWinter as u16 && summers == winters {
+                job.winter.clear();
+            }
+            let overlap = summers.start < winters.end && winters.start < summers.end;
+            if $flaw == OverlappingListsRefused as u16 && overlap && summers != winters {
+                return refused(4, 0);
+            }
+            if $flaw == SeriesWrittenTo as u16 && direct_len > 100 {
                 direct.cast_mut().add(50).write(job.series[1][50] ^ 1);
             }
-            if $flaw == WritesBeside as u8 {
+            if $flaw == WritesBeside as u16 {
                 write_beside(results, results_len);
             }
-            if $flaw == WritesBesideTheTable as u8 {
+            if $flaw == WritesBesideTheTable as u16 {
                 write_beside(days, days_len);
             }
-            if $flaw == WritesBesideTheTotals as u8 {
+            if $flaw == WritesBesideTheTotals as u16 {
                 write_beside(totals, totals_len);
             }
             let written = [
@@ -1280,7 +1537,7 @@ macro_rules! extern_calls {
             JUDGE.with_borrow_mut(|judge| $answers.0(judge, &job, written))
         }
 
-        unsafe extern "C" fn $step<const $flaw: u8>(
+        unsafe extern "C" fn $step<const $flaw: u16>(
             edition: u64,
             latitude: f64,
             longitude: f64,
@@ -1289,6 +1546,8 @@ macro_rules! extern_calls {
             series_step: f64,
             leap_year: u64,
             direct_beam_conversion: u64,
+            first_leaf_day: u64,
+            last_leaf_day: u64,
             time: f64,
             tilt: f64,
             orientation: f64,
@@ -1298,8 +1557,10 @@ macro_rules! extern_calls {
             diffuse: f64,
             direct: f64,
             reflectivity: f64,
-            sectors: *const u8,
-            sectors_len: usize,
+            summer: *const u8,
+            summer_len: usize,
+            winter: *const u8,
+            winter_len: usize,
             window: *const u8,
             window_len: usize,
             results: *mut u8,
@@ -1316,18 +1577,21 @@ macro_rules! extern_calls {
                     series_step,
                     leap_year,
                     direct_beam_conversion,
+                    first_leaf_day,
+                    last_leaf_day,
                 },
                 time,
                 surface: [tilt, orientation, base_height, height, width],
                 readings: [diffuse, direct, reflectivity],
-                sectors: list(sectors, sectors_len),
+                summer: list(summer, summer_len),
+                winter: list(winter, winter_len),
                 window: list(window, window_len),
                 results: results.to_vec(),
             };
             JUDGE.with_borrow_mut(|judge| $answers.1(judge, &single, results))
         }
 
-        unsafe extern "C" fn $irradiance<const $flaw: u8>(
+        unsafe extern "C" fn $irradiance<const $flaw: u16>(
             latitude: f64,
             longitude: f64,
             timezone: i64,
@@ -1335,6 +1599,8 @@ macro_rules! extern_calls {
             series_step: f64,
             leap_year: u64,
             direct_beam_conversion: u64,
+            first_leaf_day: u64,
+            last_leaf_day: u64,
             time: f64,
             tilt: f64,
             orientation: f64,
@@ -1358,11 +1624,14 @@ macro_rules! extern_calls {
                     series_step,
                     leap_year,
                     direct_beam_conversion,
+                    first_leaf_day,
+                    last_leaf_day,
                 },
                 time,
                 surface: [tilt, orientation, base_height, height, width],
                 readings: [diffuse, direct, reflectivity],
-                sectors: vec![],
+                summer: vec![],
+                winter: vec![],
                 window: vec![],
                 results: results.to_vec(),
             };
@@ -1378,7 +1647,7 @@ struct Answers(
     fn(&mut Judge, &Single, &mut [u8]) -> u64,
 );
 
-fn plain<const FLAW: u8>() -> Answers {
+fn plain<const FLAW: u16>() -> Answers {
     Answers(
         |judge, job, written| Plain { flaw: FLAW }.run(judge, job, written),
         |judge, single, results| Plain { flaw: FLAW }.step(judge, single, results),
@@ -1394,7 +1663,7 @@ extern_calls!(
     plain::<FLAW>()
 );
 
-fn engine<const FLAW: u8>() -> Library {
+fn engine<const FLAW: u16>() -> Library {
     Library {
         run: plain_run::<FLAW>,
         step: plain_step::<FLAW>,
@@ -1415,13 +1684,13 @@ fn only(told: &str, flawed: Library) -> Library {
 
 /// The plain form without a flaw, which has to pass.
 pub fn without_flaw() -> Library {
-    engine::<{ Nothing as u8 }>()
+    engine::<{ Nothing as u16 }>()
 }
 
 // --- Engines that break a law ---
 
 #[derive(Clone, Copy, PartialEq)]
-#[repr(u8)]
+#[repr(u16)]
 enum Lawless {
     FirstObjectLeftOut,
     LastObjectAlone,
@@ -1443,17 +1712,23 @@ enum Lawless {
     FactorByTheEdition,
     DirectByTheEdition,
     LargestByTheEdition,
+    WinterFactorsByTheSummersSectors,
+    SummerFactorsByTheWintersSectors,
+    FactorByTheLeafDays,
+    SumByTheLeafDays,
+    DaySumsByTheLeafDays,
+    RefusalByTheLeafDays,
 }
 
 impl Lawless {
-    fn is(self, way: u8) -> bool {
-        self as u8 == way
+    fn is(self, way: u16) -> bool {
+        self as u16 == way
     }
 }
 
 /// The job without some of its objects at the window, and how many there were.
-fn objects_left_out(way: u8, job: &Job) -> (Job, usize) {
-    let mut scene = Scene::of(&job.objects());
+fn objects_left_out(way: u16, job: &Job) -> (Job, usize) {
+    let mut scene = Scene::of(&job.objects(true));
     let objects = scene.window.len();
     if Lawless::FirstObjectLeftOut.is(way) && objects > 0 {
         scene.window.remove(0);
@@ -1462,16 +1737,15 @@ fn objects_left_out(way: u8, job: &Job) -> (Job, usize) {
         scene.window.drain(..objects - 1);
     }
     let changed = scene.call();
-    let whole = changed.sectors == job.sectors && 32 * objects == job.window.len();
     let mut job = job.clone();
-    if whole {
+    if 32 * objects == job.window.len() {
         job.window = changed.window;
     }
     (job, objects)
 }
 
 /// What becomes of a step's factor.
-fn lawless_factor(way: u8, job: &Job, mut factor: f64, objects: usize) -> f64 {
+fn lawless_factor(way: u16, job: &Job, mut factor: f64, objects: usize) -> f64 {
     if Lawless::FactorByTheEdition.is(way) {
         factor *= 1.0 - job.edition as f64 / 1000.0;
     }
@@ -1487,8 +1761,23 @@ fn lawless_factor(way: u8, job: &Job, mut factor: f64, objects: usize) -> f64 {
     factor
 }
 
+/// What the factor of a step is multiplied by: something of the other season's sectors, or of the leaf
+/// days.
+fn lawless_season(way: u16, job: &Job, step: &Step) -> f64 {
+    // the counts of objects in the first sectors, and the bytes of their kinds and sizes
+    let sum = |list: &[u8]| list.iter().map(|&byte| byte as f64).sum::<f64>();
+    let summer = Seasons::of(&job.site).is_summer(step.day);
+    let by = match summer {
+        true if Lawless::SummerFactorsByTheWintersSectors.is(way) => sum(&job.winter),
+        false if Lawless::WinterFactorsByTheSummersSectors.is(way) => sum(&job.summer),
+        _ if Lawless::FactorByTheLeafDays.is(way) => job.site.first_leaf_day as f64,
+        _ => 0.0,
+    };
+    1.0 / (1.0 + by / 1e6)
+}
+
 /// What becomes of the step by which the sum is taken.
-fn lawless_hours(way: u8, step: f64) -> f64 {
+fn lawless_hours(way: u16, step: f64) -> f64 {
     match () {
         _ if Lawless::SumWithoutTheStep.is(way) => 1.0,
         _ if Lawless::HoursAnUlpLonger.is(way) => ulps_from(step, 1),
@@ -1497,7 +1786,7 @@ fn lawless_hours(way: u8, step: f64) -> f64 {
 }
 
 /// What becomes of a year's totals.
-fn lawless_totals(way: u8, job: &Job, objects: usize, totals: &mut [u8]) {
+fn lawless_totals(way: u16, job: &Job, objects: usize, totals: &mut [u8]) {
     let days = days_in_year(job.site.leap_year);
     let first_kind = job.window.first().map_or(0.0, |&kind| kind as f64);
     let records = totals_of(&totals[..totals_length(job.site.leap_year)]);
@@ -1513,6 +1802,9 @@ fn lawless_totals(way: u8, job: &Job, objects: usize, totals: &mut [u8]) {
             _ if Lawless::DaySumsByTheFirstObject.is(way) && of_a_day => kept.sum += first_kind,
             _ if Lawless::DaySumsBelowZero.is(way) && of_a_day => kept.sum = -1.0 - kept.sum,
             _ if Lawless::MonthSumsDoubled.is(way) && !of_a_day => kept.sum *= 2.0,
+            _ if Lawless::DaySumsByTheLeafDays.is(way) && of_a_day => {
+                kept.sum += job.site.first_leaf_day as f64
+            }
             _ => {}
         }
         let words = [kept.count, kept.largest.to_bits(), kept.sum.to_bits()];
@@ -1525,7 +1817,7 @@ fn lawless_totals(way: u8, job: &Job, objects: usize, totals: &mut [u8]) {
     }
 }
 
-fn lawless_run<const WAY: u8>(
+fn lawless_run<const WAY: u16>(
     judge: &mut Judge,
     job: &Job,
     [days, totals, results]: [&mut [u8]; 3],
@@ -1533,17 +1825,17 @@ fn lawless_run<const WAY: u8>(
     let (job, objects) = objects_left_out(WAY, job);
     let mut answer = judge.run(&job, days, totals, results);
     if answer.number != 0 {
+        answer.step += Lawless::RefusalByTheLeafDays.is(WAY) as u64 * job.site.first_leaf_day;
         return answer;
     }
     lawless_totals(WAY, &job, objects, totals);
     let hours = lawless_hours(WAY, job.times[2]);
+    let steps = steps_of(&job.site, &job.times);
     let mut sum = 0.0;
-    for row in results
-        .chunks_exact_mut(8 * ROW)
-        .take(answer.count as usize)
-    {
+    for (row, step) in results.chunks_exact_mut(8 * ROW).zip(&steps) {
         let doubles = doubles_of(row);
-        let factor = lawless_factor(WAY, &job, doubles[5], objects);
+        let season = lawless_season(WAY, &job, step);
+        let factor = lawless_factor(WAY, &job, doubles[5], objects) * season;
         let direct = match Lawless::DirectByTheEdition.is(WAY) {
             true => doubles[2] + job.edition as f64,
             false => doubles[2],
@@ -1556,6 +1848,9 @@ fn lawless_run<const WAY: u8>(
     if Lawless::SumByTheObjects.is(WAY) {
         answer.sum += objects as f64;
     }
+    if Lawless::SumByTheLeafDays.is(WAY) {
+        answer.sum += job.site.last_leaf_day as f64;
+    }
     if Lawless::SumByTheFirstObject.is(WAY) {
         // a record begins with its kind, least byte first
         answer.sum += job.window.first().map_or(0.0, |&kind| kind as f64);
@@ -1563,7 +1858,7 @@ fn lawless_run<const WAY: u8>(
     answer
 }
 
-fn lawless<const WAY: u8>() -> Answers {
+fn lawless<const WAY: u16>() -> Answers {
     Answers(lawless_run::<WAY>, |_, _, _| 0, |_, _, _| 0)
 }
 
@@ -1576,12 +1871,18 @@ macro_rules! ways {
             told: $told,
             what: stringify!($way),
             library: Library {
-                run: run_by::<{ Lawless::$way as u8 }>,
-                step: step_by::<{ Lawless::$way as u8 }>,
-                irradiance: irradiance_by::<{ Lawless::$way as u8 }>,
+                run: run_by::<{ Lawless::$way as u16 }>,
+                step: step_by::<{ Lawless::$way as u16 }>,
+                irradiance: irradiance_by::<{ Lawless::$way as u16 }>,
             },
         }),*]
     };
+}
+
+/// What equal lists with other leaf days have to find, tried alone.
+pub fn by_leaf_days() -> Vec<Wrong> {
+    ways!(String::from("run with equal lists");
+        FactorByTheLeafDays, SumByTheLeafDays, DaySumsByTheLeafDays, RefusalByTheLeafDays)
 }
 
 /// What each law has to find, tried alone.
@@ -1595,10 +1896,12 @@ pub fn lawless_engines(law: Law) -> Vec<Wrong> {
             FirstObjectLeftOut, LastObjectAlone, SumByTheFirstObject, DaySumsByTheFirstObject),
         Law::Repeated => ways!(told();
             ObjectsCounted, SumByTheObjects, CountsByTheObjects, LargestByTheObjects,
-            DaySumsByTheObjects, MonthSumsByTheObjects, ByteBehindByTheObjects),
+            DaySumsByTheObjects, MonthSumsByTheObjects, ByteBehindByTheObjects,
+            WinterFactorsByTheSummersSectors, SummerFactorsByTheWintersSectors),
         Law::Enlarged => ways!(told();
             LastObjectAlone, SumByTheObjects, CountsByTheObjects, LargestByTheObjects,
-            DaySumsByTheObjects, MonthSumsByTheObjects),
+            DaySumsByTheObjects, MonthSumsByTheObjects,
+            WinterFactorsByTheSummersSectors, SummerFactorsByTheWintersSectors),
         Law::Emptied => ways!(told();
             NeverWhole, SumWithoutTheStep, CountsByTheObjects, LargestByTheObjects,
             MonthSumsDoubled),

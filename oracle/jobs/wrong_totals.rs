@@ -4,6 +4,7 @@
 use super::wrong::{Checked, Flaw, Flaw::*, Plain};
 use crate::pilgartze::{days_in_year, totals_length, totals_of, Totals, MONTHS, TOTALS};
 use crate::published::jobs::*;
+use crate::published::seasons::WRONG_LEAF_DAY;
 use crate::published::shading::WRONG_EDITION;
 
 /// The first day of each month of a common year.
@@ -293,6 +294,7 @@ impl Plain {
         let whole = totals.len() >= totals_length(job.site.leap_year);
         let emptied = self.is(TotalsEmptiedBeforeTheChecks) && whole
             || self.is(WrongEditionTotalsEmptied) && whole && number == WRONG_EDITION
+            || self.is(WrongLeafDayTotalsEmptied) && whole && number == WRONG_LEAF_DAY
             || self.is(TotalsEmptiedBeforeTheResultsCheck) && whole && number == 7
             || self.is(ShortTotalsEmptiedInPart) && !whole && number == 7;
         if emptied {

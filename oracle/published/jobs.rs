@@ -1,11 +1,13 @@
 //! Whole jobs and single steps: the specification's checks of what goes in, read off its text, and
-//! then the published Rust, step by step, in edition 2 with its factor's second copy.
+//! then the published Rust, step by step, in edition 2 with its factor's second copy, each step with
+//! the sectors of its day's season.
 //!
 //! Each step has its hour put into a published record of one hour, which takes a microsecond where
 //! the record of a whole year takes milliseconds; `rows_by_new` has the same rows by the latter.
 
 use super::conditions::{sun_at, OneHour, Site, FIRST_STEP};
 use super::days::{fill_days, DayValues};
+use super::seasons::{leaf_days_fine, Seasons, WRONG_LEAF_DAY};
 use super::shading::{
     edition_fine, factor_by, sectors_of, window_of, within, Numbers, WRONG_EDITION,
 };
@@ -36,7 +38,8 @@ pub struct Job {
     pub times: Times,
     pub surface: Surface,
     pub series: [Vec<u8>; 3],
-    pub sectors: Vec<u8>,
+    pub summer: Vec<u8>,
+    pub winter: Vec<u8>,
     pub window: Vec<u8>,
     pub days: Vec<u8>,
     pub totals: Vec<u8>,
@@ -52,9 +55,18 @@ pub struct Single {
     pub time: f64,
     pub surface: Surface,
     pub readings: Readings,
-    pub sectors: Vec<u8>,
+    pub summer: Vec<u8>,
+    pub winter: Vec<u8>,
     pub window: Vec<u8>,
     pub results: Vec<u8>,
+}
+
+impl Job {
+    /// "An older job, with one list, is a job with two equal lists."
+    pub fn set_sectors(&mut self, sectors: Vec<u8>) {
+        self.summer = sectors.clone();
+        self.winter = sectors;
+    }
 }
 
 /// What a call gives and what it leaves in the table of days and in the totals, of a run, and in the
@@ -170,15 +182,18 @@ pub fn store(results: &mut [u8], place: usize, row: &[f64]) {
     }
 }
 
-/// Both lists of objects, in range.
+/// The lists of objects, in range.
 pub struct Lists {
-    sectors: Vec<ShadingSegment>,
+    summer: Vec<ShadingSegment>,
+    winter: Vec<ShadingSegment>,
     window: Vec<WindowShadingObject>,
 }
 
-pub fn lists_of(sectors: &[u8], window: &[u8]) -> Option<Lists> {
+/// None where a record of one of them is not as it should be, be it walked along or not.
+pub fn lists_of(summer: &[u8], winter: &[u8], window: &[u8]) -> Option<Lists> {
     Some(Lists {
-        sectors: sectors_of(sectors)?,
+        summer: sectors_of(summer)?,
+        winter: sectors_of(winter)?,
         window: window_of(window)?,
     })
 }
@@ -186,8 +201,8 @@ pub fn lists_of(sectors: &[u8], window: &[u8]) -> Option<Lists> {
 /// The steps of a run with their readings, and its lists.
 type Checked = (Vec<(Step, Readings)>, Lists);
 
-/// Checks 14, then 1 to 7 of a run, in number order: what passes them, or the number. Days, totals and
-/// results are the lengths that are lent.
+/// Checks 14, 1, 15, then 2 to 7 of a run: what passes them, or the number. Days, totals and results
+/// are the lengths that are lent.
 fn checked(job: &Job, lengths: [usize; 3]) -> Result<Checked, u64> {
     match edition_fine(job.edition) {
         true => others_checked(job, lengths),
@@ -195,10 +210,19 @@ fn checked(job: &Job, lengths: [usize; 3]) -> Result<Checked, u64> {
     }
 }
 
-fn others_checked(job: &Job, [days, totals, results]: [usize; 3]) -> Result<Checked, u64> {
-    if !site_fine(&job.site) {
+/// "15 leaf day, either day not 0 to 365, after the site fields and before 2."
+fn site_checked(site: &JobSite) -> Result<(), u64> {
+    if !site_fine(site) {
         return Err(1);
     }
+    match leaf_days_fine(site) {
+        true => Ok(()),
+        false => Err(WRONG_LEAF_DAY),
+    }
+}
+
+fn others_checked(job: &Job, [days, totals, results]: [usize; 3]) -> Result<Checked, u64> {
+    site_checked(&job.site)?;
     if !times_fine(&job.times) {
         return Err(2);
     }
@@ -209,7 +233,7 @@ fn others_checked(job: &Job, [days, totals, results]: [usize; 3]) -> Result<Chec
     if !surface_fine(&job.surface) {
         return Err(3);
     }
-    let lists = lists_of(&job.sectors, &job.window).ok_or(4u64)?;
+    let lists = lists_of(&job.summer, &job.winter, &job.window).ok_or(4u64)?;
     let series = [0, 1, 2].map(|list: usize| doubles_of(&job.series[list]));
     for list in &series {
         if steps.iter().any(|step| step.index >= list.len()) {
@@ -232,15 +256,13 @@ fn others_checked(job: &Job, [days, totals, results]: [usize; 3]) -> Result<Chec
     Ok((steps.collect(), lists))
 }
 
-/// The checks of a single step but for its results: its hour, or the number. The one with the factor
+/// The checks of a single step but for its results: its time, or the number. The one with the factor
 /// has an edition and lists.
-fn single_checked(single: &Single, with_factor: bool) -> Result<(u32, Option<Lists>), u64> {
+fn single_checked(single: &Single, with_factor: bool) -> Result<(Timestep, Option<Lists>), u64> {
     if with_factor && !edition_fine(single.edition) {
         return Err(WRONG_EDITION);
     }
-    if !site_fine(&single.site) {
-        return Err(1);
-    }
+    site_checked(&single.site)?;
     let step = Timestep {
         index: 0,
         time: single.time,
@@ -254,13 +276,13 @@ fn single_checked(single: &Single, with_factor: bool) -> Result<(u32, Option<Lis
         return Err(3);
     }
     let lists = match with_factor {
-        true => Some(lists_of(&single.sectors, &single.window).ok_or(4u64)?),
+        true => Some(lists_of(&single.summer, &single.winter, &single.window).ok_or(4u64)?),
         false => None,
     };
     if !all_within(&single.readings, &READING_RANGES) {
         return Err(6);
     }
-    Ok((step.current_hour(), lists))
+    Ok((step, lists))
 }
 
 /// An hour in the form of the record of one hour.
@@ -346,11 +368,26 @@ pub fn watt_hours(&[_, _, direct, _, _, factor]: &[f64; ROW], step_hours: f64) -
     (factor * direct) * step_hours
 }
 
+/// A step's factor, or its number, by the list of its season and by that of the other.
+#[derive(Clone, Copy)]
+pub struct ByBothLists {
+    pub day: u32,
+    pub summer: bool,
+    pub own: Result<f64, u64>,
+    pub other: Result<f64, u64>,
+}
+
 /// The published record, kept from call to call.
 pub struct Judge {
+    /// It has the sectors of one season.
     conditions: ExternalConditions,
     edition: u64,
+    in_summer: bool,
+    /// Those of the other.
+    other_sectors: Vec<ShadingSegment>,
     window: Vec<WindowShadingObject>,
+    /// The last run's steps whose season has another list than the other season.
+    pub by_both_lists: Vec<ByBothLists>,
     /// The walks of the last call, those of steps inside the beam.
     pub walks: Vec<Walked>,
     /// Whether the sums of the hour that the record holds are beyond ±1.
@@ -367,7 +404,10 @@ impl Judge {
         Judge {
             conditions,
             edition: EDITION_1,
+            in_summer: true,
+            other_sectors: vec![],
             window: vec![],
+            by_both_lists: vec![],
             walks: vec![],
             beyond: Beyond::default(),
             sums: vec![],
@@ -377,13 +417,39 @@ impl Judge {
 
     pub fn lend(&mut self, edition: u64, lists: Lists) {
         self.edition = edition;
-        self.conditions.shading_segments = Some(lists.sectors);
+        self.in_summer = true;
+        self.conditions.shading_segments = Some(lists.summer);
+        self.other_sectors = lists.winter;
         self.window = lists.window;
         self.forget();
     }
 
+    /// Hands the published record the list of that season, all of its records.
+    pub fn walk_in(&mut self, summer: bool) {
+        if self.in_summer != summer {
+            self.in_summer = summer;
+            let sectors = self.conditions.shading_segments.as_mut();
+            std::mem::swap(sectors.expect("a list was lent"), &mut self.other_sectors);
+        }
+    }
+
+    /// Notes what the list of the other season would give in the hour that the record holds.
+    fn note_both_lists(&mut self, surface: &Surface, day: u32, own: Result<f64, u64>) {
+        let summer = self.in_summer;
+        self.walk_in(!summer);
+        let other = self.factor(surface);
+        self.walk_in(summer);
+        self.by_both_lists.push(ByBothLists {
+            day,
+            summer,
+            own,
+            other,
+        });
+    }
+
     /// A call begins.
     fn forget(&mut self) {
+        self.by_both_lists.clear();
         self.walks.clear();
         self.sums.clear();
         self.overhead.clear();
@@ -406,8 +472,13 @@ impl Judge {
         answer.doubles()
     }
 
-    /// Sun and surface at each step, where site, times and surface are in range.
-    pub fn suns(&mut self, site: &JobSite, times: &Times, surface: &Surface) -> Vec<Numbers> {
+    /// Sun and surface at each step, and its day, where site, times and surface are in range.
+    pub fn suns(
+        &mut self,
+        site: &JobSite,
+        times: &Times,
+        surface: &Surface,
+    ) -> Vec<(u32, Numbers)> {
         let steps = match surface_fine(surface) {
             true => steps_if_any(site, times),
             false => vec![],
@@ -417,7 +488,7 @@ impl Judge {
         in_year
             .map(|step| {
                 let row = self.hour(site, surface, step.hour, [0.0; 3]);
-                [
+                let numbers = [
                     row[0],
                     row[1],
                     tilt,
@@ -425,7 +496,8 @@ impl Judge {
                     base_height,
                     height,
                     width,
-                ]
+                ];
+                (step.day, numbers)
             })
             .collect()
     }
@@ -493,6 +565,22 @@ impl Judge {
         Ok([altitude, azimuth, direct, diffuse, total, factor?])
     }
 
+    /// The row of a run's step, by the list of its day.
+    fn row_of_step(
+        &mut self,
+        job: &Job,
+        seasons: &Seasons,
+        step: Step,
+        readings: Readings,
+    ) -> Result<[f64; ROW], u64> {
+        self.walk_in(seasons.is_summer(step.day));
+        let row = self.row(&job.site, &job.surface, step.hour, readings);
+        if job.summer != job.winter {
+            self.note_both_lists(&job.surface, step.day, row.map(|row| row[5]));
+        }
+        row
+    }
+
     /// A run, and what it leaves in the table of days, in the totals and in the results.
     pub fn run(
         &mut self,
@@ -509,6 +597,7 @@ impl Judge {
         };
         fill_days(days);
         self.lend(job.edition, lists);
+        let seasons = Seasons::of(&job.site);
         let [.., step_hours] = job.times;
         let mut rows = vec![];
         let mut answer = RunAnswer {
@@ -518,7 +607,7 @@ impl Judge {
             sum: 0.0,
         };
         for (k, &(step, readings)) in steps.iter().enumerate() {
-            match self.row(&job.site, &job.surface, step.hour, readings) {
+            match self.row_of_step(job, &seasons, step, readings) {
                 Ok(row) => {
                     store(results, ROW * k, &row);
                     answer.sum += watt_hours(&row, step_hours);
@@ -549,7 +638,7 @@ impl Judge {
 
     pub fn step(&mut self, single: &Single, results: &mut [u8]) -> u64 {
         self.forget();
-        let (hour, lists) = match single_checked(single, true) {
+        let (step, lists) = match single_checked(single, true) {
             Ok(all) => all,
             Err(number) => return number,
         };
@@ -557,7 +646,9 @@ impl Judge {
             return 7;
         }
         self.lend(single.edition, lists.expect("the lists were asked for"));
-        match self.row(&single.site, &single.surface, hour, single.readings) {
+        self.walk_in(Seasons::of(&single.site).is_summer(step.current_day()));
+        let (site, surface) = (&single.site, &single.surface);
+        match self.row(site, surface, step.current_hour(), single.readings) {
             Ok(row) => {
                 store(results, 0, &row);
                 0
@@ -568,8 +659,8 @@ impl Judge {
 
     pub fn irradiance(&mut self, single: &Single, results: &mut [u8]) -> u64 {
         self.forget();
-        let (hour, _) = match single_checked(single, false) {
-            Ok(all) => all,
+        let hour = match single_checked(single, false) {
+            Ok((step, _)) => step.current_hour(),
             Err(number) => return number,
         };
         if results.len() / 8 < IRRADIANCE_ROW {
@@ -635,15 +726,42 @@ fn row_by_new(
     Ok([altitude, azimuth, direct, diffuse, total, factor])
 }
 
+/// The lists of sectors that the steps of a job go by: one where both are equal, or where all of its
+/// steps are of one season.
+pub fn lists_walked(job: &Job) -> usize {
+    let seasons = Seasons::of(&job.site);
+    let steps = steps_of(&job.site, &job.times);
+    let summers = steps.iter().filter(|step| seasons.is_summer(step.day));
+    let one_season = [0, steps.len()].contains(&summers.count());
+    match one_season || job.summer == job.winter {
+        true => 1,
+        false => 2,
+    }
+}
+
 /// The rows of a job that passes the checks, by the published record of the whole job and its own
-/// steps; the number of a refusal in place of the first row that is refused.
+/// steps; the number of a refusal in place of the first row that is refused. The record has one list of
+/// sectors: it is made with that of the first step, and where a job goes by two lists it is handed the
+/// other at each change of season.
 pub fn rows_by_new(job: &Job) -> Vec<Result<[f64; ROW], u64>> {
     let [start, end, step] = job.times;
     let times = SimulationTime::new(start, end, step);
-    let lists = lists_of(&job.sectors, &job.window).expect("lists in range");
-    let conditions = conditions_by_new(job, &times, lists.sectors);
+    let lists = lists_of(&job.summer, &job.winter, &job.window).expect("lists in range");
+    let seasons = Seasons::of(&job.site);
+    let list_of = |day: u32| match seasons.is_summer(day) {
+        true => lists.summer.clone(),
+        false => lists.winter.clone(),
+    };
+    let first = times.iter().next().map_or(0, |step| step.current_day());
+    let mut conditions = conditions_by_new(job, &times, list_of(first));
+    let both = lists_walked(job) == 2;
+    let mut day = first;
     let mut rows = vec![];
     for step in times.iter() {
+        if both && step.current_day() != day {
+            day = step.current_day();
+            conditions.shading_segments = Some(list_of(day));
+        }
         let row = row_by_new(&conditions, job.edition, &job.surface, &lists.window, step);
         rows.push(row);
         if row.is_err() {

@@ -7,4 +7,5 @@ pub mod file;
 pub mod leaves;
 pub mod listings;
 pub mod runs;
+pub mod seasons;
 pub mod totals;

@@ -1,9 +1,10 @@
 //! Short runs, accepted and with every refusal, some whose walk along 36 sectors ends at the first, a
 //! middle or the last of them, some whose sums have something to tell of the step, and some about the
-//! totals, all of edition 1; then some of edition 2 and of none.
+//! totals, all of edition 1; then some of edition 2 and of none. All these have two equal lists of
+//! sectors. At the end come some about leaf days and seasons, with two lists for the most part.
 
 use super::file::{File, Record};
-use super::{editions, totals};
+use super::{editions, seasons, totals};
 use crate::comparison::Settings;
 use crate::jobs::cases::Maker;
 use crate::jobs::edges;
@@ -14,14 +15,15 @@ use crate::random::Random;
 use crate::shading::walks::all_ends;
 
 const KIND: u64 = 1;
-const LONGEST: usize = 2_624;
+/// With one list of sectors, though there are two.
+const LONGEST: usize = 2_648;
 const MOST_RESULTS: usize = 1_024;
 const FILL: u8 = 0xA5;
 
 /// So many of each number among the jobs at the edges, those with several faults and the random ones.
 const ACCEPTED: usize = 70;
 const REFUSED: usize = 12;
-/// Of those about editions one in so many has its totals kept.
+/// Of those about editions, and about seasons, one in so many has its totals kept.
 const KEEPS_TOTALS: usize = 8;
 
 /// The job with so many bytes of results and totals, and room for its table of days.
@@ -38,11 +40,12 @@ fn lent(job: Job, results: usize, totals: usize) -> Job {
 fn record_of(job: &Job, left: &Left<RunAnswer>, keeps_totals: bool) -> Record {
     let (site, answer) = (&job.site, &left.answer);
     let [diffuse, direct, reflectivity] = &job.series;
-    let lists: [&[u8]; 7] = [
+    let lists: [&[u8]; 8] = [
         diffuse,
         direct,
         reflectivity,
-        &job.sectors,
+        &job.summer,
+        &job.winter,
         &job.window,
         &left.results,
         if keeps_totals { &left.totals } else { &[] },
@@ -55,6 +58,8 @@ fn record_of(job: &Job, left: &Left<RunAnswer>, keeps_totals: bool) -> Record {
         .doubles(&[site.series_step])
         .word(site.leap_year)
         .word(site.direct_beam_conversion)
+        .word(site.first_leaf_day)
+        .word(site.last_leaf_day)
         .doubles(&job.times)
         .doubles(&job.surface);
     for list in lists {
@@ -81,7 +86,8 @@ fn record(judge: &mut Judge, job: Job) -> Option<(Record, RunAnswer)> {
     let job = lent(job, results, totals_needed(1));
     let left = judge.run_on_copies(&job);
     let record = record_of(&job, &left, false);
-    (record.len() <= LONGEST).then_some((record, left.answer))
+    let one_list = record.len() - job.summer.len().min(job.winter.len());
+    (one_list <= LONGEST).then_some((record, left.answer))
 }
 
 /// How many runs there are of each number; for those of 8 and above, also at a later step.
@@ -194,24 +200,35 @@ fn with_totals(file: &mut File) -> Result<(), String> {
     Ok(())
 }
 
-/// Runs of edition 2 and of none. The totals of some are kept.
-fn with_editions(file: &mut File, settings: &Settings) -> Result<(), String> {
-    let short = |job: &Job| record(&mut Judge::new(), job.clone()).is_some();
+/// Whether the record of a job is short.
+fn short(job: &Job) -> bool {
+    record(&mut Judge::new(), job.clone()).is_some()
+}
+
+/// The same of one about seasons, which may be somewhat longer.
+fn short_about_seasons(job: &Job) -> bool {
+    let series: usize = job.series.iter().map(|series| series.len()).sum();
+    let objects = job.summer.len() + job.winter.len() + job.window.len();
+    job.results.len() <= MOST_RESULTS && series + objects <= LONGEST
+}
+
+/// Runs with the number that each must have, if that is known. The totals of some are kept.
+fn known(file: &mut File, what: &str, runs: Vec<(Job, Option<u64>)>) -> Result<(), String> {
     let mut judge = Judge::new();
-    let mut numbers = [0; 15];
-    for (place, (job, known)) in editions::runs(settings, short).into_iter().enumerate() {
+    let mut numbers = [0; 16];
+    for (place, (job, known)) in runs.into_iter().enumerate() {
         let results = job.results.len();
         let job = lent(job, results, totals_needed(1));
         let left = judge.run_on_copies(&job);
         let number = left.answer.number;
         if known.is_some_and(|known| known != number) {
-            return Err(format!("a run about editions has the number {number}"));
+            return Err(format!("a run {what} has the number {number}"));
         }
         numbers[number as usize] += 1;
         file.push(&record_of(&job, &left, place % KEEPS_TOTALS == 0));
     }
     let more: usize = numbers.iter().sum();
-    println!("  {more} of edition 2 or none, numbers {numbers:?}");
+    println!("  {more} {what}, numbers {numbers:?}");
     Ok(())
 }
 
@@ -229,7 +246,10 @@ pub fn file(settings: &Settings) -> Result<File, String> {
     let met = take(&mut file, "random", any);
     sums(&mut file);
     with_totals(&mut file)?;
-    with_editions(&mut file, settings)?;
+    let of_editions = editions::runs(settings, short);
+    known(&mut file, "of edition 2 or none", of_editions)?;
+    let of_seasons = seasons::runs(settings, short_about_seasons);
+    known(&mut file, "about seasons", of_seasons)?;
     match met.whole() {
         true => Ok(file),
         false => Err(String::from("too few runs of some number")),

@@ -13,7 +13,7 @@ pub mod wrong;
 
 use crate::comparison::{same, shown, Outcome, Settings, Tally, With};
 use crate::guarded::{Guarded, Side};
-use crate::pilgartze::{factor_by, FactorAnswer, FactorCall, Shading, Surface};
+use crate::pilgartze::{factor_by, FactorAnswer, FactorCall, Surface};
 use crate::published::shading::{Judge, Judged, Numbers, MOST_SECTORS, SECTOR_WORDS};
 use crate::random::Random;
 use call::{Call, Scene, COUNT, TRIPLES};
@@ -65,12 +65,8 @@ impl Lent {
         let lent = |start: *mut u8, list: &[u8]| unsafe {
             std::slice::from_raw_parts(start.cast_const(), list.len())
         };
-        let shading = Shading {
-            edition: call.edition,
-            sectors: lent(sectors, &call.sectors),
-            window: lent(window, &call.window),
-        };
-        let answer = call_with(self.function, &call.numbers, shading);
+        let lists = [lent(sectors, &call.sectors), lent(window, &call.window)];
+        let answer = call_with(self.function, call.edition, &call.numbers, lists);
         for (start, list) in [(sectors, &call.sectors), (window, &call.window)] {
             // whatever the call was promised not to do, the list is read anew
             if lent(std::hint::black_box(start), list) != &list[..] {
@@ -81,8 +77,15 @@ impl Lent {
     }
 }
 
-fn call_with(function: FactorCall, numbers: &Numbers, shading: Shading) -> FactorAnswer {
+/// The lists are sectors and window.
+fn call_with(
+    function: FactorCall,
+    edition: u64,
+    numbers: &Numbers,
+    [sectors, window]: [&[u8]; 2],
+) -> FactorAnswer {
     let &[altitude, azimuth, tilt, orientation, base_height, height, width] = numbers;
+    let sun = [altitude, azimuth];
     let surface = Surface {
         tilt,
         orientation,
@@ -90,7 +93,7 @@ fn call_with(function: FactorCall, numbers: &Numbers, shading: Shading) -> Facto
         height,
         width,
     };
-    unsafe { factor_by(function, altitude, azimuth, &surface, shading) }
+    unsafe { factor_by(function, edition, sun, &surface, sectors, window) }
 }
 
 fn judged(judge: &mut Judge, call: &Call) -> Judged {
