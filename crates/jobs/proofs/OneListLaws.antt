@@ -7,7 +7,8 @@ use lib.Dec.{T}
 use lib.Ieee.{Float}
 use lib.Ieee.Bits.{is-true}
 use Rattle.doubles.specs.Arithmetic.{_⊕_, whole}
-use Rattle.sun.specs.Site.{leafDaysFine}
+use Rattle.sun.specs.Site.{siteFine, leafDaysFine, hoursInYear}
+use Rattle.sun.specs.Hour.{hourOf}
 use Rattle.simulation_time.specs.Timestep.{currentHour}
 use Rattle.object_checks.specs.Checks.{sectorsFine, windowFine}
 use Rattle.seasons.specs.Seasons.{sectorsFor}
@@ -16,12 +17,12 @@ use Rattle.jobs.specs.declared.answers.Row.{Row}
 use Rattle.jobs.specs.declared.answers.StepAnswer.{StepAnswer}
 use Rattle.jobs.specs.declared.answers.Checked.{Checked}
 use Rattle.jobs.specs.declared.answers.Checked.the-variants as check
-use Rattle.jobs.specs.Job.{Job}
+use Rattle.jobs.specs.Job.{Job, indexAt, readingAt}
 use Rattle.jobs.specs.JobChecks.{tried, checked}
-use Rattle.jobs.specs.Step.{sectorsAt, jobSectors, stepAt}
+use Rattle.jobs.specs.Step.{sunAt, irradianceByDay, irradianceAt, sectorsAt, jobSectors, stepWith, stepAt}
 use Rattle.jobs.specs.Rows.{putRow, withRow}
 use Rattle.jobs.specs.Run.{Ran, onRow, runFrom, runChecked, Lent, Left, roomFor, daysLeft, totalsLeft, runOf}
-use Rattle.jobs.specs.OneList.{oneListChecked, oneListStep, oneListFrom, oneListRan, oneListRun, OlderJobs}
+use Rattle.jobs.specs.OneList.{oneListChecked, oneListStep, oneListFrom, oneListRan, oneListRun, OlderJobs, withLeafDays, LeafDaysChangeNothing}
 use Rattle.jobs.proofs.PassedChecks.{passed}
 
 twice : (b c : Bool) → b && b && c ≡ b && c
@@ -65,3 +66,50 @@ older-jobs job lists sectors s w t =
     let checks = same-checks job lists sectors s w t room in
     let ran = same-ran job lists sectors s w (checked job room) refl ∙ ap (λ (c : Checked). oneListRan c job sectors (lists .results)) checks in
     λ x. record { ran = ran x; days = daysLeft (checks x) (lists .days); totals = totalsLeft (checks x) job (ran x) (lists .totals) }
+
+-- ---- the run with one list looks at no leaf day
+
+module _ (job : Job) (first last : ℕ) (sectors : List ℕ) where
+  abbrev other : Job
+  other = withLeafDays job first last
+
+  step-by-other : (time : Float) → oneListStep other sectors time ≡ oneListStep job sectors time
+  unfolding withLeafDays oneListStep stepWith sunAt hourOf irradianceAt irradianceByDay readingAt indexAt
+  step-by-other time = refl
+
+  steps-by-other : (n i : ℕ) (time sum : Float) (results : List ℕ) → oneListFrom n other sectors i time sum results ≡ oneListFrom n job sectors i time sum results
+  unfolding oneListFrom withLeafDays
+  steps-by-other zero i time sum results = refl
+  steps-by-other (suc n) i time sum results =
+      let later : Float = time ⊕ job .run .step in
+      let next : Row → Ran = λ (row : Row). oneListFrom n other sectors (i + 1) later (withRow (job .run .step) sum row) (putRow results i row) in
+      ap (λ (a : StepAnswer). onRow a i results next) (step-by-other time)
+      ∙ ap (onRow (oneListStep job sectors time) i results) (λ x (row : Row). steps-by-other n (i + 1) later (withRow (job .run .step) sum row) (putRow results i row) x)
+
+  ran-by-other : (c : Checked) (results : List ℕ) → oneListRan c other sectors results ≡ oneListRan c job sectors results
+  unfolding oneListRan withLeafDays
+  ran-by-other (check.Refused r) results = refl
+  ran-by-other (check.Steps n) results = steps-by-other n 0 (job .run .start) (whole 0) results
+
+  checks-by-other : (lists : Lent) → oneListChecked other sectors (roomFor other lists) ≡ oneListChecked job sectors (roomFor job lists)
+  unfolding oneListChecked siteFine hoursInYear withLeafDays
+  checks-by-other lists = refl
+
+  totals-by-other : (c : Checked) (ran : Ran) (totals : List ℕ) → totalsLeft c other ran totals ≡ totalsLeft c job ran totals
+  unfolding totalsLeft withLeafDays
+  totals-by-other (check.Refused r) ran totals = refl
+  totals-by-other (check.Steps n) ran totals = refl
+
+  run-by-other : (lists : Lent) → oneListRun other sectors lists ≡ oneListRun job sectors lists
+  unfolding oneListRun
+  run-by-other lists =
+      let checks = checks-by-other lists in
+      let ran = (λ x. oneListRan (checks x) other sectors (lists .results)) ∙ ran-by-other (oneListChecked job sectors (roomFor job lists)) (lists .results) in
+      let totals = (λ x. totalsLeft (checks x) other (ran x) (lists .totals)) ∙ totals-by-other (oneListChecked job sectors (roomFor job lists)) _ (lists .totals) in
+      λ x. record { ran = ran x; days = daysLeft (checks x) (lists .days); totals = totals x }
+
+pub leaf-days-change-nothing : LeafDaysChangeNothing
+leaf-days-change-nothing job lists e first last t u =
+    older-jobs (withLeafDays job first last) lists (job .winter) (unfold withLeafDays in e) (unfold withLeafDays in refl) u
+    ∙ run-by-other job first last (job .winter) lists
+    ∙ sym (older-jobs job lists (job .winter) e refl t)

@@ -1,5 +1,5 @@
 -- An older job, with one list of sectors and no leaf days, is a job with two equal lists: the run of an older job, and what is claimed.
--- `older-jobs` (proofs/OneListLaws.antt) proves it.
+-- `older-jobs` and `leaf-days-change-nothing` (proofs/OneListLaws.antt) prove it.
 use mathlib.Core.Path.{_≡_}
 use mathlib.Core.Bool.{Bool, _&&_}
 use mathlib.Core.List.{List}
@@ -7,6 +7,7 @@ use Prim.Native.Nat.{ℕ, zero, suc, _+_}
 use lib.Dec.{T}
 use lib.Ieee.{Float}
 use Rattle.doubles.specs.Arithmetic.{_⊕_, whole}
+use Rattle.sun.specs.declared.site.Site.{Site}
 use Rattle.sun.specs.Site.{siteFine, leafDaysFine, hoursInYear}
 use Rattle.simulation_time.specs.RunChecks.{runAccepted}
 use Rattle.objects.specs.declared.answers.Refusal.the-variants as refusal
@@ -18,7 +19,7 @@ use Rattle.jobs.specs.declared.answers.StepAnswer.{StepAnswer}
 use Rattle.jobs.specs.declared.answers.Checked.{Checked}
 use Rattle.jobs.specs.declared.answers.Checked.the-variants as check
 use Rattle.jobs.specs.declared.answers.RunAnswer.the-variants.{Accepted, Refused}
-use Rattle.jobs.specs.Job.{Job, readingAt}
+use Rattle.jobs.specs.Job.{Job, jobOf, readingAt}
 use Rattle.jobs.specs.JobChecks.{tried, seriesChecked}
 use Rattle.jobs.specs.Step.{stepWith}
 use Rattle.jobs.specs.Rows.{putRow, withRow}
@@ -60,8 +61,31 @@ oneListRun job sectors lists =
     let ran = oneListRan checks job sectors (lists .results) in
     record { ran = ran; days = daysLeft checks (lists .days); totals = totalsLeft checks job ran (lists .totals) }
 
--- ---- the claim
+-- ---- the claims
 
 -- With two equal lists and any accepted leaf days: the answer and all that the run leaves, totals and table of days too.
 abbrev pub OlderJobs : Type 0
 OlderJobs = (job : Job) (lists : Lent) (sectors : List ℕ) → job .summer ≡ sectors → job .winter ≡ sectors → T (leafDaysFine (job .site)) → runOf job lists ≡ oneListRun job sectors lists
+
+-- the job with other leaf days
+unfoldable pub withLeafDays : Job → ℕ → ℕ → Job
+withLeafDays job first last =
+    let site = job .site in
+    let other : Site = record {
+      latitude = site .latitude;
+      longitude = site .longitude;
+      timezone = site .timezone;
+      «start_day» = site .«start_day»;
+      «time_series_step» = site .«time_series_step»;
+      «leap_year» = site .«leap_year»;
+      «direct_beam_conversion» = site .«direct_beam_conversion»;
+      «first_leaf_day» = first;
+      «last_leaf_day» = last;
+    } in
+    jobOf (job .edition) other (job .run) (job .surface) (job .diffuse) (job .direct) (job .reflectivity) (job .summer) (job .winter) (job .window)
+
+-- so with equal lists leaf days change nothing
+abbrev pub LeafDaysChangeNothing : Type 0
+LeafDaysChangeNothing =
+    (job : Job) (lists : Lent) → job .summer ≡ job .winter → (first last : ℕ) → T (leafDaysFine (job .site)) → T (leafDaysFine (withLeafDays job first last .site))
+    → runOf (withLeafDays job first last) lists ≡ runOf job lists
