@@ -1,5 +1,5 @@
 -- An older job is a job with two equal lists: the claim, proved. Assumes nothing.
-use mathlib.Core.Path.{_≡_, refl, sym, ap, ap₂, _∙_, subst}
+use mathlib.Core.Path.{_≡_, refl, sym, ap, _∙_, subst}
 use mathlib.Core.Bool.{Bool, true, false, _&&_}
 use mathlib.Core.List.{List}
 use Prim.Native.Nat.{ℕ, zero, suc, _+_, _/_}
@@ -11,7 +11,6 @@ use Rattle.sun.specs.Site.{siteFine, leafDaysFine, hoursInYear}
 use Rattle.sun.specs.Hour.{hourOf}
 use Rattle.simulation_time.specs.Timestep.{currentHour}
 use Rattle.object_checks.specs.Checks.{sectorsFine, windowFine}
-use Rattle.seasons.specs.Seasons.{sectorsFor}
 use Rattle.seasons.proofs.Parts.{all-whole, one-list}
 use Rattle.jobs.specs.declared.answers.Row.{Row}
 use Rattle.jobs.specs.declared.answers.StepAnswer.{StepAnswer}
@@ -21,7 +20,7 @@ use Rattle.jobs.specs.Job.{Job, indexAt, readingAt}
 use Rattle.jobs.specs.JobChecks.{tried, checked}
 use Rattle.jobs.specs.Step.{sunAt, irradianceByDay, irradianceAt, sectorsAt, jobSectors, stepWith, stepAt}
 use Rattle.jobs.specs.Rows.{putRow, withRow}
-use Rattle.jobs.specs.Run.{Ran, onRow, runFrom, runChecked, Lent, Left, roomFor, daysLeft, totalsLeft, runOf}
+use Rattle.jobs.specs.Run.{Ran, onRow, runFrom, runChecked, Lent, roomFor, daysLeft, totalsLeft, runOf}
 use Rattle.jobs.specs.OneList.{oneListChecked, oneListStep, oneListFrom, oneListRan, oneListRun, OlderJobs, withLeafDays, LeafDaysChangeNothing}
 use Rattle.jobs.proofs.PassedChecks.{passed}
 

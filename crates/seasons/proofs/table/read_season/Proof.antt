@@ -1,10 +1,8 @@
 -- `read_season` meets its contract.
-use mathlib.Core.Path.{refl, sym, subst}
-use Prim.Native.Nat.{_≤_}
+use mathlib.Core.Path.{sym, subst}
 use lib.Dec.{T}
 use native.Mathlib.Omega.{arith}
 use denote.Ref.{now}
-use borrow.Author.Needs.{needs}
 use Rattle.objects.specs.Records.{Readable}
 use Rattle.object_checks.proofs.ReadableSectors.{readable}
 use Rattle.seasons.proofs.Parts.{day-fine, season-read}
