@@ -65,7 +65,9 @@ oneListRun job sectors lists =
 
 -- With two equal lists and any accepted leaf days: the answer and all that the run leaves, totals and table of days too.
 abbrev pub OlderJobs : Type 0
-OlderJobs = (job : Job) (lists : Lent) (sectors : List ℕ) → job .summer ≡ sectors → job .winter ≡ sectors → T (leafDaysFine (job .site)) → runOf job lists ≡ oneListRun job sectors lists
+OlderJobs =
+    (job : Job) (lists : Lent) (sectors : List ℕ) → job .summer ≡ sectors → job .winter ≡ sectors
+    → T (leafDaysFine (job .site)) → runOf job lists ≡ oneListRun job sectors lists
 
 -- the job with other leaf days
 unfoldable pub withLeafDays : Job → ℕ → ℕ → Job
