@@ -325,6 +325,34 @@ static void overhang_not_wrapped(void)
     }
 }
 
+/* Noon of a day, a tree being in leaf from 20 April to 31 October and left out in winter: the factor of the step, and
+ * that of the factor call with the tree; without it that is 1. */
+static void check_noon(uint64_t day, double factor, double with_tree, const char *what)
+{
+    const pilgartze_surface upright = facing(90.0, 180.0, 1.0, 1.2);
+    const double noon = 24.0 * (double)day + 12.0;
+    pilgartze_sector tree = free_sector;
+    pilgartze_shading shading = bare;
+    pilgartze_site site = site_at(51.06, -1.31, 0);
+    pilgartze_row row;
+    pilgartze_add_object(&tree, pilgartze_distant_obstacle(10.0, 7.0));
+    shading.summer = &tree;
+    site.first_leaf_day = pilgartze_day_of(site.leap_year, 4, 20);
+    site.last_leaf_day = pilgartze_day_of(site.leap_year, 10, 31);
+    check(pilgartze_step_at(&site, noon, &upright, &reading, &shading, &row) == 0, 39, what);
+    check(about(row.factor, factor), 39, what);
+    check(about(among(&tree, 1, row.altitude, row.azimuth, upright).factor, with_tree), 39, what);
+    check(among(&free_sector, 1, row.altitude, row.azimuth, upright).factor == 1.0, 39, what);
+}
+
+static void seasons(void)
+{
+    check_noon(108, 1.0, 0.34507897, "19 April, bare");
+    check_noon(109, 0.42763712, 0.42763712, "20 April, in leaf");
+    check_noon(303, 0.0, 0.0, "31 October, in leaf");
+    check_noon(304, 1.0, 0.0, "1 November, bare");
+}
+
 static void sectors(void)
 {
     const pilgartze_surface upright = facing(90.0, 180.0, 0.0, 1.2);
@@ -368,6 +396,7 @@ int main(void)
     mended_fins();
     overhang_not_wrapped();
     sectors();
+    seasons();
     shaded_light();
     printf("docs/DIFFERENCES.md: %d checks of its inputs, %d failed\n", checks, failures);
     return failures == 0 ? 0 : 1;
