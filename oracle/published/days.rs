@@ -32,8 +32,8 @@ pub fn day_in(table: &[u8], day: u32) -> DayValues {
     doubles.try_into().expect("three doubles")
 }
 
-/// "Where the run is not refused 1 to 7 all of the table is stored, before the first step; bytes past
-/// it are untouched."
+/// "Where the run is not refused 14, 15 or 1 to 7 all of the table is stored, before the first step;
+/// bytes past it are untouched."
 pub fn fill_days(table: &mut [u8]) {
     table[..DAYS_LENGTH].copy_from_slice(day_table());
 }

@@ -25,7 +25,8 @@ pub struct Totals {
     pub sum: f64,
 }
 
-// How many steps a job has that passes the checks before the first step, or why it is turned down (1 to 7).
+// How many steps a job has that passes the checks before the first step, or why it is turned down (14, 1, 15 or
+// 2 to 7).
 pub enum Checked {
     Steps(u64),
     Refused(Refusal),

@@ -1,7 +1,7 @@
--- The claim on two jobs compared is about something: three jobs of two steps, at noon and one on the first of January. `bare` has no
--- objects; `built` has a distant obstacle, a distant overhang and an overhang at the window; `mixed` has these in another order and
--- some twice, and its sector starts at −0.0. All premises are met, computed by the checker from the definitions. So are the totals that
--- `built` leaves.
+-- The claim on two jobs compared is about something: three jobs of two steps, at one o'clock on the first two days of January, of which
+-- the second is summer. `bare` has no objects; `built` has a distant obstacle, in summer a distant overhang too, an overhang at the window
+-- and a right fin; `mixed` has these in another order and some twice, and its sectors start at −0.0. All premises are met, computed by the
+-- checker from the definitions. So are the totals that `built` leaves.
 use mathlib.Core.Path.{_≡_, refl, sym, subst, ap, _∙_}
 use mathlib.Core.Logic.{inl, inr}
 use mathlib.Core.Bool.{Bool, true, false, not, _&&_}
