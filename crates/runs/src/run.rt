@@ -30,8 +30,8 @@ use objects::answers::Refusal;
 use objects::records::window_of;
 use objects::surface::Surface;
 use objects::surface::surface_fine;
+use seasons::in_leaf;
 use seasons::table::read_season;
-use seasons::table::season_for;
 use segments::place_index;
 use shading::step::factor_at;
 use shading::step::sun_place;
@@ -221,7 +221,9 @@ fn run_steps<'a>(
             if hour / 24 != day.index {
                 store_kept(totals, kept_totals);
                 kept_totals = read_totals(totals, leap, hour / 24);
-                season = season_for(summer, winter, first, last, hour / 24, season);
+                if in_leaf(first, last, (hour / 24) as u64) != season.summer {
+                    season = read_season(summer, winter, first, last, hour / 24);
+                }
             }
             day = day_for(days, hour / 24, day);
             kept = kept_hour(site, surface, fixed, day, hour);

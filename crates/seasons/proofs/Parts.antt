@@ -1,6 +1,6 @@
 -- The list for a day is a part of one of the two lists, and of accepted lists it is one of them whole. Assumes nothing.
 use mathlib.Core.Path.{_≡_, refl, sym, ap, _∙_, subst, subst₂}
-use mathlib.Core.Bool.{Bool, true, false, cond, _||_}
+use mathlib.Core.Bool.{Bool, true, false, not, cond, _||_, Bool·beq}
 use mathlib.Core.List.{List}
 use Prim.Native.Nat.{ℕ, _+_, _*_, _/_, _≤_}
 use native.Mathlib.Decide.{decLt}
@@ -92,6 +92,13 @@ one-list l first last day = elim (inLeaf first last day) as (λ (b : Bool). cond
 
 -- ---- the table that is kept
 
+-- a test `a != b` of two booleans that fails
+same-bool : (a b : Bool) → not (Bool·beq a b) ≡ false → a ≡ b
+same-bool true true e = refl
+same-bool false false e = refl
+same-bool true false e = e
+same-bool false true e = sym e
+
 -- what its walk goes along is the list for the day
 module _ (summer winter : List ℕ) (s : T (sectorsFine summer)) (w : T (sectorsFine winter)) (summery : Bool) (kept : SeasonTable)
     (k : kept ≡ seasonTable summery summer winter) where
@@ -105,9 +112,13 @@ module _ (summer winter : List ℕ) (s : T (sectorsFine summer)) (w : T (sectors
       (ap (λ (t : SeasonTable). t .places) k ∙ ap (sectorPlaces (seasonRecords summery summer winter)) (sym (ap (λ (t : SeasonTable). t .count) k)))
 
   -- it says which season it is of
-  pub of-its-season : kept ≡ seasonTable (kept .summer) summer winter
+  of-its-season : kept ≡ seasonTable (kept .summer) summer winter
   unfolding seasonTable
   of-its-season = k ∙ ap (λ (b : Bool). seasonTable b summer winter) (sym (ap (λ (t : SeasonTable). t .summer) k))
+
+  -- where a day's season is the one that it is of, it is that of the day
+  pub still-right : (today : Bool) → not (Bool·beq today (kept .summer)) ≡ false → kept ≡ seasonTable today summer winter
+  still-right today e = of-its-season ∙ ap (λ (b : Bool). seasonTable b summer winter) (sym (same-bool today (kept .summer) e))
 
 -- the table read from the list for a day
 pub season-read : (summer winter : List ℕ) (first last day : ℕ) (summery : Bool) (part : List ℕ) (count : ℕ) (places : List ShadingSegment)

@@ -39,23 +39,3 @@ pub fn read_season<'a>(
         places: places,
     }
 }
-
-// The same table where the season is still the same.
-pub fn season_for<'a>(
-    summer: &'a [u8],
-    winter: &'a [u8],
-    first: u64,
-    last: u64,
-    day: u32,
-    kept: SeasonTable,
-) -> SeasonTable
-    requires { ⌜ sectorsFine (now summer) ≡ true ⌝ }
-    requires { ⌜ sectorsFine (now winter) ≡ true ⌝ }
-    requires { ⌜ kept ≡ seasonTable (kept .summer) (now summer) (now winter) ⌝ }
-    ensures { λ r. ⌜ r ≡ seasonTable (inLeaf first last day) (now (summer .entry)) (now (winter .entry)) ⌝ }
-{
-    if in_leaf(first, last, day as u64) == kept.summer {
-        return kept;
-    }
-    read_season(summer, winter, first, last, day)
-}

@@ -23,7 +23,8 @@ use Rattle.object_checks.specs.Checks.{sectorsFine}
 use Rattle.object_checks.proofs.AcceptedWindow.{window-count, window-places}
 use Rattle.seasons.specs.declared.table.SeasonTable.{SeasonTable}
 use Rattle.seasons.specs.Seasons.{sectorsFor}
-use Rattle.seasons.proofs.Parts.{few-kept, kept-sectors, of-its-season}
+use Rattle.seasons.specs.Table.{seasonTable}
+use Rattle.seasons.proofs.Parts.{few-kept, kept-sectors, still-right}
 use Rattle.shading.proofs.SunPlaces.{index-fits, factor-by-table}
 use Rattle.jobs.specs.Job.{Job, jobOf, indexAt, readingAt}
 use Rattle.jobs.specs.Step.{sectorsAt, jobSectors, stepAt}
@@ -39,6 +40,7 @@ use Rattle.jobs.proofs.RowStores.{length-putRow}
 use Rattle.steps.specs.Kept.{fixedOf, keptDay, keptHour}
 use Rattle.steps.proofs.StepKept.{kept-factor, by-kept, its-hour, its-index, of-its-hour, day-of-its-hour, of-its-day}
 use Rattle.runs.proofs.CheckSteps.{start-day}
+use Rattle.totals.specs.declared.KeptTotals.{KeptTotals}
 use Rattle.totals.specs.Kept.{keptTotals, putKept}
 use Rattle.totals.proofs.Kept.{none-added, length-kept, kept-stored, year-starts}
 use Rattle.runs.proofs.StepByStep.{dayTable, hourFactor, job-step, row-next, refused-here, at-end, at-start, has-records, new-day, kept-counted, totals-next, kept-next}
@@ -150,12 +152,15 @@ day-there s i time e h =
     let below = hour-of-leap-year (s .args .site) (s .args .run) (subst T (sym (s .pre .1 .0)) tt) i (subst (λ (n : ℕ). i < n) (s .pre .1 .1 .0) h) in
     subst (λ (t : Float). currentHour t / 24 < 366) (sym e) (omega (arith, below))
 
-season-for-requires : tie.Need-season-for-requires Inv-loop μ-loop
-season-for-requires c κs =
-    let l = c .before .before .before .before .before .before .before .before .before .before .before .before in
-    let s = l .before .before .before .before .before .before .before .before .before .before .before .before .before .before .before .before .before .before in
-    let a = s .args in
-    (s .pre .1 .1 .1 .0, (s .pre .1 .1 .1 .1 .0, of-its-season (now (a .summer)) (now (a .winter)) (summer-fine s) (winter-fine s) _ _ (l .loop .inv .5)))
+cast-in-leaf : tie.Need-cast-in-leaf Inv-loop μ-loop
+cast-in-leaf c = search needs
+
+in-leaf-requires : tie.Need-in-leaf-requires Inv-loop μ-loop
+in-leaf-requires c κs = tt
+
+read-season-requires-2 : tie.Need-read-season-requires-2 Inv-loop μ-loop
+read-season-requires-2 c κs =
+    let s = c .before .before .before .before .before .before .before .before .before .before .before .before .before .before .before .before .before .before .before .before .before .before .before .before .before .before .before .before .before .before .before .before in (s .pre .1 .1 .1 .0, s .pre .1 .1 .1 .1 .0)
 
 day-for-requires : tie.Need-day-for-requires Inv-loop μ-loop
 day-for-requires c κs =
@@ -208,6 +213,13 @@ kept-now c =
     let shade : ℕ → FactorAnswer = hourFactor (a .edition) (a .site) (a .surface) (now (a .summer)) (now (a .winter)) (now (a .window)) in
     let on = c .before .before .before .loop-test .taken in
     let there : currentHour (l .loop .time) / 24 < daysInYear leap = subst (λ (t : Float). currentHour t / 24 < daysInYear leap) (sym (q .8)) (day-of s (l .loop .i) on) in
+    -- on another day: what was kept is stored, and that day's totals are kept
+    let of-new-day : (totals′ : List ℕ) (new : KeptTotals) → totals′ ≡ putKept (l .loop .totals) (l .loop .kept-totals)
+    → new ≡ keptTotals leap (currentHour (l .loop .time) / 24) totals′
+    → (putKept totals′ new ≡ so-far) × (new ≡ keptTotals leap (currentHour (l .loop .time) / 24) so-far) × (length totals′ ≡ length (now (a .totals))) =
+    λ totals′ new stored read.
+    let both = new-day (job s) (l .loop .i) (l .loop .results) (now (a .totals)) (few s (l .loop .i) on) (currentHour (l .loop .time) / 24) (l .loop .totals) _ _ _ there (q .11) stored read in
+    (both .0, both .1, ap length stored ∙ length-kept (l .loop .totals) (l .loop .kept-totals) ∙ q .10) in
     ⊎-elim
     (λ w.
     let turned : (putKept (c .if1 .totals) (c .if1 .kept-totals) ≡ so-far)
@@ -215,11 +227,21 @@ kept-now c =
     × (length (c .if1 .totals) ≡ length (now (a .totals)))
     × (c .if1 .season ≡ table (currentHour (l .loop .time) / 24)) = ⊎-elim
     (λ v.
-    let both = new-day (job s) (l .loop .i) (l .loop .results) (now (a .totals)) (few s (l .loop .i) on) (currentHour (l .loop .time) / 24) (l .loop .totals) _ _ _ there (q .11) (w .5 ∙ v .8 ∙ v .2 .ensures) (w .8 ∙ v .10 ∙ v .6 .ensures ∙ ap₂ (λ (h : ℕ) (m : List ℕ). keptTotals leap (h / 24) m) same (sym (w .5 ∙ v .8))) in (
+    let both = of-new-day _ _ (w .5 ∙ v .10 ∙ v .2 .ensures) (w .8 ∙ v .12 ∙ v .6 .ensures ∙ ap₂ (λ (h : ℕ) (m : List ℕ). keptTotals leap (h / 24) m) same (sym (w .5 ∙ v .10))) in (
       both .0,
       both .1,
-      ap length (w .5 ∙ v .8 ∙ v .2 .ensures) ∙ length-kept (l .loop .totals) (l .loop .kept-totals) ∙ q .10,
-      w .7 ∙ v .9 ∙ v .7 .ensures ∙ ap (λ (h : ℕ). table (h / 24)) same,
+      both .2,
+      w .7 ∙ v .11 ∙ v .9 .ensures ∙ ap (λ (h : ℕ). table (h / 24)) same,
+    ))
+    (⊎-elim
+    (λ v.
+    let both = of-new-day _ _ (w .5 ∙ v .9 ∙ v .2 .ensures) (w .8 ∙ v .11 ∙ v .6 .ensures ∙ ap₂ (λ (h : ℕ) (m : List ℕ). keptTotals leap (h / 24) m) same (sym (w .5 ∙ v .9))) in (
+      both .0,
+      both .1,
+      both .2,
+      w .7 ∙ v .10 ∙ still-right (now (a .summer)) (now (a .winter)) (summer-fine s) (winter-fine s) _ _ (q .5) _ (v .8 .left)
+          ∙ ap (λ (b : Bool). seasonTable b (now (a .summer)) (now (a .winter))) (v .7 .ensures)
+          ∙ ap (λ (h : ℕ). table (h / 24)) same,
     ))
     (λ v.
     let same-day : l .loop .kept .hour / 24 ≡ currentHour (l .loop .time) / 24 = sym (v .0 .left ∙ its-index _ _ (q .4)) ∙ ap (λ (h : ℕ). h / 24) same in (
@@ -227,7 +249,7 @@ kept-now c =
       w .8 ∙ v .3 ∙ q .12 ∙ ap (λ (d : ℕ). keptTotals leap d so-far) same-day,
       ap length (w .5 ∙ v .1) ∙ q .10,
       w .7 ∙ v .2 ∙ q .5 ∙ ap table same-day,
-    ))
+    )))
     (w .2 .came) in (
       w .6 ∙ w .3 .ensures ∙ ap (λ (h : ℕ). keptDay (h / 24)) same,
       turned .3,
@@ -292,11 +314,11 @@ holds true e = refl
 holds false e = sym e
 
 -- the factor that the step goes by, whichever way it came
-factor-now : (c : tie.Joined3 Inv-loop μ-loop)
+factor-now : (c : tie.Joined4 Inv-loop μ-loop)
     → let l = c .before .before .before .before .before in
     let s = l .before .before .before .before .before .before .before .before .before .before .before .before .before .before .before .before .before .before in
     let a = s .args in
-    c .if3 .factor ≡ hourFactor (a .edition) (a .site) (a .surface) (now (a .summer)) (now (a .winter)) (now (a .window)) (currentHour (l .loop .time))
+    c .if4 .factor ≡ hourFactor (a .edition) (a .site) (a .surface) (now (a .summer)) (now (a .winter)) (now (a .window)) (currentHour (l .loop .time))
 unfolding sectorsFor
 factor-now c =
     let l = c .before .before .before .before .before in
@@ -311,7 +333,7 @@ factor-now c =
     (w .6 ∙ w .5 .ensures
     ∙ factor-by-table (a .edition) (a .surface) _ _ _ _ (few-places (c .before)) _ _ _ _ (w .2 .ensures) (ap (λ (i : ℕ). getD (c .before .if1 .season .places) i _) (w .3 .ensures))))
     (λ w. w .1 ∙ kept .3 (holds _ (w .0 .left)))
-    (c .if3 .came)
+    (c .if4 .came)
 
 step-at-requires : tie.Need-step-at-requires Inv-loop μ-loop
 step-at-requires c κs = let s = c .before .before .before .before .before .before .before .before .before .before .before .before .before .before .before .before .before .before .before .before .before .before .before in start-day (s .args .site) (subst T (sym (s .pre .0)) tt)
@@ -460,7 +482,9 @@ run-steps-spec =
     current-hour-requires
     store-kept-requires
     read-totals-requires-2
-    season-for-requires
+    cast-in-leaf
+    in-leaf-requires
+    read-season-requires-2
     day-for-requires
     kept-hour-requires-2
     sun-place-requires
