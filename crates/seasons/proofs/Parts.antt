@@ -34,15 +34,15 @@ all-whole l t = let e = whole-records 216 36 sectorRecordFine l t in take-all (l
 
 module _ (summer winter : List ℕ) (s : T (sectorsFine summer)) (w : T (sectorsFine winter)) where
   -- the list of a season is one of the two
-  season-list : (summery : Bool) → seasonRecords summery summer winter ≡ cond summery summer winter
+  season-list : (isSummer : Bool) → seasonRecords isSummer summer winter ≡ cond isSummer summer winter
   unfolding seasonRecords
   season-list true = all-whole summer s
   season-list false = all-whole winter w
 
   -- so what holds of both holds of it
-  pub of-season : (P : List ℕ → Type 0) → P summer → P winter → (summery : Bool) → P (seasonRecords summery summer winter)
-  of-season P p q summery =
-      subst P (sym (season-list summery)) (elim summery as (λ (b : Bool). P (cond b summer winter)) [ true ↦ p | false ↦ q ])
+  pub of-season : (P : List ℕ → Type 0) → P summer → P winter → (isSummer : Bool) → P (seasonRecords isSummer summer winter)
+  of-season P p q isSummer =
+      subst P (sym (season-list isSummer)) (elim isSummer as (λ (b : Bool). P (cond b summer winter)) [ true ↦ p | false ↦ q ])
 
   -- and of the list for a day
   pub of-day : (P : List ℕ → Type 0) → P summer → P winter → (first last day : ℕ) → P (sectorsFor summer winter first last day)
@@ -57,9 +57,9 @@ pub of-two-days : (s w s′ w′ : List ℕ) → T (sectorsFine s) → T (sector
     → P s s′ → P w w′ → (first last day : ℕ) → P (sectorsFor s w first last day) (sectorsFor s′ w′ first last day)
 unfolding sectorsFor
 of-two-days s w s′ w′ fs fw fs′ fw′ P p q first last day =
-    let summery = inLeaf first last day in
-    subst₂ P (sym (season-list s w fs fw summery)) (sym (season-list s′ w′ fs′ fw′ summery))
-    (elim summery as (λ (b : Bool). P (cond b s w) (cond b s′ w′)) [ true ↦ p | false ↦ q ])
+    let isSummer = inLeaf first last day in
+    subst₂ P (sym (season-list s w fs fw isSummer)) (sym (season-list s′ w′ fs′ fw′ isSummer))
+    (elim isSummer as (λ (b : Bool). P (cond b s w) (cond b s′ w′)) [ true ↦ p | false ↦ q ])
 
 -- ---- any lists
 
@@ -100,16 +100,16 @@ same-bool true false e = e
 same-bool false true e = sym e
 
 -- what its walk goes along is the list for the day
-module _ (summer winter : List ℕ) (s : T (sectorsFine summer)) (w : T (sectorsFine winter)) (summery : Bool) (kept : SeasonTable)
-    (k : kept ≡ seasonTable summery summer winter) where
+module _ (summer winter : List ℕ) (s : T (sectorsFine summer)) (w : T (sectorsFine winter)) (isSummer : Bool) (kept : SeasonTable)
+    (k : kept ≡ seasonTable isSummer summer winter) where
   pub few-kept : kept .count ≤ 36
   unfolding seasonTable
-  few-kept = subst (λ (t : SeasonTable). t .count ≤ 36) (sym k) (of-season summer winter s w (λ (l : List ℕ). sectorCount l ≤ 36) (sector-count summer s) (sector-count winter w) summery)
+  few-kept = subst (λ (t : SeasonTable). t .count ≤ 36) (sym k) (of-season summer winter s w (λ (l : List ℕ). sectorCount l ≤ 36) (sector-count summer s) (sector-count winter w) isSummer)
 
-  pub kept-sectors : take (kept .count) (kept .places) ≡ sectorsOf (seasonRecords summery summer winter)
+  pub kept-sectors : take (kept .count) (kept .places) ≡ sectorsOf (seasonRecords isSummer summer winter)
   unfolding seasonTable
-  kept-sectors = sectors-taken (seasonRecords summery summer winter) (kept .count) (kept .places) (ap (λ (t : SeasonTable). t .count) k) few-kept
-      (ap (λ (t : SeasonTable). t .places) k ∙ ap (sectorPlaces (seasonRecords summery summer winter)) (sym (ap (λ (t : SeasonTable). t .count) k)))
+  kept-sectors = sectors-taken (seasonRecords isSummer summer winter) (kept .count) (kept .places) (ap (λ (t : SeasonTable). t .count) k) few-kept
+      (ap (λ (t : SeasonTable). t .places) k ∙ ap (sectorPlaces (seasonRecords isSummer summer winter)) (sym (ap (λ (t : SeasonTable). t .count) k)))
 
   -- it says which season it is of
   of-its-season : kept ≡ seasonTable (kept .summer) summer winter
@@ -121,11 +121,11 @@ module _ (summer winter : List ℕ) (s : T (sectorsFine summer)) (w : T (sectors
   still-right today e = of-its-season ∙ ap (λ (b : Bool). seasonTable b summer winter) (sym (same-bool today (kept .summer) e))
 
 -- the table read from the list for a day
-pub season-read : (summer winter : List ℕ) (first last day : ℕ) (summery : Bool) (part : List ℕ) (count : ℕ) (places : List ShadingSegment)
-    → summery ≡ inLeaf first last day → part ≡ sectorsFor summer winter first last day → count ≡ sectorCount part → places ≡ sectorPlaces part count
-    → record { summer = summery; count = count; places = places } ≡ seasonTable (inLeaf first last day) summer winter
+pub season-read : (summer winter : List ℕ) (first last day : ℕ) (isSummer : Bool) (part : List ℕ) (count : ℕ) (places : List ShadingSegment)
+    → isSummer ≡ inLeaf first last day → part ≡ sectorsFor summer winter first last day → count ≡ sectorCount part → places ≡ sectorPlaces part count
+    → record { summer = isSummer; count = count; places = places } ≡ seasonTable (inLeaf first last day) summer winter
 unfolding seasonTable sectorsFor
-season-read summer winter first last day summery part count places b p n t =
+season-read summer winter first last day isSummer part count places b p n t =
     let m = n ∙ ap sectorCount p in
     λ x. record { summer = b x; count = m x; places = (t ∙ λ y. sectorPlaces (p y) (m y)) x }
 

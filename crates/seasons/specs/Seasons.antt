@@ -17,7 +17,7 @@ wholeRecords l = take (length l / 216 * 216) l
 -- those of the summer list, or else of the winter list
 unfoldable pub seasonRecords : Bool → List ℕ → List ℕ → List ℕ
 unfolding wholeRecords
-seasonRecords summery summer winter = cond summery (wholeRecords summer) (wholeRecords winter)
+seasonRecords isSummer summer winter = cond isSummer (wholeRecords summer) (wholeRecords winter)
 
 -- the list for a day
 unfoldable pub sectorsFor : List ℕ → List ℕ → ℕ → ℕ → ℕ → List ℕ

@@ -7,6 +7,6 @@ use Rattle.seasons.specs.declared.table.SeasonTable.{SeasonTable}
 use Rattle.seasons.specs.Seasons.{seasonRecords}
 
 unfoldable pub seasonTable : Bool → List ℕ → List ℕ → SeasonTable
-seasonTable summery summer winter =
-    let part = seasonRecords summery summer winter in
-    record { summer = summery; count = sectorCount part; places = sectorPlaces part (sectorCount part) }
+seasonTable isSummer summer winter =
+    let part = seasonRecords isSummer summer winter in
+    record { summer = isSummer; count = sectorCount part; places = sectorPlaces part (sectorCount part) }
