@@ -59,7 +59,7 @@ use Rattle.jobs.specs.Step.{sunAt, irradianceByDay, irradianceAt, sectorsAt, jo
 use Rattle.jobs.specs.Rows.{putRow, storedRow, withRow}
 use Rattle.jobs.specs.Totals.{noTotals, withStep, totalsOf, totalsCount, monthPart, inPart, totalsAtPart, totalsAt, withTotals}
 use Rattle.jobs.specs.Run.{numberFor, countFor, sumFor, onRow, runFrom, runChecked, Lent, lent, roomFine, roomFor, rowsStored, totalsLeft, Ran, runOf}
-use Rattle.jobs.specs.Comparison.{sumOf, SameSeries, Alike, triple, sectorObjects, windowObject, windowObjects, HoldsAll, SameObjects, NoNan, Doubles, IsAccepted, Comparable}
+use Rattle.jobs.specs.Comparison.{sumOf, SameSeries, Alike, BoundedAlike, triple, sectorObjects, windowObject, windowObjects, HoldsAll, SameObjects, NoNan, Doubles, IsAccepted, Comparable}
 use Rattle.segments.proofs.SameWalks.{found-has}
 use Rattle.shading_laws.proofs.Members.{extents-into}
 use Rattle.jobs.proofs.TotalsLaws.{totals-read}
@@ -335,21 +335,25 @@ module _ (s s′ t t′ v w : List ℕ) where
 level : (x y : Float) → T (le x y && le y x) → x ≈ y
 level x y t = record { below = record { holds = and-l (le x y) (le y x) t }; above = record { holds = and-r (le x y) (le y x) t } }
 
+levels : List ℕ → List ℕ → ℕ → Bool
+levels l m k = le (doubleAt l k) (doubleAt m k) && le (doubleAt m k) (doubleAt l k)
+
+-- lists of one sector
+bounded : (l m : List ℕ) → sectorCount l ≡ 1 → sectorCount m ≡ 1 → T (levels l m 0) → T (levels l m 1) → BoundedAlike l m
+unfolding levels
+bounded l m one other starts ends = record {
+  lengths = one ∙ sym other;
+  starts = λ i h. let z : i ≡ 0 = omega (arith, h, one) in rw z (level _ _ starts);
+  ends = λ i h. let z : i ≡ 0 = omega (arith, h, one) in rw z (level _ _ ends);
+}
+
 bare-built : Comparable bare built room room
-unfolding lists le
+unfolding lists levels le
 bare-built = record {
   alike = alike (bare .summer) (bare .winter) (built .summer) (built .winter) (bare .window) (built .window);
   bounded = record {
-    in-summer = record {
-      lengths = refl;
-      starts = λ i h. let z : i ≡ 0 = omega arith in rw z (level _ _ tt);
-      ends = λ i h. let z : i ≡ 0 = omega arith in rw z (level _ _ tt);
-    };
-    in-winter = record {
-      lengths = refl;
-      starts = λ i h. let z : i ≡ 0 = omega arith in rw z (level _ _ tt);
-      ends = λ i h. let z : i ≡ 0 = omega arith in rw z (level _ _ tt);
-    };
+    in-summer = bounded (bare .summer) (built .summer) refl refl tt tt;
+    in-winter = bounded (bare .winter) (built .winter) refl refl tt tt;
   };
   first-accepted = bare-accepted;
   second-accepted = built-accepted;
@@ -359,20 +363,12 @@ bare-built = record {
 }
 
 built-mixed : Comparable built mixed room room
-unfolding lists le
+unfolding lists levels le
 built-mixed = record {
   alike = alike (built .summer) (built .winter) (mixed .summer) (mixed .winter) (built .window) (mixed .window);
   bounded = record {
-    in-summer = record {
-      lengths = refl;
-      starts = λ i h. let z : i ≡ 0 = omega arith in rw z (level _ _ tt);
-      ends = λ i h. let z : i ≡ 0 = omega arith in rw z (level _ _ tt);
-    };
-    in-winter = record {
-      lengths = refl;
-      starts = λ i h. let z : i ≡ 0 = omega arith in rw z (level _ _ tt);
-      ends = λ i h. let z : i ≡ 0 = omega arith in rw z (level _ _ tt);
-    };
+    in-summer = bounded (built .summer) (mixed .summer) refl refl tt tt;
+    in-winter = bounded (built .winter) (mixed .winter) refl refl tt tt;
   };
   first-accepted = built-accepted;
   second-accepted = mixed-accepted;
