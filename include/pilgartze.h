@@ -38,7 +38,7 @@
  * its factors are nowhere larger, nor is its sum, nor that of any day or month. Day by day and month by month both have
  * the same count and the same largest total.
  * Objects are the same where all their words are. That no extent is NaN is measured, not proved: none is known to be.
- * Also proved: a job with the same sectors in both lists is a job with one list, whatever the leaf days.
+ * Also proved: a job with the same sectors in both lists is a job with one list, whatever leaf days of 0..365 it has.
  *
  * What the library asks, as any C function does:
  * - A list's pointer and length name memory that is there, and no other thread writes to it during the call.
@@ -80,7 +80,7 @@
  *
  * Two lists of sectors: one for the days with leaves on the trees, one for the others. The site has the first and the
  * last day with leaves, and each step goes by the list of its day. With the same sectors all the year name them twice:
- * pilgartze_all_year does, and the leaf days do not matter then.
+ * pilgartze_all_year does, and which leaf days there are, of 0..365, does not matter then.
  *
  * What gets past the shade is factor * direct + diffuse, not factor * total: diffuse light is never dimmed.
  *
