@@ -1,24 +1,25 @@
--- From 0 to a quarter turn, PI/2 as a double: a cosine is above 0, and a sine not below 0 and above it where its angle is. Assumes nothing.
+-- From 0 to a quarter turn, PI/2 as a double: a cosine is above 0, a sine not below 0 and above it where its angle is, and so a tangent
+-- is not below 0. Assumes nothing.
 use mathlib.Core.Path.{_≡_, refl, ap, _∙_}
 use mathlib.Core.Logic.{_⊎_, inl, inr}
 use mathlib.Core.Bool.{Bool, true, false, _&&_}
-use Prim.Native.Nat.{ℕ, zero, suc, _+_, _-_, _*_, _≤_, _%_}
+use Prim.Native.Nat.{ℕ, zero, suc, _+_, _-_, _*_, _≤_, _%_, _^_}
 use native.Mathlib.Nat.{lt-irrefl}
 use native.Mathlib.Omega.{arith}
 use lib.Dec.{T}
 use lib.Ieee.{Float, neg, add, sub, mul, div, lt, le, isNan, toUnsigned}
 use lib.Ieee.Bits.{is-true}
 use Rattle.doubles.specs.Arithmetic.{_⊕_, _⊖_, _⊗_, _⊘_, decimal, whole, bits}
-use Rattle.doubles.specs.Functions.{clamp}
+use Rattle.doubles.specs.Functions.{clamp, pi, toRadians}
 use Rattle.doubles.specs.Series.{horner}
 use Rattle.doubles.specs.Order.{_≼_, _≺_, InRange, Bounded, Number, Finite}
 use Rattle.doubles.proofs.Order.{le-trans, lt→le, lt-le-trans, le-of-not-lt, neg-le, neg-neg, both}
 use Rattle.doubles.proofs.Bounds.{one-number}
 use Rattle.doubles.proofs.Casts.{cast-mono}
 use Rattle.doubles.proofs.Clamping.{clamp-in}
-use Rattle.doubles.proofs.Intervals.{holdsEnds, in-number, in-finite, own-range, mul-turned, square-turned, widen, add-in, sub-in, mul-in, div-in, bounded, tests, tested, horner-in}
+use Rattle.doubles.proofs.Intervals.{holdsEnds, in-number, in-finite, own-range, mul-turned, square-turned, widen, add-in, sub-in, mul-in, div-in, div-by-in, bounded, tests, tested, horner-in}
 use Rattle.doubles.proofs.Ranges.{both-of}
-use Rattle.angles.specs.Sine.{isAngle, quarterTurns, remainder, sineStep, cosineStep, sineSum, cosineSum, sineSeries, cosineSeries, sineAt, cosineAt, sine, cosine, ofAngle}
+use Rattle.angles.specs.Sine.{isAngle, quarterTurns, remainder, sineStep, cosineStep, sineSum, cosineSum, sineSeries, cosineSeries, sineAt, cosineAt, sine, cosine, tangent, ofAngle}
 use Rattle.angles.proofs.Turns.{floor-up, quadrant-up}
 use Rattle.angles.proofs.Reduction.{unfloored, unfloored-small, unfloored-fits}
 use Rattle.angles.proofs.Laws.{is-angle}
@@ -296,3 +297,26 @@ sine-in low out {x} start same product bounds q = elim (place r) [ inl p ↦ nea
     far p =
         let c = cosine-sum-in (square-far (rest-far (p .range))) in
         rw (sine-far r p) (unfold cosineSeries in clamp-in out-low out-one (le-trans out-sum (c .from)))
+
+-- ---- of degrees, and the tangent
+
+abbrev perDegree : Float
+perDegree = pi ⊘ whole 180
+
+-- degrees up to 90 in radians, by tests of the least
+pub radians-from : (low angle : Float) {a : Float} → T (le (whole 0) low && le (whole 0) perDegree)
+    → T (holdsEnds low (whole 90) perDegree perDegree angle (low ⊗ perDegree) (whole 90 ⊗ perDegree) quarterTurn) → InRange low (whole 90) a → InRange angle quarterTurn (toRadians a)
+unfolding toRadians whole div isNan
+radians-from low angle zeros product r = mul-in r (own-range (record { holds = tt })) zeros product
+
+-- the largest is 1 over the least cosine
+abbrev pub mostTangent : Float
+mostTangent = whole (6 * 10 ^ 16)
+
+tangent-in : {x : Float} → InRange (whole 0) quarterTurn x → InRange (whole 0) mostTangent (tangent x)
+unfolding tangent whole decimal neg sub mul div lt le
+tangent-in r = div-by-in (sine-in (whole 0) (whole 0) tt tt tt tt r) (cosine-in r) tt tt
+
+pub tangent-up : {a : Float} → InRange (whole 0) (whole 90) a → InRange (whole 0) mostTangent (tangent (toRadians a))
+unfolding whole bits pi mul div le
+tangent-up r = tangent-in (radians-from (whole 0) (whole 0) tt tt r)

@@ -12,7 +12,7 @@ use lib.Ieee.Positive.{den, den-pos}
 use lib.Ieee.Scale.{finite}
 use Rattle.doubles.specs.Arithmetic.{_⊕_, _⊖_, _⊗_, _⊘_, whole}
 use Rattle.doubles.specs.Order.{_≼_, _≺_, Number, Finite, Fits, NonZero}
-use Rattle.doubles.proofs.Order.{or-right, positivePart, negativePart, le-refl, le-trans, top, bottom, neg-finite, left-number, lt-excludes, le-of-not-lt}
+use Rattle.doubles.proofs.Order.{or-right, positivePart, negativePart, le-refl, le-trans, top, bottom, lt→le, neg-finite, neg-neg, neg-number, left-number, lt-excludes, le-of-not-lt}
 use Rattle.doubles.proofs.Rounding.{Rounded, plus, minus, zero-round, rounded-mono, add-rounds, mul-rounds}
 use Rattle.doubles.proofs.Monotone.{positive-of, add-mono, sub-mono, mul-mono, div-mono}
 use Rattle.doubles.proofs.Exact.{own-rounded, div-self, digits-pos}
@@ -294,6 +294,12 @@ add-operands {x} {y} n = go x y n
     go (fin s m e) (inf t) n = (record { holds = tt }, record { holds = tt })
     go (fin s m e) (fin t k d) n = (record { holds = tt }, record { holds = tt })
 
+pub sub-operands : {x y : Float} → Number (x ⊖ y) → Number x × Number y
+unfolding sub
+sub-operands {x} {y} n =
+    let p : Number x × Number (neg y) = add-operands n in
+    (p .0, subst Number (neg-neg y) (neg-number (p .1)))
+
 pub mul-operands : {x y : Float} → Number (x ⊗ y) → Number x × Number y
 unfolding mul isNan
 mul-operands {x} {y} n = go x y n
@@ -329,3 +335,11 @@ cut-below b x m n = go (lt x b) refl n
     go : (t : Bool) → lt x b ≡ t → Number (cond t b x) → b ≼ cond t b x
     go true e n = le-refl m
     go false e n = le-of-not-lt n m e
+
+-- which is a number only where x is
+pub cut-operand : (b x : Float) → Number (cond (lt x b) b x) → Number x
+cut-operand b x n = go (lt x b) refl n
+  where
+    go : (t : Bool) → lt x b ≡ t → Number (cond t b x) → Number x
+    go true e n = left-number (lt→le {x = x} {y = b} (record { holds = rw e tt }))
+    go false e n = n

@@ -1,6 +1,5 @@
 -- The largest and the smallest of a list without NaN, as `max_of_2` and `min_of_2` find them from the left: the result bounds every
--- member and is one of them, and a list with more members gives no smaller a largest. Proved once, of any operation that gives one of
--- its two arguments, the one further along an order. Assumes nothing.
+-- member and is one of them. Proved once, of any operation that gives one of its two arguments, the one further along an order. Assumes nothing.
 use mathlib.Core.Path.{_≡_, refl, _∙_}
 use mathlib.Core.Logic.{_⊎_, inl, inr}
 use mathlib.Core.Bool.{Bool, true, false, cond}
@@ -14,10 +13,6 @@ infix 4 _≽_
 -- every member is a number
 abbrev pub Numbers : List Float → Type 0
 Numbers xs = (x : Float) → List·Memᴰ x xs → Number x
-
--- every member of xs is one of ys
-abbrev pub Within : List Float → List Float → Type 0
-Within xs ys = (x : Float) → List·Memᴰ x xs → List·Memᴰ x ys
 
 -- ---- an operation that gives one of its arguments, the one further along
 
@@ -158,7 +153,3 @@ largest-bound first xs n x m = rw (largest-is first xs) (fold-bound _≼_ maxOf2
 
 pub smallest-bound : (first : Float) (xs : List Float) → Numbers (first ∷ xs) → (x : Float) → List·Memᴰ x (first ∷ xs) → smallestOf first xs ≼ x
 smallest-bound first xs n x m = rw (smallest-is first xs) (fold-bound _≽_ minOf2 minimum first xs n x m)
-
--- more values: no smaller a largest
-pub largest-more : (first : Float) (xs ys : List Float) → Numbers (first ∷ ys) → Within (first ∷ xs) (first ∷ ys) → largestOf first xs ≼ largestOf first ys
-largest-more first xs ys n h = largest-bound first ys n (largestOf first xs) (h (largestOf first xs) (largest-member first xs))

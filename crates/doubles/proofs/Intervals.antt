@@ -1,6 +1,7 @@
 -- Interval arithmetic: where a sum, a difference, a product or a quotient lies, by where its operands lie. The last argument of each
 -- law is a test of the ends, which the checker computes where they are constants. Assumes nothing.
-use mathlib.Core.Path.{_≡_, refl, ap, _∙_}
+use mathlib.Core.Path.{_≡_, refl, ap, _∙_, subst}
+use mathlib.Core.Logic.{_⊎_, inl, inr}
 use mathlib.Core.Bool.{Bool, true, false, not, cond, _&&_}
 use Prim.Native.Nat.{ℕ, zero, suc, _+_, _*_, _≤_, _<_}
 use native.Mathlib.Nat.{mul-pos, mul-le-mul-left, zero-lt-suc}
@@ -8,17 +9,18 @@ use native.Mathlib.Decide.{decLe}
 use lib.IntN.{ℤ, pos, negsuc, natAbs}
 use native.Mathlib.Omega.{arith}
 use lib.Dec.{T, eqb}
-use lib.Ieee.{Float, nan, inf, fin, binary64, up, down, unlike, round, mul, div, neg, lt, le, ofInt}
+use lib.Ieee.{Float, nan, inf, fin, binary64, up, down, unlike, round, mul, div, neg, lt, le, isNan, ofInt}
+use lib.Ieee.Fits.{up-pos}
 use lib.Ieee.Order.{round-mono}
 use lib.Ieee.Positive.{den, den-pos, positive}
 use lib.Ieee.Scale.{finite}
 use Rattle.doubles.specs.Arithmetic.{_⊕_, _⊖_, _⊗_, _⊘_, whole}
 use Rattle.doubles.specs.Series.{horner}
 use Rattle.doubles.specs.Order.{_≼_, _≺_, InRange, Bounded, Number, Finite}
-use Rattle.doubles.proofs.Order.{positivePart, negativePart, leftSide, rightSide, le→cross, le-refl, le-trans, lt→le, lt-le-trans, left-number, le-of-not-lt, neg-finite, neg-le, neg-neg}
-use Rattle.doubles.proofs.Rounding.{round-neg, rounded-mono, div-rounds}
+use Rattle.doubles.proofs.Order.{positivePart, negativePart, leftSide, rightSide, eq→eqb, cross→lt, le→cross, top, le-refl, le-trans, lt→le, lt-le-trans, left-number, right-number, le-of-not-lt, neg-finite, neg-number, neg-le, neg-neg}
+use Rattle.doubles.proofs.Rounding.{round-neg, product-comm, first-zero, rounded-mono, div-rounds}
 use Rattle.doubles.proofs.Monotone.{add-mono, sub-mono, no-negative-part, mul-mono, positive-part, positive-of, div-mono}
-use Rattle.doubles.proofs.Bounds.{add-number, sub-number, mul-number, div-number, positive-nonzero, mul-nonneg, zero-number}
+use Rattle.doubles.proofs.Bounds.{add-number, sub-number, mul-number, div-number, positive-nonzero, mul-nonneg, mul-operands, div-nonneg, div-operands, zero-number}
 use Rattle.doubles.proofs.Differences.{between-finite}
 use Rattle.doubles.proofs.Ranges.{Between, finite-between, both-of}
 
@@ -172,6 +174,31 @@ mul-turned (fin s m e) (fin t n d) f g = go s t
     go false true = (turned true, turned true)
     go false false = (turned false, turned false)
 
+unlike-not : (s t : Bool) → unlike (not s) t ≡ not (unlike s t)
+unlike-not true true = refl
+unlike-not true false = refl
+unlike-not false true = refl
+unlike-not false false = refl
+
+-- the first factor's opposite, of infinities and NaN too
+mul-neg : (x y : Float) → neg x ⊗ y ≡ neg (x ⊗ y)
+unfolding mul neg
+mul-neg nan y = refl
+mul-neg (inf s) nan = refl
+mul-neg (inf s) (inf t) = ap inf (unlike-not s t)
+mul-neg (inf s) (fin t n d) = go (eqb n 0)
+  where
+    go : (b : Bool) → cond b nan (inf (unlike (not s) t)) ≡ neg (cond b nan (inf (unlike s t)))
+    go true = refl
+    go false = ap inf (unlike-not s t)
+mul-neg (fin s m e) nan = refl
+mul-neg (fin s m e) (inf t) = go (eqb m 0)
+  where
+    go : (b : Bool) → cond b nan (inf (unlike (not s) t)) ≡ neg (cond b nan (inf (unlike s t)))
+    go true = refl
+    go false = ap inf (unlike-not s t)
+mul-neg (fin s m e) (fin t n d) = mul-turned (fin s m e) (fin t n d) tt tt .0
+
 -- a square is that of the opposite
 pub square-turned : (x : Float) → T (finite x) → neg x ⊗ neg x ≡ x ⊗ x
 square-turned x f = mul-turned x (neg x) f (neg-finite (record { holds = f }) .holds) .0 ∙ ap neg (mul-turned x x f f .1) ∙ neg-neg (x ⊗ x)
@@ -183,6 +210,47 @@ minus-zero = record { holds = tt }
 zero-minus : neg (whole 0) ≼ whole 0
 unfolding whole neg le
 zero-minus = record { holds = tt }
+
+-- times a number that is not negative keeps the order, whatever the signs
+pub mul-keeps : {x x′ y : Float} → whole 0 ≼ y → x ≼ x′ → Number (x ⊗ y) → Number (x′ ⊗ y) → x ⊗ y ≼ x′ ⊗ y
+mul-keeps {x} {x′} {y} i h n m = go (lt x (whole 0)) (lt x′ (whole 0)) refl refl
+  where
+    -- below 0 the opposite is not negative
+    opposite : (z : Float) → lt z (whole 0) ≡ true → whole 0 ≼ neg z
+    opposite z e = le-trans minus-zero (neg-le (lt→le {x = z} {y = whole 0} (record { holds = rw e tt })))
+
+    above : (z : Float) → Number z → lt z (whole 0) ≡ false → whole 0 ≼ z
+    above z k e = le-of-not-lt k zero-number e
+
+    -- its product is the product's
+    turned : (z : Float) → Number (z ⊗ y) → Number (neg z ⊗ y)
+    turned z k = rw (mul-neg z y) (neg-number k)
+
+    back : {a b : Float} → neg b ≼ neg a → a ≼ b
+    back {a} {b} k = rw (neg-neg a, neg-neg b) at (neg-le k)
+
+    go : (b c : Bool) → lt x (whole 0) ≡ b → lt x′ (whole 0) ≡ c → x ⊗ y ≼ x′ ⊗ y
+    go false c e f = mul-mono (above x (left-number h) e) i h (le-refl (right-number i)) n m
+    go true false e f =
+        le-trans (back (le-trans zero-minus (rw (mul-neg x y) at (mul-nonneg (opposite x e) i (turned x n)))))
+        (mul-nonneg (above x′ (right-number h) f) i m)
+    go true true e f =
+        back (rw (mul-neg x y, mul-neg x′ y) at (mul-mono (opposite x′ f) i (neg-le h) (le-refl (right-number i)) (turned x′ m) (turned x n)))
+
+-- of what is not negative, by one factor of any sign: a larger number gives no smaller a product, or else one that is not above 0
+pub mul-either : (y : Float) {x x′ : Float} → whole 0 ≼ x → x ≼ x′ → Number (x ⊗ y) → Number (x′ ⊗ y) → (x ⊗ y ≼ whole 0) ⊎ (x ⊗ y ≼ x′ ⊗ y)
+mul-either y {x} {x′} i h n m = go (lt y (whole 0)) refl
+  where
+    turned : lt y (whole 0) ≡ true → x ⊗ y ≼ whole 0
+    turned e =
+        let up : whole 0 ≼ neg y = le-trans minus-zero (neg-le (lt→le {x = y} {y = whole 0} (record { holds = rw e tt }))) in
+        let product : whole 0 ≼ neg (x ⊗ y) =
+        rw (mul-neg y x, product-comm y x) at (mul-nonneg up i (rw (mul-neg y x, product-comm y x) (neg-number n))) in
+        rw (neg-neg (x ⊗ y)) at (le-trans (neg-le product) zero-minus)
+
+    go : (b : Bool) → lt y (whole 0) ≡ b → (x ⊗ y ≼ whole 0) ⊎ (x ⊗ y ≼ x′ ⊗ y)
+    go true e = inl (turned e)
+    go false e = inr (mul-keeps (le-of-not-lt (mul-operands n .1) zero-number e) h n m)
 
 -- a number about zero, or its opposite, is not negative
 turn : {c x : Float} → Bounded c x → (b : Bool) → lt x (whole 0) ≡ b → Between c (cond b (neg x) x)
@@ -319,6 +387,78 @@ div-turned (fin s m e) (fin t n d) f g = go s t (eqb n 0) (eqb m 0)
     go true false false c = turned true
     go false true false c = turned true
     go false false false c = turned false
+
+unlike-right : (s t : Bool) → unlike s (not t) ≡ not (unlike s t)
+unlike-right true true = refl
+unlike-right true false = refl
+unlike-right false true = refl
+unlike-right false false = refl
+
+-- the divisor's opposite, of infinities and NaN too
+div-neg : (x y : Float) → x ⊘ neg y ≡ neg (x ⊘ y)
+unfolding div neg
+div-neg nan y = refl
+div-neg (inf s) nan = refl
+div-neg (inf s) (inf t) = refl
+div-neg (inf s) (fin t n d) = ap inf (unlike-right s t)
+div-neg (fin s m e) nan = refl
+div-neg (fin s m e) (inf t) = ap (λ (b : Bool). fin b 0 (pos 0)) (unlike-right s t)
+div-neg (fin s m e) (fin t n d) = go (eqb n 0) (eqb m 0)
+  where
+    a : ℕ
+    a = m * up e * down d
+
+    c : ℕ
+    c = n * up d * down e
+
+    go : (p q : Bool) → cond p (cond q nan (inf (unlike s (not t)))) (round binary64 (unlike s (not t)) a c) ≡ neg (cond p (cond q nan (inf (unlike s t))) (round binary64 (unlike s t) a c))
+    go true true = refl
+    go true false = ap inf (unlike-right s t)
+    go false q = ap (λ (b : Bool). round binary64 b a c) (unlike-right s t) ∙ round-turned (unlike s t) a c
+
+-- what is not negative, over a zero without a sign
+over-zero : (x : Float) (d : ℤ) → whole 0 ≼ x → Number (x ⊘ fin false 0 d) → x ⊘ fin false 0 d ≡ inf false
+unfolding div whole le isNan
+over-zero nan d h n = absurd (n .holds)
+over-zero (inf true) d h n = absurd (h .holds)
+over-zero (inf false) d h n = refl
+over-zero (fin false m e) d h n = go (eqb m 0) (n .holds)
+  where
+    go : (b : Bool) → T (not (isNan (cond b nan (inf false)))) → cond b nan (inf false) ≡ inf false
+    go true t = absurd t
+    go false t = refl
+over-zero (fin true m e) d h n = go (eqb m 0) (eq→eqb m 0 (first-zero m (up e) (up-pos e) (no-negative-part (fin true m e) tt h))) (n .holds)
+  where
+    go : (b : Bool) → T b → T (not (isNan (cond b nan (inf true)))) → cond b nan (inf true) ≡ inf false
+    go true s t = absurd t
+    go false s t = absurd s
+
+digits-above : (n : ℕ) (d : ℤ) → whole 0 ≺ fin false (suc n) d
+unfolding whole
+digits-above n d = record { holds = cross→lt (whole 0) (fin false (suc n) d) tt tt (omega (arith, mul-pos (zero-lt-suc n) (up-pos d))) }
+
+-- by one divisor a larger number gives no smaller a quotient, or else one that is not above 0
+pub div-either : (y : Float) {x x′ : Float} → whole 0 ≼ x → x ≼ x′ → Number (x ⊘ y) → Number (x′ ⊘ y) → (x ⊘ y ≼ whole 0) ⊎ (x ⊘ y ≼ x′ ⊘ y)
+unfolding neg whole lt isNan
+div-either y {x} {x′} i h n m = go y n m
+  where
+    turned : (y : Float) → Number (x ⊘ neg y) → Number (x ⊘ y)
+    turned y n = subst Number (neg-neg (x ⊘ y)) (neg-number (subst Number (div-neg x y) n))
+
+    opposite : (y : Float) → whole 0 ≼ x ⊘ y → x ⊘ neg y ≼ whole 0
+    opposite y h = rw (div-neg x y) (le-trans (neg-le h) zero-minus)
+
+    over-positive : (y : Float) → whole 0 ≺ y → Number (x ⊘ neg y) → x ⊘ neg y ≼ whole 0
+    over-positive y p n = opposite y (div-nonneg i p (turned y n))
+
+    go : (y : Float) → Number (x ⊘ y) → Number (x′ ⊘ y) → (x ⊘ y ≼ whole 0) ⊎ (x ⊘ y ≼ x′ ⊘ y)
+    go nan n m = absurd (div-operands {x = x} {y = nan} n .1 .holds)
+    go (inf false) n m = inr (div-mono {y = inf false} (record { holds = tt }) h n m)
+    go (inf true) n m = inl (over-positive (inf false) (record { holds = tt }) n)
+    go (fin false zero d) n m = inr (rw (over-zero x d i n, over-zero x′ d (le-trans i h) m) (le-refl (record { holds = tt })))
+    go (fin false (suc k) d) n m = inr (div-mono (digits-above k d) h n m)
+    go (fin true zero d) n m = inl (opposite (fin false 0 d) (rw (over-zero x d i (turned (fin false 0 d) n)) (top zero-number)))
+    go (fin true (suc k) d) n m = inl (over-positive (fin false (suc k) d) (digits-above k d) n)
 
 pub div-by-bounded : {h a c d x y : Float} → Bounded a x → InRange c d y → T (le (whole 0) a && lt (whole 0) c) → T (holdsEnds (whole 0) a c d (neg h) (whole 0 ⊘ d) (a ⊘ c) h) → Bounded h (x ⊘ y)
 div-by-bounded {h} {a} {c} {d} {x} {y} p q z t = go (lt x (whole 0)) (turn p (lt x (whole 0)) refl)

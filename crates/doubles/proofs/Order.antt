@@ -378,6 +378,9 @@ neg-turns (fin false m e) (fin false n d) h = sides→le (fin true n d) (fin tru
 pub neg-le : {x y : Float} → x ≼ y → neg y ≼ neg x
 neg-le {x} {y} h = record { holds = neg-turns x y (h .holds) }
 
+pub neg-number : {x : Float} → Number x → Number (neg x)
+neg-number n = left-number (neg-le (le-refl n))
+
 pub neg-lt : {x y : Float} → x ≺ y → neg y ≺ neg x
 neg-lt {x} {y} h =
     let l = neg-le (lt→le h) in

@@ -15,7 +15,8 @@ use Rattle.objects.specs.declared.window.WindowShadingObject.{WindowShadingObje
 use Rattle.object_checks.specs.Checks.{sectorsFine}
 use Rattle.objects.specs.Objects.{counted}
 use Rattle.objects.specs.Records.{recordsFrom, distantKind, objectAt, objectsFrom, segmentAt, sectorCount, sectorsOf, windowKind, windowObjectAt, windowCount, windowObjectsOf}
-use Rattle.segments.specs.SameSectors.{SameBounds, PlaceByPlace, none, and-then}
+use Rattle.words.specs.Lists.{PlaceByPlace, none, and-then}
+use Rattle.segments.specs.SameSectors.{SameBounds}
 use Rattle.shading_laws.specs.Premises.{Holds, MoreInSector, SameInSector}
 use Rattle.object_checks.proofs.Accepted.{length-records, member-records}
 use Rattle.object_checks.proofs.AcceptedSectors.{counted-objects}

@@ -25,7 +25,7 @@ use Rattle.objects.specs.declared.answers.FactorAnswer.the-variants.{Factor}
 use Rattle.objects.specs.Objects.{counted}
 use Rattle.shading.specs.Factor.{shadingFactor}
 use Rattle.objects.specs.Records.{sectorsOf, windowObjectsOf}
-use Rattle.segments.specs.SameSectors.{PlaceByPlace}
+use Rattle.words.specs.Lists.{PlaceByPlace}
 use Rattle.seasons.proofs.Parts.{of-day, of-two-days}
 use Rattle.shading_laws.specs.Premises.{NoNanAt, MoreInSector, SameInSector}
 use Rattle.shading_laws.proofs.Answers.{answer-nonneg, answer-le-one, answer-no-objects, answers-more-objects, answers-same-objects}

@@ -12,7 +12,7 @@ use Rattle.sun.specs.Site.{leapYear}
 use Rattle.simulation_time.specs.Steps.{stepCount, timeAt}
 use Rattle.objects.specs.declared.surface.Surface.{Surface}
 use Rattle.objects.specs.Records.{recordsFrom, sectorCount, sectorsOf, windowCount, windowObjectsOf}
-use Rattle.shading_laws.specs.Premises.{Holds, NoNanAt}
+use Rattle.shading_laws.specs.Premises.{Doubles, Holds, NoNanAt}
 use Rattle.jobs.specs.Job.{Job}
 use Rattle.jobs.specs.Step.{sunAt, jobSectors}
 use Rattle.jobs.specs.Totals.{totalsCount, totalsAt}
@@ -115,12 +115,6 @@ pub record NoNan (job : Job) : Type 0 where
       → let sun = sunAt (job .site) (timeAt (job .run) i) in
       let sectors = jobSectors job (timeAt (job .run) i) in
       NoNanAt (job .edition) (job .surface) (sun .altitude) (sun .azimuth) (sectorsOf sectors) (windowObjectsOf (job .window))
-
--- The surface's height and width are doubles. `pilgartze_run` ensures this of every surface that it is passed, so that nobody has to see
--- to it; it stands here because the type `Float` has other values too, which no double is.
-pub record Doubles (surface : Surface) : Type 0 where
-  pub height-fits : Fits (surface .height)
-  pub width-fits : Fits (surface .width)
 
 -- ---- the claim
 

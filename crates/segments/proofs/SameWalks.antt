@@ -17,7 +17,8 @@ use Rattle.objects.specs.declared.sectors.ShadingSegment.{ShadingSegment}
 use Rattle.segments.specs.declared.Place.{Place}
 use Rattle.segments.specs.declared.Place.the-variants as place
 use Rattle.segments.specs.Segments.{Segment, found, gap, turned, noSector, betweenEnds, holdsAzimuth, visit, placeFrom, placeOf, sectorAt, segmentIn, segmentOf}
-use Rattle.segments.specs.SameSectors.{SameBounds, PlaceByPlace, none, and-then}
+use Rattle.words.specs.Lists.{PlaceByPlace, none, and-then}
+use Rattle.segments.specs.SameSectors.{SameBounds}
 
 -- two walks that come to sectors so related, or end the same way
 pub data SameWalk (R : ShadingSegment → ShadingSegment → Type 0) : Segment → Segment → Type 0 where
@@ -115,7 +116,7 @@ module _ (R : ShadingSegment → ShadingSegment → Type 0) (bounds : (s t : Sha
       → placeFrom azimuth last i ss ≡ placeFrom azimuth last′ i ts
   unfolding placeFrom
   walk-alike last last′ i l none = refl
-  walk-alike last last′ i l (and-then {s} {t} {ss} {ts} r p) =
+  walk-alike last last′ i l (and-then {x = s} {y = t} {xs = ss} {ys = ts} r p) =
       ap₂ (λ (b : Bool) (q : Place). cond b place.Gap q) (ne-alike l (bounds s t r .starts))
       (visit-alike azimuth i s t (bounds s t r) (walk-alike (s .end360) (t .end360) (i + 1) (bounds s t r .ends) p))
 
@@ -123,7 +124,7 @@ module _ (R : ShadingSegment → ShadingSegment → Type 0) (bounds : (s t : Sha
   pub place-alike : {ss ts : List ShadingSegment} → PlaceByPlace R ss ts → placeOf azimuth ss ≡ placeOf azimuth ts
   unfolding placeOf
   place-alike none = refl
-  place-alike (and-then {s} {t} {ss} {ts} r p) = visit-alike azimuth 0 s t (bounds s t r) (walk-alike (s .end360) (t .end360) 1 (bounds s t r .ends) p)
+  place-alike (and-then {x = s} {y = t} {xs = ss} {ys = ts} r p) = visit-alike azimuth 0 s t (bounds s t r) (walk-alike (s .end360) (t .end360) 1 (bounds s t r .ends) p)
 
   sector-alike : {ss ts : List ShadingSegment} → PlaceByPlace R ss ts → (i : ℕ) → SameWalk R (sectorAt ss i) (sectorAt ts i)
   unfolding sectorAt

@@ -1,5 +1,4 @@
--- Two lists of sectors compared place by place: what two walks along them must share to end alike.
-use mathlib.Core.List.{List, [], _∷_}
+-- What the sectors at the same place of two lists must share for two walks along them to end alike.
 use Rattle.doubles.specs.Order.{_≈_}
 use Rattle.objects.specs.declared.sectors.ShadingSegment.{ShadingSegment}
 
@@ -7,8 +6,3 @@ use Rattle.objects.specs.declared.sectors.ShadingSegment.{ShadingSegment}
 pub record SameBounds (s t : ShadingSegment) : Type 0 where
   pub starts : s .start360 ≈ t .start360
   pub ends : s .end360 ≈ t .end360
-
--- equally long lists whose sectors at the same place are related
-pub data PlaceByPlace (R : ShadingSegment → ShadingSegment → Type 0) : List ShadingSegment → List ShadingSegment → Type 0 where
-  none : PlaceByPlace R [] []
-  and-then : {s t : ShadingSegment} {ss ts : List ShadingSegment} → R s t → PlaceByPlace R ss ts → PlaceByPlace R (s ∷ ss) (t ∷ ts)

@@ -21,12 +21,13 @@ use Rattle.beam.specs.Beam.{outsideSolarBeam}
 use Rattle.segments.specs.Segments.{Segment, found, gap, turned, noSector, segmentOf}
 use Rattle.objects.specs.Objects.{counted}
 use Rattle.shading.specs.Factor.{sunOn, hasReveal, reductionFactor, factorIn, shadingFactor}
-use Rattle.segments.specs.SameSectors.{SameBounds, PlaceByPlace}
+use Rattle.words.specs.Lists.{PlaceByPlace}
+use Rattle.segments.specs.SameSectors.{SameBounds}
 use Rattle.shading_laws.specs.Premises.{AcceptedSurface, NoNanAt, AcceptedNear, Holds, MoreInSector, SameInSector}
 use Rattle.segments.proofs.SameWalks.{SameWalk, both-found, both-gap, both-turned, both-none, segment-alike}
 use Rattle.shading_laws.proofs.Bounds.{factor-nonneg, factor-le-one}
 use Rattle.shading_laws.proofs.NoObjects.{factor-no-objects}
-use Rattle.shading_laws.proofs.MoreObjects.{factor-more-objects}
+use Rattle.shading_laws.proofs.Sizes.{factor-more-objects}
 use Rattle.shading_laws.proofs.SameObjects.{factor-unsigned, factor-same-objects}
 use Rattle.shading_laws.proofs.Doubles.{factor-fits}
 use Rattle.doubles.proofs.Signs.{Unsigned, positive-unsigned}

@@ -2,9 +2,11 @@
 -- they assume stands in `Premises` of specs/.
 pub mod Sides
 pub mod Members
+pub mod ExtentSizes
 pub mod Bounds
 pub mod Doubles
 pub mod NoObjects
-pub mod MoreObjects
+pub mod MoreShade
+pub mod Sizes
 pub mod SameObjects
 pub mod Answers

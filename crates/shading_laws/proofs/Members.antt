@@ -1,16 +1,18 @@
--- Extents as members of their lists: an extent is there where its object is, so that more objects have more extents. Assumes nothing.
-use mathlib.Core.Path.{_≡_, refl, ap, _∙_, subst}
+-- Extents as members of their lists: an extent is there where its object is. And lists related place by place. Assumes nothing.
+use mathlib.Core.Path.{_≡_, refl, sym, ap, _∙_, subst}
 use mathlib.Core.Logic.{_⊎_, inl, inr}
 use mathlib.Core.Bool.{Bool, true, false, cond}
-use mathlib.Core.List.{List, [], _∷_, List·Memᴰ, List·Memᴰ·head, List·Memᴰ·tail, List·Memᴰ·not-nil, List·Memᴰ·cases-cons, Memᴰ·cast}
+use mathlib.Core.List.{List, [], _∷_, List·Memᴰ, List·Memᴰ·head, List·Memᴰ·tail, List·Memᴰ·not-nil, List·Memᴰ·cases-cons}
 use lib.Dec.{T}
 use lib.Ieee.{Float}
+use Rattle.doubles.specs.Arithmetic.{whole}
 use Rattle.doubles.specs.Functions.{minOf2, smallestOf}
-use Rattle.doubles.specs.Order.{Number}
+use Rattle.doubles.specs.Order.{_≼_, Number}
 use Rattle.doubles.proofs.Order.{left-number}
-use Rattle.doubles.proofs.Folds.{Numbers, Within, min-left}
+use Rattle.doubles.proofs.Folds.{Numbers, min-left}
+use Rattle.doubles.proofs.Lists.{Reached, AllReached}
+use Rattle.words.specs.Lists.{PlaceByPlace, none, and-then}
 use Rattle.shading.specs.Factor.{extents, leastOf}
-use Rattle.shading_laws.specs.Premises.{Holds}
 use Rattle.doubles.proofs.MinMax.{float-min-is}
 
 -- an extent of a list is that of one of its objects
@@ -19,6 +21,13 @@ pub record Extent {Object : Type 0} (kind : Object → Bool) (extent : Object �
   pub member : List·Memᴰ object xs
   pub of-kind : T (kind object)
   pub value : x ≡ extent object
+
+-- an object of ys, of a kind, whose extent is no smaller than o's
+pub record Matched {Object : Type 0} (kind : Object → Bool) (extent : Object → Float) (ys : List Object) (o : Object) : Type 0 where
+  pub object : Object
+  pub member : List·Memᴰ object ys
+  pub of-kind : T (kind object)
+  pub above : extent o ≼ extent object
 
 module _ {Object : Type 0} (kind : Object → Bool) (extent : Object → Float) where
   pub extents-from : (xs : List Object) (x : Float) → List·Memᴰ x (extents kind extent xs) → Extent kind extent xs x
@@ -50,11 +59,50 @@ module _ {Object : Type 0} (kind : Object → Bool) (extent : Object → Float) 
       go false e (inl s) f = absurd (subst T (ap kind s ∙ e) t)
       go false e (inr k) f = f k
 
-  -- more objects, more extents
-  pub extents-within : (xs ys : List Object) → Holds ys xs → Within (extents kind extent xs) (extents kind extent ys)
-  extents-within xs ys h x m =
-      let e = extents-from xs x m in
-      Memᴰ·cast (e .value) (extents-into ys (e .object) (h (e .object) (e .member)) (e .of-kind))
+  -- where every object of xs has one in ys with no smaller an extent, or an extent that is not above 0, every extent is reached
+  pub extents-reached : (xs ys : List Object) → ((o : Object) → List·Memᴰ o xs → T (kind o) → (extent o ≼ whole 0) ⊎ Matched kind extent ys o)
+      → AllReached (extents kind extent xs) (extents kind extent ys)
+  extents-reached xs ys h x m = go (extents-from xs x m)
+    where
+      reached : {o : Object} → x ≡ extent o → (extent o ≼ whole 0) ⊎ Matched kind extent ys o → (x ≼ whole 0) ⊎ Reached (extents kind extent ys) x
+      reached e (inl l) = inl (rw e l)
+      reached e (inr p) = inr (record { by = extent (p .object); member = extents-into ys (p .object) (p .member) (p .of-kind); above = rw e (p .above) })
+
+      go : Extent kind extent xs x → (x ≼ whole 0) ⊎ Reached (extents kind extent ys) x
+      go e = reached (e .value) (h (e .object) (e .member) (e .of-kind))
+
+-- ---- lists related place by place
+
+-- one of ys to which x is related
+pub record Partner {X : Type 0} (R : X → X → Type 0) (ys : List X) (x : X) : Type 0 where
+  pub other : X
+  pub member : List·Memᴰ other ys
+  pub related : R x other
+
+pub partner : {X : Type 0} {R : X → X → Type 0} {xs ys : List X} → PlaceByPlace R xs ys → (x : X) → List·Memᴰ x xs → Partner R ys x
+partner none x m = absurd (List·Memᴰ·not-nil m)
+partner {R = R} (and-then {x = y} {y = z} r p) x m =
+    elim (List·Memᴰ·cases-cons m) [
+      | inl e ↦ record { other = z; member = List·Memᴰ·head refl; related = subst (λ w. R w z) (sym e) r }
+      | inr k ↦ let q = partner p x k in record { other = q .other; member = List·Memᴰ·tail (q .member); related = q .related }
+    ]
+
+-- where each object of xs has a partner of its kind with no smaller an extent, or an extent that is not above 0
+module _ {Object : Type 0} (kind : Object → Bool) (extent : Object → Float) {R : Object → Object → Type 0} (xs ys : List Object)
+    (numbers : Numbers (extents kind extent xs)) (others : Numbers (extents kind extent ys))
+    (moves : (o p : Object) → R o p → T (kind o) → Number (extent o) → (T (kind p) → Number (extent p)) → T (kind p) × ((extent o ≼ whole 0) ⊎ (extent o ≼ extent p)))
+    (partners : (o : Object) → List·Memᴰ o xs → Partner R ys o) where
+  pub partners-reach : AllReached (extents kind extent xs) (extents kind extent ys)
+  partners-reach = extents-reached kind extent xs ys (λ o m t. go o m t (partners o m))
+    where
+      matched : {o p : Object} → List·Memᴰ p ys → T (kind p) × ((extent o ≼ whole 0) ⊎ (extent o ≼ extent p)) → (extent o ≼ whole 0) ⊎ Matched kind extent ys o
+      matched {o} {p} k r = elim (r .1) [ inl l ↦ inl l | inr l ↦ inr (record { object = p; member = k; of-kind = r .0; above = l }) ]
+
+      go : (o : Object) → List·Memᴰ o xs → T (kind o) → Partner R ys o → (extent o ≼ whole 0) ⊎ Matched kind extent ys o
+      go o m t q =
+          matched {o = o} {p = q .other} (q .member)
+          (moves o (q .other) (q .related) t (numbers (extent o) (extents-into kind extent xs o m t))
+          (λ s. others (extent (q .other)) (extents-into kind extent ys (q .other) (q .member) s)))
 
 -- ---- the least, by the float method: of numbers it is the smallest
 

@@ -1,11 +1,11 @@
 -- The steps from shade extents to a part of the surface, on plain doubles: each result lies from 0 to its bound, and falls as the
 -- shades grow. Assumes nothing.
 use mathlib.Core.Path.{_≡_, refl, sym, subst}
-use lib.Ieee.{Float, add, mul, lt, le}
+use lib.Ieee.{Float, add, mul, lt, le, eq}
 use Rattle.doubles.specs.Arithmetic.{_⊕_, _⊖_, _⊗_, _⊘_, whole, decimal}
 use Rattle.doubles.specs.Functions.{minOf2, floatMin, floatMax}
-use Rattle.doubles.specs.Order.{_≼_, _≺_, Number, Finite, Fits}
-use Rattle.doubles.proofs.Order.{le-refl, le-trans, right-number, lt-le-trans, lt→le, finite-number}
+use Rattle.doubles.specs.Order.{_≼_, _≺_, Number, Finite, Fits, Zero}
+use Rattle.doubles.proofs.Order.{or-right, le-refl, le-trans, right-number, lt-le-trans, lt→le, finite-number}
 use Rattle.doubles.proofs.Monotone.{add-mono, sub-mono, mul-mono, div-mono}
 use Rattle.doubles.proofs.Bounds.{zero-number, mul-number, div-number, add-nonneg-number, add-nonneg, mul-nonneg, div-nonneg, div-le-one, sub-le, sub-nonneg, positive-nonzero}
 use Rattle.shading.specs.Factor.{sunlitBetween}
@@ -152,6 +152,14 @@ unfoldable pub nearHeight : Float → Float → Float → Float → Float
 nearHeight height a overhang transparency =
     floatMax (whole 0) (height ⊖ (a ⊕ overhang)) ⊕ floatMin a (height ⊖ overhang) ⊗ transparency
 
+times-zero : whole 1000 ⊗ whole 0 ≡ whole 0
+unfolding whole mul
+times-zero = refl
+
+zero-below : {t : Float} → Zero t → t ≼ whole 0
+unfolding le
+zero-below {t} z = record { holds = or-right (lt t (whole 0)) (eq t (whole 0)) (z .holds) }
+
 through-bound : whole 1000 ⊗ whole 1 ≡ whole 1000
 unfolding whole mul
 through-bound = refl
@@ -223,3 +231,29 @@ module _ {height : Float} (H : Side height) where
       (le-refl (right-number (d .low))) (through-number (covered-between b c′) d) (through-number (covered-between b c) d))
       (add-nonneg-number (remains-between H (b .low) (c′ .low) .low) (through-between (covered-between b c′) d .low))
       (add-nonneg-number (remains-between H (b .low) (c .low) .low) (through-between (covered-between b c) d .low)))
+
+  -- nor does a taller obstacle that lets nothing through
+  pub near-taller : {a a′ o t : Float} → Between height a → Between height a′ → Between height o → Between (whole 1) t → Zero t
+      → a ≼ a′ → nearHeight height a′ o t ≼ nearHeight height a o t
+  near-taller {a} {a′} {o} {t} b b′ c d z p =
+      rw (near-shape {a = a} {o = o} t (b .low) (c .low), near-shape {a = a′} {o = o} t (b′ .low) (c .low))
+      (add-mono (remains-falls H (b .low) (c .low) p (le-refl (right-number (c .low))))
+      (le-trans nothing-through (through-between (covered-between b c) d .low))
+      (add-nonneg-number (remains-between H (b′ .low) (c .low) .low) (through-between (covered-between b′ c) d .low))
+      (add-nonneg-number (remains-between H (b .low) (c .low) .low) (through-between (covered-between b c) d .low)))
+    where
+      nothing-through : covered a′ o ⊗ t ≼ whole 0
+      nothing-through =
+          let r = covered-between b′ c in
+          rw times-zero at (mul-mono (r .low) (d .low) (r .high) (zero-below z) (through-number r d) (rw times-zero zero-number))
+
+  -- nor one that lets less through
+  pub near-darker : {a o t t′ : Float} → Between height a → Between height o → Between (whole 1) t → Between (whole 1) t′
+      → t′ ≼ t → nearHeight height a o t′ ≼ nearHeight height a o t
+  near-darker {a} {o} {t} {t′} b c d d′ p =
+      let r = covered-between b c in
+      let above = remains-between H (b .low) (c .low) in
+      rw (near-shape {a = a} {o = o} t (b .low) (c .low), near-shape {a = a} {o = o} t′ (b .low) (c .low))
+      (add-mono (le-refl (right-number (above .low)))
+      (mul-mono (r .low) (d′ .low) (le-refl (right-number (r .low))) p (through-number r d′) (through-number r d))
+      (add-nonneg-number (above .low) (through-between r d′ .low)) (add-nonneg-number (above .low) (through-between r d .low)))

@@ -29,6 +29,12 @@ pub record AcceptedSurface (surface : Surface) : Type 0 where
   pub height-fits : Fits (surface .height)
   pub width-fits : Fits (surface .width)
 
+-- Height and width are doubles. `pilgartze_run` and `pilgartze_factor` ensure this of every surface that they are passed, so that nobody
+-- has to see to it; it is asked because the type `Float` has other values too, which no double is.
+pub record Doubles (surface : Surface) : Type 0 where
+  pub height-fits : Fits (surface .height)
+  pub width-fits : Fits (surface .width)
+
 -- every member of a list of extents is a number
 abbrev pub AllNumbers : List Float → Type 0
 AllNumbers xs = (x : Float) → List·Memᴰ x xs → Number x

@@ -15,7 +15,7 @@ use Rattle.doubles.proofs.Intervals.{holdsEnds, in-number, own-range, widen, ad
 use Rattle.angles.specs.declared.SinCos.{SinCos}
 use Rattle.angles.specs.Sine.{sine}
 use Rattle.angles.proofs.Computed.{steps}
-use Rattle.angles.proofs.FirstQuarter.{quarterTurn, sine-in, cosine-in}
+use Rattle.angles.proofs.FirstQuarter.{quarterTurn, radians-from, sine-in, cosine-in}
 use Rattle.arcsines.specs.Arcsine.{halfPi, arcsine}
 use Rattle.arcsines.proofs.Range.{arcsine-range, arcsine-up}
 use Rattle.powers.specs.Power.{powMinus1253}
@@ -33,15 +33,6 @@ pub altitude-in : {a : Float} → Altitude a → InRange (whole 0) (whole 90) a
 unfolding whole decimal le
 altitude-in {a} (inl e) = rw e (widen (own-range zero-number) tt)
 altitude-in {a} (inr r) = widen r tt
-
-abbrev perDegree : Float
-perDegree = pi ⊘ whole 180
-
--- the altitude in radians, by tests of the least altitude
-radians-from : (low angle : Float) {a : Float} → T (le (whole 0) low && le (whole 0) perDegree)
-    → T (holdsEnds low (whole 90) perDegree perDegree angle (low ⊗ perDegree) (whole 90 ⊗ perDegree) quarterTurn) → InRange low (whole 90) a → InRange angle quarterTurn (toRadians a)
-unfolding toRadians whole div isNan
-radians-from low angle zeros product r = mul-in r (own-range (record { holds = tt })) zeros product
 
 pub sine-up : {a : Float} → InRange (whole 0) (whole 90) a → InRange (whole 0) (whole 1) (sine (toRadians a))
 unfolding whole decimal bits pi neg sub mul div le
