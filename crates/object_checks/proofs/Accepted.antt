@@ -65,6 +65,9 @@ module _ (s : Surface) (t : T (surfaceFine s)) where
   pub orientation-range : InRange (whole 0) (whole 360) (s .orientation)
   orientation-range = within-range (whole 0) (whole 360) (s .orientation) (tests .1)
 
+  pub base-height-range : InRange (whole 0) (whole 1000) (s .«base_height»)
+  base-height-range = within-range (whole 0) (whole 1000) (s .«base_height») (tests .2)
+
   pub height-range : InRange (decimal 1 3) (whole 1000) (s .height)
   height-range = within-range (decimal 1 3) (whole 1000) (s .height) (tests .3)
 

@@ -1,22 +1,26 @@
 -- An accepted sector list: at most 36 sectors, each with at most eight counted objects, and the tests that they have passed.
-use mathlib.Core.Path.{_≡_}
-use mathlib.Core.Bool.{_&&_}
-use mathlib.Core.List.{List}
+use mathlib.Core.Path.{_≡_, subst}
+use mathlib.Core.Bool.{true, _&&_}
+use mathlib.Core.List.{List, List·Memᴰ}
 use Prim.Native.Nat.{ℕ, _+_, _*_, _≤_, _<_}
 use native.Mathlib.Omega.{arith}
-use lib.Dec.{T, leb, leb→le}
+use lib.Dec.{T, ltb, leb, leb→le, lt→ltb}
 use lib.ListN.{length}
 use lib.Ieee.{Float}
+use lib.Ieee.Bits.{is-true}
 use Rattle.doubles.specs.Arithmetic.{whole}
+use Rattle.doubles.specs.Order.{_≼_, _≺_}
 use Rattle.doubles.specs.Ranges.{within, aboveZero}
-use Rattle.doubles.proofs.Ranges.{both-of}
+use Rattle.doubles.proofs.Ranges.{both-of, above-range}
 use Rattle.words.specs.Lists.{firstFine}
 use Rattle.words.specs.Words.{wordCount, wordAt, doubleAt}
+use Rattle.objects.specs.declared.sectors.ShadingObject.{ShadingObject}
+use Rattle.objects.specs.declared.sectors.ShadingSegment.{ShadingSegment}
 use Rattle.objects.specs.Objects.{counted}
-use Rattle.objects.specs.Records.{objectAt, objectsFrom, segmentAt, sectorCount}
+use Rattle.objects.specs.Records.{objectAt, objectsFrom, segmentAt, sectorCount, sectorsOf}
 use Rattle.objects.proofs.Places.{take-records}
-use Rattle.object_checks.specs.Checks.{objectValuesFine, tripleFine, boundsFine, sectorRecordFine, sectorsFine}
-use Rattle.object_checks.proofs.Accepted.{few-records, record-fine}
+use Rattle.object_checks.specs.Checks.{objectValuesFine, objectFine, tripleFine, boundsFine, sectorRecordFine, sectorsFine}
+use Rattle.object_checks.proofs.Accepted.{first-fine, few-records, record-fine, member-records}
 
 -- ---- one counted object
 
@@ -27,6 +31,17 @@ object-tests kind height distance t =
     let p = both-of (leb kind 1 && aboveZero (whole 1000) height) (aboveZero (whole 10000) distance) t in
     let q = both-of (leb kind 1) (aboveZero (whole 1000) height) (p .0) in
     (q .0, q .1, p .1)
+
+-- what is known of it
+pub record DistantInRange (o : ShadingObject) : Type 0 where
+  pub height-range : (whole 0 ≺ o .height) × (o .height ≼ whole 1000)
+  pub distance-range : (whole 0 ≺ o .distance) × (o .distance ≼ whole 10000)
+
+object-in-range : (l : List ℕ) (k : ℕ) → T (objectFine l k) → DistantInRange (objectAt l k)
+unfolding objectFine objectAt
+object-in-range l k t =
+    let p = object-tests (wordAt l k) (doubleAt l (k + 1)) (doubleAt l (k + 2)) t in
+    record { height-range = above-range (whole 1000) (doubleAt l (k + 1)) (p .1); distance-range = above-range (whole 10000) (doubleAt l (k + 2)) (p .2) }
 
 -- ---- one sector
 
@@ -68,3 +83,23 @@ module _ (l : List ℕ) (t : T (sectorsFine l)) where
   pub counted-objects : (i : ℕ) → i < sectorCount l → counted (segmentAt l i) ≡ objectsFrom l (27 * i + 3) (wordAt l (27 * i + 2))
   unfolding counted segmentAt objectsFrom
   counted-objects i h = take-records (λ (j : ℕ). objectAt l (27 * i + 3 + 3 * j)) 0 8 (wordAt l (27 * i + 2)) (few-counted i h)
+
+  counted-fine : (i : ℕ) → i < sectorCount l → (j : ℕ) → j < wordAt l (27 * i + 2) → T (objectFine l (27 * i + 3 + 3 * j))
+  unfolding tripleFine
+  counted-fine i h j g =
+      let count : ℕ = wordAt l (27 * i + 2) in
+      let b : ltb j count ≡ true = is-true (ltb j count) (lt→ltb j count g) in
+      rw b at (first-fine (tripleFine l count (27 * i + 3)) 8 j (sector-tests l i (sector-record i h) .1) (omega (arith, few-counted i h, g)))
+
+  -- every counted object of every sector is in its range
+  pub sectors-in-range : (s : ShadingSegment) → List·Memᴰ s (sectorsOf l) → (o : ShadingObject) → List·Memᴰ o (counted s) → DistantInRange o
+  unfolding sectorsOf
+  sectors-in-range =
+      member-records (segmentAt l) (λ (s : ShadingSegment). (o : ShadingObject) → List·Memᴰ o (counted s) → DistantInRange o) (sectorCount l) 0 (λ i h. at-place i (omega arith))
+    where
+      from-words : (i : ℕ) → i < sectorCount l → (o : ShadingObject) → List·Memᴰ o (objectsFrom l (27 * i + 3) (wordAt l (27 * i + 2))) → DistantInRange o
+      from-words i h = unfold objectsFrom in
+          (member-records (λ (j : ℕ). objectAt l (27 * i + 3 + 3 * j)) DistantInRange (wordAt l (27 * i + 2)) 0 (λ j g. object-in-range l (27 * i + 3 + 3 * j) (counted-fine i h j (omega arith))))
+
+      at-place : (i : ℕ) → i < sectorCount l → (o : ShadingObject) → List·Memᴰ o (counted (segmentAt l i)) → DistantInRange o
+      at-place i h o m = from-words i h o (subst (List·Memᴰ o) (counted-objects i h) m)

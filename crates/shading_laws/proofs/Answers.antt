@@ -27,7 +27,7 @@ use Rattle.shading_laws.specs.Premises.{AcceptedSurface, NoNanAt, Accept
 use Rattle.segments.proofs.SameWalks.{SameWalk, both-found, both-gap, both-turned, both-none, segment-alike}
 use Rattle.shading_laws.proofs.Bounds.{factor-nonneg, factor-le-one}
 use Rattle.shading_laws.proofs.NoObjects.{factor-no-objects}
-use Rattle.shading_laws.proofs.Sizes.{factor-more-objects}
+use Rattle.shading_laws.proofs.MoreObjects.{factor-more-objects}
 use Rattle.shading_laws.proofs.SameObjects.{factor-unsigned, factor-same-objects}
 use Rattle.shading_laws.proofs.Doubles.{factor-fits}
 use Rattle.doubles.proofs.Signs.{Unsigned, positive-unsigned}

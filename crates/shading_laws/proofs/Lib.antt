@@ -8,5 +8,8 @@ pub mod Doubles
 pub mod NoObjects
 pub mod MoreShade
 pub mod Sizes
+pub mod MoreObjects
+pub mod Accepted
+pub mod SizeLaws
 pub mod SameObjects
 pub mod Answers

@@ -2,7 +2,7 @@
 use mathlib.Core.Path.{_≡_, refl, sym, ap, _∙_, subst}
 use mathlib.Core.Logic.{_⊎_, inl, inr}
 use mathlib.Core.Bool.{Bool, true, false, cond}
-use mathlib.Core.List.{List, [], _∷_, List·Memᴰ, List·Memᴰ·head, List·Memᴰ·tail, List·Memᴰ·not-nil, List·Memᴰ·cases-cons}
+use mathlib.Core.List.{List, [], _∷_, _++_, List·Memᴰ, List·Memᴰ·head, List·Memᴰ·tail, List·Memᴰ·not-nil, List·Memᴰ·cases-cons}
 use lib.Dec.{T}
 use lib.Ieee.{Float}
 use Rattle.doubles.specs.Arithmetic.{whole}
@@ -86,6 +86,22 @@ partner {R = R} (and-then {x = y} {y = z} r p) x m =
       | inl e ↦ record { other = z; member = List·Memᴰ·head refl; related = subst (λ w. R w z) (sym e) r }
       | inr k ↦ let q = partner p x k in record { other = q .other; member = List·Memᴰ·tail (q .member); related = q .related }
     ]
+
+-- a list beside itself
+kept : {X : Type 0} {R : X → X → Type 0} → ((x : X) → R x x) → (xs : List X) → PlaceByPlace R xs xs
+kept same [] = none
+kept same (x ∷ xs) = and-then (same x) (kept same xs)
+
+-- what follows for members at the same place
+pub map-places : {X : Type 0} {R S : X → X → Type 0} {xs ys : List X} → ((x y : X) → List·Memᴰ x xs → List·Memᴰ y ys → R x y → S x y) → PlaceByPlace R xs ys → PlaceByPlace S xs ys
+map-places f none = none
+map-places f (and-then {x = x} {y = y} r p) =
+    and-then (f x y (List·Memᴰ·head refl) (List·Memᴰ·head refl) r) (map-places (λ v w i j. f v w (List·Memᴰ·tail i) (List·Memᴰ·tail j)) p)
+
+-- one member changed, at any place
+pub one-changed : {X : Type 0} {R : X → X → Type 0} → ((x : X) → R x x) → (xs : List X) (x y : X) (ys : List X) → R x y → PlaceByPlace R (xs ++ x ∷ ys) (xs ++ y ∷ ys)
+one-changed same [] x y ys r = and-then r (kept same ys)
+one-changed same (z ∷ xs) x y ys r = and-then (same z) (one-changed same xs x y ys r)
 
 -- where each object of xs has a partner of its kind with no smaller an extent, or an extent that is not above 0
 module _ {Object : Type 0} (kind : Object → Bool) (extent : Object → Float) {R : Object → Object → Type 0} (xs ys : List Object)

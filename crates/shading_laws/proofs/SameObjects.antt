@@ -22,7 +22,7 @@ use Rattle.shading_laws.proofs.Sides.{Side, side-positive, side-finite,
 use Rattle.shading_laws.proofs.Members.{Extent, extents-from}
 use Rattle.shading_laws.proofs.Bounds.{height-side, width-side, base, near, nears, near-shade-between, near-factor-is, overhang-between, factor-is}
 use Rattle.shading_laws.proofs.Doubles.{factor-fits}
-use Rattle.shading_laws.proofs.Sizes.{factor-more-objects}
+use Rattle.shading_laws.proofs.MoreObjects.{factor-more-objects}
 use Rattle.doubles.proofs.Signs.{Unsigned, mul-unsigned, div-unsigned, add-unsigned, cut-unsigned, positive-unsigned, level-same}
 
 -- ---- what is left of a side has no minus sign, and no part of the surface has

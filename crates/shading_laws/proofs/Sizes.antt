@@ -1,5 +1,5 @@
--- Objects that shade no less dominate, so that the factor is no larger: the laws of sizes, and of more objects. Assumes nothing.
-use mathlib.Core.Path.{_≡_, refl, sym, ap, ap₂, _∙_, subst}
+-- Objects that shade no less dominate, so that the factor is no larger. Assumes nothing.
+use mathlib.Core.Path.{_≡_, sym, ap, ap₂, _∙_, subst}
 use mathlib.Core.Logic.{_⊎_, inl, inr}
 use mathlib.Core.Bool.{Bool, true, false}
 use mathlib.Core.List.{List, List·Memᴰ}
@@ -24,7 +24,7 @@ use Rattle.extents.specs.Extents.{obstacleHeight, overhangHeight}
 use Rattle.fins.specs.Fins.{finWidth}
 use Rattle.shading.specs.declared.sun_on_surface.SunOnSurface.{SunOnSurface}
 use Rattle.shading.specs.Factor.{obstacleExtents, overhangExtents, windowOverhangExtents, rightFinExtents, leftFinExtents, nearObstacleHeight, reductionFactor}
-use Rattle.shading_laws.specs.Premises.{AcceptedSurface, NoNanExtent, AcceptedNear, Holds}
+use Rattle.shading_laws.specs.Premises.{AcceptedSurface, NoNanExtent, AcceptedNear}
 use Rattle.shading_laws.specs.Sizes.{askedAt, Both, ShadesNoLess, same, taller-obstacle, nearer-obstacle, lower-overhang, farther-overhang, ReachesNoLess, deeper, nearer, DarkensNoLess, taller, darker, WindowShadesNoLess, unchanged, overhang, right-fin, left-fin, near-obstacle}
 use Rattle.shading_laws.proofs.Sides.{side-number, nearHeight, near-between, near-taller, near-darker}
 use Rattle.shading_laws.proofs.Members.{Partner, partners-reach}
@@ -43,7 +43,7 @@ not-both o s t = go (o .«object_type») s t
     go distant.Overhang s t = s
 
 -- an object at the window is of one kind: of two different ones the test is false by computation
-one-kind : (k l : WindowShadingType) (o : WindowShadingObject) → T (ofKind k o) → T (ofKind l o) → T (eqb (kindNumber k) (kindNumber l))
+pub one-kind : (k l : WindowShadingType) (o : WindowShadingObject) → T (ofKind k o) → T (ofKind l o) → T (eqb (kindNumber k) (kindNumber l))
 unfolding ofKind
 one-kind k l o s t = eq→eqb (kindNumber k) (kindNumber l) (eqb→eq _ _ s ∙ sym (eqb→eq _ _ t))
 
@@ -200,13 +200,3 @@ module _ {surface : Surface} {sun : SunOnSurface} {xs ys : List ShadingObject} {
 
   pub factor-no-larger : reductionFactor surface sun ys vs ≼ reductionFactor surface sun xs ws
   factor-no-larger = factor-falls a less more dominates b c
-
--- ---- and so more objects never give a larger factor: each is there unchanged
-
-pub factor-more-objects : {surface : Surface} {sun : SunOnSurface} {xs ys : List ShadingObject} {ws vs : List WindowShadingObject}
-    → AcceptedSurface surface → NoNanExtent surface sun xs ws → NoNanExtent surface sun ys vs → Holds ys xs → Holds vs ws → AcceptedNear ws → AcceptedNear vs
-    → reductionFactor surface sun ys vs ≼ reductionFactor surface sun xs ws
-factor-more-objects a less more h k b c =
-    factor-no-larger a less more b c
-    (λ o m. record { other = o; member = h o m; related = same refl })
-    (λ o m. record { other = o; member = k o m; related = unchanged refl })
