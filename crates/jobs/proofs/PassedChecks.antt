@@ -30,9 +30,8 @@ use Rattle.fins.specs.Fins.{editionFine}
 use Rattle.objects.specs.Surface.{surfaceFine}
 use Rattle.object_checks.specs.Checks.{sectorsFine, windowFine}
 use Rattle.objects.specs.Records.{windowObjectsOf}
-use Rattle.shading_laws.specs.Premises.{AcceptedSurface, AcceptedNear}
-use Rattle.object_checks.proofs.Accepted.{height-range, width-range}
-use Rattle.object_checks.proofs.AcceptedWindow.{window-in-range}
+use Rattle.shading_laws.specs.Premises.{AcceptedSurface, Doubles, AcceptedNear}
+use Rattle.shading_laws.proofs.Accepted.{accepted-surface, accepted-near}
 use Rattle.weather.specs.declared.Reading.{Reading}
 use Rattle.weather.specs.Weather.{readingFine}
 use Rattle.jobs.specs.declared.answers.Checked.{Checked}
@@ -41,7 +40,6 @@ use Rattle.jobs.specs.Job.{Job, indexAt, readingAt}
 use Rattle.jobs.specs.JobChecks.{indicesFine, readingsFine, daysFine, totalsFine, resultsFine, tried, checked}
 use Rattle.jobs.specs.Totals.{dayOfStep, totalsCount}
 use Rattle.jobs.specs.Run.{Lent, roomFine, roomFor}
-use Rattle.jobs.specs.Comparison.{Doubles}
 
 -- ---- the tests, one by one
 
@@ -209,18 +207,8 @@ module _ {job : Job} {room : Bool} (p : Passed job room) where
 
   -- the surface's lengths are in their ranges
   pub surface-accepted : Doubles (job .surface) → AcceptedSurface (job .surface)
-  surface-accepted d = record {
-    height-from = height-range (job .surface) (p .surface-fine) .from;
-    height-to = height-range (job .surface) (p .surface-fine) .to;
-    width-from = width-range (job .surface) (p .surface-fine) .from;
-    width-to = width-range (job .surface) (p .surface-fine) .to;
-    height-fits = d .height-fits;
-    width-fits = d .width-fits;
-  }
+  surface-accepted = accepted-surface (job .surface) (p .surface-fine)
 
   -- every near obstacle's transparency is from 0 to 1
   pub near-accepted : AcceptedNear (windowObjectsOf (job .window))
-  near-accepted = record {
-    transparency-from = λ o m t. window-in-range (job .window) (p .window-fine) o m .transparency-range t .from;
-    transparency-to = λ o m t. window-in-range (job .window) (p .window-fine) o m .transparency-range t .to;
-  }
+  near-accepted = accepted-near (job .window) (p .window-fine)

@@ -26,8 +26,10 @@ use Rattle.objects.specs.Objects.{counted}
 use Rattle.shading.specs.Factor.{shadingFactor}
 use Rattle.objects.specs.Records.{sectorsOf, windowObjectsOf}
 use Rattle.words.specs.Lists.{PlaceByPlace}
-use Rattle.seasons.proofs.Parts.{of-day, of-two-days}
-use Rattle.shading_laws.specs.Premises.{NoNanAt, MoreInSector, SameInSector}
+use Rattle.seasons.proofs.Parts.{of-day, of-two-days, day-fine}
+use Rattle.shading_laws.specs.Premises.{Doubles, NoNanAt, MoreInSector, SameInSector}
+use Rattle.shading_laws.specs.Sizes.{nothing, SectorShadesNoLess, NoLargerAnswer}
+use Rattle.shading_laws.proofs.SizeLaws.{sizes-accepted}
 use Rattle.shading_laws.proofs.Answers.{answer-nonneg, answer-le-one, answer-no-objects, answers-more-objects, answers-same-objects}
 use Rattle.weather.specs.Weather.{readSeries}
 use Rattle.jobs.specs.Job.{Job, indexAt, readingAt}
@@ -36,10 +38,10 @@ use Rattle.jobs.specs.declared.answers.Totals.{Totals}
 use Rattle.jobs.specs.Rows.{storedRow, withRow}
 use Rattle.jobs.specs.Totals.{dayOfStep, totalsOf, totalsCount, inPart, totalsAtPart, totalsAt, totalsRecords, withTotals}
 use Rattle.jobs.specs.Run.{Ran, Lent, rowsStored, runOf, countFor, sumFor}
-use Rattle.jobs.specs.Comparison.{factorAt, directAt, countOf, sumOf, unshadedSum, SameSeries, Alike, BoundedAlike, SeasonsBoundedAlike, HoldsAll, SameObjects, NoneInSectors, NoObjects, NoNan, Doubles, Lawful, NoLarger, RunsCompared, TotalsCompared, TwoJobsCompared}
+use Rattle.jobs.specs.Comparison.{factorAt, directAt, countOf, sumOf, unshadedSum, SameSeries, Alike, BoundedAlike, SeasonsBoundedAlike, HoldsAll, SameObjects, ShadesNoLessAll, NoneInSectors, NoObjects, NoNan, Lawful, NoLarger, RunsCompared, TotalsCompared, TwoJobsCompared}
 use Rattle.jobs.proofs.StepRows.{StepRow, step-row, row-fits}
 use Rattle.jobs.proofs.PassedChecks.{step-accepted, surface-accepted, near-accepted}
-use Rattle.jobs.proofs.EveryHour.{step-irradiance}
+use Rattle.jobs.proofs.EveryHour.{step-angles, step-irradiance}
 use Rattle.jobs.proofs.RunLaws.{rowAt, sumTo, done, AcceptedRun, accepted-run, done-rows, totals-stepped}
 use Rattle.jobs.proofs.TotalsRecords.{records-same}
 use Rattle.jobs.proofs.TotalsLaws.{counts-same, largest-same, part-sum, totals-read, totals-front}
@@ -236,6 +238,19 @@ module _ {j k : Job} {r s : Lent} (l : Alike j k) (a : AcceptedRun j r) (b : Acc
         (more-in-sectors (j .winter) (k .winter) (a .checks .winter-fine) (b .checks .winter-fine) (c .in-winter) (o .in-winter)) (timeAt (j .run) i))
         (window-holds (j .window) (k .window) (o .at-window))
 
+    factors-fall : ShadesNoLessAll k j → (i : ℕ) → i < stepCount (j .run) → rowAt k i .factor ≼ rowAt j i .factor
+    unfolding NoLargerAnswer sunAt sectorsAt
+    factors-fall o i h =
+        let time = timeAt (j .run) i in
+        let second = sectorsAt (j .site) (k .summer) (k .winter) time in
+        subst₂ NoLargerAnswer (factor-answer a i h) (second-answer i h)
+        (sizes-accepted (j .edition) (j .surface) (sunAt (j .site) time .altitude) (sunAt (j .site) time .azimuth) (jobSectors j time) second (j .window) (k .window)
+        (a .checks .surface-fine) d (step-angles (a .checks) i h .altitude)
+        (day-fine (k .summer) (k .winter) (b .checks .summer-fine) (b .checks .winter-fine) (j .site .«first_leaf_day») (j .site .«last_leaf_day») (currentHour time / 24))
+        (a .checks .window-fine) (b .checks .window-fine) (n .at-step i h) (second-extents i h)
+        (on-both-days (λ (l m : List ℕ). PlaceByPlace (SectorShadesNoLess nothing) (sectorsOf l) (sectorsOf m)) (o .in-summer) (o .in-winter) time)
+        (o .at-window))
+
     factors-same : SameObjects j k → (i : ℕ) → i < stepCount (j .run) → rowAt j i .factor ≡ rowAt k i .factor
     factors-same o i h =
         answers-same-objects (surface-accepted (a .checks) d) (n .at-step i h) (second-extents i h) (near-accepted (a .checks)) (near-accepted (b .checks))
@@ -253,7 +268,8 @@ module _ {j k : Job} {r s : Lent} (l : Alike j k) (a : AcceptedRun j r) (b : Acc
     second-doubles : Doubles (k .surface)
     second-doubles = subst Doubles (l .surfaces) d
 
-    module _ (o : HoldsAll k j) where
+    -- where no factor of the second is larger
+    module _ (falls : (i : ℕ) → i < stepCount (j .run) → rowAt k i .factor ≼ rowAt j i .factor) where
       -- at a step of the second
       of-first : {i : ℕ} → i < stepCount (k .run) → i < stepCount (j .run)
       of-first h = rw counts-alike h
@@ -264,17 +280,17 @@ module _ {j k : Job} {r s : Lent} (l : Alike j k) (a : AcceptedRun j r) (b : Acc
           let direct : rowAt k i .direct ≡ rowAt j i .direct = sym (directs-alike i (of-first h)) in
           let step : k .run .step ≡ j .run .step = ap (λ (run : Run). run .step) (sym (l .runs)) in
           let more : rowAt k i .factor ⊗ rowAt k i .direct ≼ rowAt j i .factor ⊗ rowAt k i .direct =
-          part-mono (part a d n i (of-first h)) (part b second-doubles m i h) (amount b second-doubles m i h) (factors-more o i (of-first h)) in
+          part-mono (part a d n i (of-first h)) (part b second-doubles m i h) (amount b second-doubles m i h) (falls i (of-first h)) in
           let first : Amount (rowAt j i .factor ⊗ rowAt k i .direct) =
           subst (λ (e : Float). Amount (rowAt j i .factor ⊗ e)) (sym direct) (lit a d n i (of-first h)) in
           subst₂ (λ (e t : Float). (rowAt k i .factor ⊗ rowAt k i .direct) ⊗ k .run .step ≼ (rowAt j i .factor ⊗ e) ⊗ t) direct step
           (times-mono (lit b second-doubles m i h) first (step-amount b second-doubles m) more)
 
-      -- more objects: nowhere larger
+      -- the run is nowhere larger
       no-larger : NoLarger (done k (s .results)) (done j (r .results))
       unfolding countOf countFor done
       no-larger = record {
-        factors = λ i h. rw (factor-is b i h, factor-is a i (of-first h)) (factors-more o i (of-first h));
+        factors = λ i h. rw (factor-is b i h, factor-is a i (of-first h)) (falls i (of-first h));
         sums = rw (sum-done a, sum-done b, counts-alike) (total-mono every (shaded k) (shaded j) (stepCount (k .run)) (shaded-nonneg b second-doubles m) shaded-more);
       }
 
@@ -310,6 +326,7 @@ module _ {j k : Job} {r s : Lent} (l : Alike j k) (a : AcceptedRun j r) (b : Acc
   runs-compared =
       let count : ℕ = stepCount (j .run) in
       let same : stepCount (j .run) ≡ stepCount (k .run) = counts-alike l a b in
+      let back = no-larger (alike-back l) b a (second-doubles l a b d n m c) m n (seasons-back c) in
       record {
         first = lawful a d n;
         second = lawful b (second-doubles l a b d n m c) m;
@@ -317,8 +334,10 @@ module _ {j k : Job} {r s : Lent} (l : Alike j k) (a : AcceptedRun j r) (b : Acc
         directs = λ i h. direct-is a i h ∙ directs-alike l a b i h ∙ sym (direct-is b i (rw (← same) h));
         same-factors = λ o i h. factor-is a i h ∙ factors-same l a b d n m c o i h ∙ sym (factor-is b i (rw (← same) h));
         same-sums = λ o. sum-done a ∙ total-same every (shaded j) (shaded k) count (shaded-same l a b d n m c o) ∙ ap (total every (shaded k)) same ∙ sym (sum-done b);
-        second-more = no-larger l a b d n m c;
-        first-more = no-larger (alike-back l) b a (second-doubles l a b d n m c) m n (seasons-back c);
+        second-more = λ o. no-larger l a b d n m c (factors-more l a b d n m c o);
+        first-more = λ o. back (factors-more (alike-back l) b a (second-doubles l a b d n m c) m n (seasons-back c) o);
+        second-sizes = λ o. no-larger l a b d n m c (factors-fall l a b d n m c o);
+        first-sizes = λ o. back (factors-fall (alike-back l) b a (second-doubles l a b d n m c) m n (seasons-back c) o);
       }
 
 -- ---- totals
@@ -414,12 +433,12 @@ module _ {j k : Job} {r s : Lent} (l : Alike j k) (a : AcceptedRun j r) (b : Acc
         ∙ sym (second-sum p) in
         λ x. record { count = parts-count p x; largest = parts-largest p x; sum = sums x }
 
-    -- more objects
-    parts-more : HoldsAll k j → (p : ℕ) → p < totalsCount (leapYear (j .site)) → totalsAt (runOf k s .totals) p .sum ≼ totalsAt (runOf j r .totals) p .sum
-    parts-more o p h =
+    -- where no factor of the second is larger
+    parts-more : ((i : ℕ) → i < stepCount (j .run) → rowAt k i .factor ≼ rowAt j i .factor) → (p : ℕ) → p < totalsCount (leapYear (j .site)) → totalsAt (runOf k s .totals) p .sum ≼ totalsAt (runOf j r .totals) p .sum
+    parts-more falls p h =
         rw (second-is p h, first-is p h, second-sum p, first-sum p)
         (total-mono (λ (i : ℕ). inPart (leapYear (k .site)) p (dayOfStep (k .run) i)) (shaded k) (shaded j) (stepCount (k .run))
-        (shaded-nonneg b (second-doubles l a b d n m c) m) (shaded-more l a b d n m c o))
+        (shaded-nonneg b (second-doubles l a b d n m c) m) (shaded-more l a b d n m c falls))
 
     same-bytes : SameObjects j k
         → take (24 * totalsCount (leapYear (j .site))) (runOf j r .totals) ≡ take (24 * totalsCount (leapYear (j .site))) (runOf k s .totals)
@@ -435,14 +454,19 @@ module _ {j k : Job} {r s : Lent} (l : Alike j k) (a : AcceptedRun j r) (b : Acc
 
 module _ {j k : Job} {r s : Lent} (l : Alike j k) (a : AcceptedRun j r) (b : AcceptedRun k s) (d : Doubles (j .surface)) (n : NoNan j) (m : NoNan k)
     (c : SeasonsBoundedAlike j k) where
+  parts-more-back : ((i : ℕ) → i < stepCount (k .run) → rowAt j i .factor ≼ rowAt k i .factor)
+      → (p : ℕ) → p < totalsCount (leapYear (j .site)) → totalsAt (runOf j r .totals) p .sum ≼ totalsAt (runOf k s .totals) p .sum
+  parts-more-back falls p h = parts-more (alike-back l) b a (second-doubles l a b d n m c) m n (seasons-back c) falls p (rw (← records-alike l a b) h)
+
   totals-compared : TotalsCompared j k (runOf j r .totals) (runOf k s .totals)
   totals-compared = record {
     counts = λ p h. ap (λ (t : Totals). t .count) (first-is l a b p h) ∙ parts-count l a b p ∙ ap (λ (t : Totals). t .count) (sym (second-is l a b p h));
     largest = λ p h. ap (λ (t : Totals). t .largest) (first-is l a b p h) ∙ parts-largest l a b p ∙ ap (λ (t : Totals). t .largest) (sym (second-is l a b p h));
     same-bytes = same-bytes l a b d n m c;
-    second-more = parts-more l a b d n m c;
-    first-more = λ o p h.
-        parts-more (alike-back l) b a (second-doubles l a b d n m c) m n (seasons-back c) o p (rw (← records-alike l a b) h);
+    second-more = λ o. parts-more l a b d n m c (factors-more l a b d n m c o);
+    first-more = λ o. parts-more-back (factors-more (alike-back l) b a (second-doubles l a b d n m c) m n (seasons-back c) o);
+    second-sizes = λ o. parts-more l a b d n m c (factors-fall l a b d n m c o);
+    first-sizes = λ o. parts-more-back (factors-fall (alike-back l) b a (second-doubles l a b d n m c) m n (seasons-back c) o);
   }
 
 -- ---- the claim

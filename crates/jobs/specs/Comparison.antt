@@ -6,13 +6,15 @@ use Prim.Native.Nat.{ℕ, zero, suc, _+_, _*_, _<_}
 use lib.ListN.{take}
 use lib.Ieee.{Float}
 use Rattle.doubles.specs.Arithmetic.{_⊕_, _⊗_, whole}
-use Rattle.doubles.specs.Order.{_≼_, _≈_, Finite, Fits}
+use Rattle.doubles.specs.Order.{_≼_, _≈_, Finite}
+use Rattle.words.specs.Lists.{PlaceByPlace}
 use Rattle.words.specs.Words.{wordCount, wordAt, doubleAt}
 use Rattle.sun.specs.Site.{leapYear}
 use Rattle.simulation_time.specs.Steps.{stepCount, timeAt}
 use Rattle.objects.specs.declared.surface.Surface.{Surface}
 use Rattle.objects.specs.Records.{recordsFrom, sectorCount, sectorsOf, windowCount, windowObjectsOf}
 use Rattle.shading_laws.specs.Premises.{Doubles, Holds, NoNanAt}
+use Rattle.shading_laws.specs.Sizes.{nothing, WindowShadesNoLess, SectorShadesNoLess}
 use Rattle.jobs.specs.Job.{Job}
 use Rattle.jobs.specs.Step.{sunAt, jobSectors}
 use Rattle.jobs.specs.Totals.{totalsCount, totalsAt}
@@ -99,6 +101,13 @@ pub record SameObjects (j k : Job) : Type 0 where
   pub there : HoldsAll k j
   pub back : HoldsAll j k
 
+-- Each object of k shades no less than that of j at its place, summer with summer and winter with winter, whether or not a step falls
+-- there, and window with window: it is the same, or changed in one measure.
+pub record ShadesNoLessAll (k j : Job) : Type 0 where
+  pub in-summer : PlaceByPlace (SectorShadesNoLess nothing) (sectorsOf (j .summer)) (sectorsOf (k .summer))
+  pub in-winter : PlaceByPlace (SectorShadesNoLess nothing) (sectorsOf (j .winter)) (sectorsOf (k .winter))
+  pub at-window : PlaceByPlace (WindowShadesNoLess nothing) (windowObjectsOf (j .window)) (windowObjectsOf (k .window))
+
 abbrev pub NoneInSectors : List ℕ → Type 0
 NoneInSectors l = (i : ℕ) → i < sectorCount l → sectorObjects l i ≡ []
 
@@ -137,7 +146,7 @@ pub record NoLarger (a b : Ran) : Type 0 where
   pub sums : sumOf a ≼ sumOf b
 
 -- Of both: as many steps and the same direct values; the same objects, in any order and number, give the same factors and the same
--- sum, bit for bit; more objects never give a larger factor or sum, whichever of the two has them.
+-- sum, bit for bit; more objects never give a larger factor or sum, whichever of the two has them, nor do objects that shade no less.
 pub record RunsCompared (j k : Job) (a b : Ran) : Type 0 where
   pub first : Lawful j a
   pub second : Lawful k b
@@ -147,15 +156,19 @@ pub record RunsCompared (j k : Job) (a b : Ran) : Type 0 where
   pub same-sums : SameObjects j k → sumOf a ≡ sumOf b
   pub second-more : HoldsAll k j → NoLarger b a
   pub first-more : HoldsAll j k → NoLarger a b
+  pub second-sizes : ShadesNoLessAll k j → NoLarger b a
+  pub first-sizes : ShadesNoLessAll j k → NoLarger a b
 
 -- Of both lists of totals, day by day and then month by month: as many steps and the same largest total; the same objects give the same
--- bytes; more objects never give a larger sum of a day or of a month.
+-- bytes; neither more objects nor objects that shade no less ever give a larger sum of a day or of a month.
 pub record TotalsCompared (j k : Job) (a b : List ℕ) : Type 0 where
   pub counts : (p : ℕ) → p < totalsCount (leapYear (j .site)) → totalsAt a p .count ≡ totalsAt b p .count
   pub largest : (p : ℕ) → p < totalsCount (leapYear (j .site)) → totalsAt a p .largest ≡ totalsAt b p .largest
   pub same-bytes : SameObjects j k → take (24 * totalsCount (leapYear (j .site))) a ≡ take (24 * totalsCount (leapYear (j .site))) b
   pub second-more : HoldsAll k j → (p : ℕ) → p < totalsCount (leapYear (j .site)) → totalsAt b p .sum ≼ totalsAt a p .sum
   pub first-more : HoldsAll j k → (p : ℕ) → p < totalsCount (leapYear (j .site)) → totalsAt a p .sum ≼ totalsAt b p .sum
+  pub second-sizes : ShadesNoLessAll k j → (p : ℕ) → p < totalsCount (leapYear (j .site)) → totalsAt b p .sum ≼ totalsAt a p .sum
+  pub first-sizes : ShadesNoLessAll j k → (p : ℕ) → p < totalsCount (leapYear (j .site)) → totalsAt a p .sum ≼ totalsAt b p .sum
 
 -- of two calls: what their runs come to, and the totals that they leave
 pub record Compared (j k : Job) (a b : Left) : Type 0 where

@@ -3,9 +3,9 @@
 // `include/pilgartze.h` says the same for C.
 ghost use mathlib.Core.Path.{_≡_};
 ghost use Rattle.shading.specs.Call.{factorCall};
+ghost use Rattle.shading_laws.specs.Premises.{Doubles};
 ghost use Rattle.jobs.specs.Job.{jobOf};
 ghost use Rattle.jobs.specs.Run.{lent, runOf};
-ghost use Rattle.jobs.specs.Comparison.{Doubles};
 ghost use Rattle.single_steps.specs.Single.{stepCall, irradianceCall};
 ghost use Rattle.pilgartze.specs.CallAnswers.{answerFor, factorFor, runLeaves, callLeaves, siteOf, timesOf, surfaceOf, readingOf};
 ghost use Rattle.pilgartze.specs.Version.{version};
@@ -318,6 +318,7 @@ pub extern "C" fn pilgartze_factor(
 ) -> ShadingFactor
     ensures { λ r. ⌜ r ≡ factorFor (factorCall edition altitude azimuth (surfaceOf tilt orientation «base_height» height width)
         (now (sectors .entry)) (now (window .entry))) ⌝ }
+    ensures { λ r. ⌜ Doubles (surfaceOf tilt orientation «base_height» height width) ⌝ }
 {
     let surface = surface_of(tilt, orientation, base_height, height, width);
     factor_for(shading::step::factor_call(edition, altitude, azimuth, surface, sectors, window))
