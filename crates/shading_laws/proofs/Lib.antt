@@ -11,5 +11,6 @@ pub mod Sizes
 pub mod MoreObjects
 pub mod Accepted
 pub mod SizeLaws
+pub mod SizeLimits
 pub mod SameObjects
 pub mod Answers
