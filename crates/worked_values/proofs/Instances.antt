@@ -1,7 +1,7 @@
 -- The claim on two jobs compared is about something: three jobs of two steps, at one o'clock on the first two days of January, of which
 -- the second is summer. `bare` has no objects; `built` has a distant obstacle, in summer a distant overhang too, an overhang at the window
 -- and a right fin; `mixed` has these in another order and some twice, and its sectors start at −0.0. All premises are met, computed by the
--- checker from the definitions. So are the totals that `built` leaves.
+-- checker from the definitions. So are the totals that `built` leaves. `dragged` is `built` with four of its objects changed in one measure.
 use mathlib.Core.Path.{_≡_, refl, sym, subst, ap, _∙_}
 use mathlib.Core.Logic.{inl, inr}
 use mathlib.Core.Bool.{Bool, true, false, not, _&&_}
@@ -32,7 +32,7 @@ use Rattle.simulation_time.specs.RunChecks.{hourFine, hoursFine, runAccepted}
 use Rattle.objects.specs.declared.sectors.ShadingSegment.{ShadingSegment}
 use Rattle.objects.specs.declared.answers.FactorAnswer.{FactorAnswer}
 use Rattle.objects.specs.declared.answers.FactorAnswer.the-variants as factor
-use Rattle.words.specs.Lists.{firstFine}
+use Rattle.words.specs.Lists.{firstFine, none, and-then}
 use Rattle.objects.specs.Surface.{surfaceFine}
 use Rattle.object_checks.specs.Checks.{recordsFine, windowValuesFine, windowRecordFine, windowFine, objectValuesFine, objectFine, objectUnused, tripleFine, boundsFine, sectorRecordFine, sectorsFine}
 use Rattle.objects.specs.Records.{recordsFrom, distantKind, objectAt, objectsFrom, segmentAt, sectorCount, sectorsOf, windowKind, windowObjectAt, windowCount, windowObjectsOf}
@@ -44,7 +44,8 @@ use Rattle.objects.specs.declared.window.WindowShadingType.the-variants.{Obstac
 use Rattle.objects.specs.Objects.{isObstacle, isOverhang, kindNumber, ofKind, counted}
 use Rattle.shading.specs.declared.sun_on_surface.SunOnSurface.{SunOnSurface}
 use Rattle.shading.specs.Factor.{extents, sunOn, nearObstacleHeight, obstacleExtents, overhangExtents, windowOverhangExtents, rightFinExtents, leftFinExtents, overhangShade, sunlitBetween, sunlitHeight, sunlitWidth, sunlitPart, leastOf, reductionFactor, hasReveal, factorIn, shadingFactor}
-use Rattle.shading_laws.specs.Premises.{AllNumbers, NoNanExtent, Holds}
+use Rattle.shading_laws.specs.Premises.{Doubles, AllNumbers, NoNanExtent, Holds}
+use Rattle.shading_laws.specs.Sizes.{taller-obstacle, lower-overhang, deeper, overhang, right-fin}
 use Rattle.jobs.specs.declared.answers.Checked.{Checked}
 use Rattle.jobs.specs.declared.answers.Checked.the-variants as check
 use Rattle.weather.specs.Weather.{inSeries, readSeries, readingFine}
@@ -59,7 +60,7 @@ use Rattle.jobs.specs.Step.{sunAt, irradianceByDay, irradianceAt, sectorsAt, jo
 use Rattle.jobs.specs.Rows.{putRow, storedRow, withRow}
 use Rattle.jobs.specs.Totals.{noTotals, withStep, totalsOf, totalsCount, monthPart, inPart, totalsAtPart, totalsAt, withTotals}
 use Rattle.jobs.specs.Run.{numberFor, countFor, sumFor, onRow, runFrom, runChecked, Lent, lent, roomFine, roomFor, rowsStored, totalsLeft, Ran, runOf}
-use Rattle.jobs.specs.Comparison.{sumOf, SameSeries, Alike, BoundedAlike, triple, sectorObjects, windowObject, windowObjects, HoldsAll, SameObjects, NoNan, Doubles, IsAccepted, Comparable}
+use Rattle.jobs.specs.Comparison.{sumOf, SameSeries, Alike, BoundedAlike, triple, sectorObjects, windowObject, windowObjects, HoldsAll, SameObjects, ShadesNoLessAll, NoNan, IsAccepted, Comparable}
 use Rattle.segments.proofs.SameWalks.{found-has}
 use Rattle.shading_laws.proofs.Members.{extents-into}
 use Rattle.jobs.proofs.TotalsLaws.{totals-read}
@@ -145,13 +146,19 @@ mixed =
     jobWith (minus-zero ++ round ++ word 3 ++ eaves ++ wall ++ eaves ++ zeros 15) (minus-zero ++ round ++ word 2 ++ wall ++ wall ++ zeros 18)
     (fin ++ awning ++ awning)
 
+-- the wall two metres high, the eaves one metre up, the overhang at the window a hundred metres deep and the fin one
+dragged : Job
+dragged =
+    jobWith (zeros 1 ++ round ++ word 2 ++ (zeros 1 ++ two ++ metre) ++ (word 1 ++ metre ++ metre) ++ zeros 18)
+    (zeros 1 ++ round ++ word 1 ++ (zeros 1 ++ two ++ metre) ++ zeros 21) ((word 1 ++ hundred ++ quarter ++ zeros 1) ++ (word 2 ++ metre ++ zeros 2))
+
 room : Lent
 room = lent (zeros 1098) (zeros 1134) (zeros 12)
 
 -- ---- all that the values are computed from: to unfold these names unfolds them
 
 lists : ℕ
-unfolding word double zeros quarter metre two hundred round minus-zero wall eaves awning fin jobWith bare built mixed room number wordCount wordAt doubleAt ofBits sectorCount triple
+unfolding word double zeros quarter metre two hundred round minus-zero wall eaves awning fin jobWith bare built mixed dragged room number wordCount wordAt doubleAt ofBits sectorCount triple
     sectorObjects windowObject windowObjects recordsFrom distantKind objectAt objectsFrom segmentAt sectorsOf windowKind windowObjectAt windowCount windowObjectsOf
     inLeaf wholeRecords seasonRecords sectorsFor sectorsAt
 lists = 0
@@ -215,10 +222,23 @@ mixed-accepted : IsAccepted (runOf mixed room .ran)
 unfolding answered isFactor checks shade
 mixed-accepted = two-steps mixed refl tt tt
 
+dragged-accepted : IsAccepted (runOf dragged room .ran)
+unfolding answered isFactor checks shade
+dragged-accepted = two-steps dragged refl tt tt
+
 -- the objects do shade
 built-shaded : T (isBelow (whole 1) (answered built (whole 13)) && isBelow (whole 1) (answered built (whole 37)))
 unfolding answered isBelow shade
 built-shaded = tt
+
+isLower : FactorAnswer → FactorAnswer → Bool
+isLower (factor.Factor f) a = isBelow f a
+isLower (factor.Refused r) a = false
+
+-- and larger ones more
+dragged-shaded : T (isLower (answered built (whole 13)) (answered dragged (whole 13)) && isLower (answered built (whole 37)) (answered dragged (whole 37)))
+unfolding answered isLower isBelow shade
+dragged-shaded = tt
 
 -- ---- no extent is NaN
 
@@ -310,6 +330,10 @@ mixed-no-nan : NoNan mixed
 unfolding checks shade sunThen numbers nearHeights nearObstacleHeight
 mixed-no-nan = no-nan mixed refl refl refl (fine-at mixed 0 tt tt tt tt tt tt) (fine-at mixed 1 tt tt tt tt tt tt)
 
+dragged-no-nan : NoNan dragged
+unfolding checks shade sunThen numbers nearHeights nearObstacleHeight
+dragged-no-nan = no-nan dragged refl refl refl (fine-at dragged 0 tt tt tt tt tt tt) (fine-at dragged 1 tt tt tt tt tt tt)
+
 -- ---- they are alike and bounded alike
 
 same-series : (l : List ℕ) → SameSeries l l
@@ -377,6 +401,21 @@ built-mixed = record {
   doubles = are-doubles (built .summer) (built .winter) (mixed .summer) (mixed .winter) (built .window) (mixed .window);
 }
 
+built-dragged : Comparable built dragged room room
+unfolding lists levels le
+built-dragged = record {
+  alike = alike (built .summer) (built .winter) (dragged .summer) (dragged .winter) (built .window) (dragged .window);
+  bounded = record {
+    in-summer = bounded (built .summer) (dragged .summer) refl refl tt tt;
+    in-winter = bounded (built .winter) (dragged .winter) refl refl tt tt;
+  };
+  first-accepted = built-accepted;
+  second-accepted = dragged-accepted;
+  first-extents = built-no-nan;
+  second-extents = dragged-no-nan;
+  doubles = are-doubles (built .summer) (built .winter) (dragged .summer) (dragged .winter) (built .window) (dragged .window);
+}
+
 -- ---- and hold each other's objects
 
 holds-none : {Object : Type 0} {ys : List Object} → Holds ys []
@@ -413,11 +452,31 @@ same = record {
   };
 }
 
+-- or have such as shade no less
+larger : ShadesNoLessAll dragged built
+unfolding lists doubles counted isObstacle isOverhang ofKind kindNumber
+larger =
+    let both-tall = taller-obstacle (record { first = tt; second = tt }) refl (record { holds = tt }) in
+    record {
+      in-summer = and-then (record {
+        bounds = record { starts = level _ _ tt; ends = level _ _ tt };
+        objects = and-then both-tall (and-then (lower-overhang tt (record { first = tt; second = tt }) refl (record { holds = tt })) none);
+      }) none;
+      in-winter = and-then (record { bounds = record { starts = level _ _ tt; ends = level _ _ tt }; objects = and-then both-tall none }) none;
+      at-window =
+          and-then (overhang (record { first = tt; second = tt }) (deeper (tt, tt) refl (record { holds = tt })))
+          (and-then (right-fin (record { first = tt; second = tt }) (deeper tt refl (record { holds = tt }))) none);
+    }
+
 -- ---- so the claim speaks of them
 
 -- the objects make no factor and no sum larger
 no-larger : sumOf (runOf built room .ran) ≼ sumOf (runOf bare room .ran)
 no-larger = two-jobs-compared bare built room room bare-built .runs .second-more more .sums
+
+-- nor do larger ones
+still-no-larger : sumOf (runOf dragged room .ran) ≼ sumOf (runOf built room .ran)
+still-no-larger = two-jobs-compared built dragged room room built-dragged .runs .second-sizes larger .sums
 
 -- their order and number is all one
 same-sum : sumOf (runOf built room .ran) ≡ sumOf (runOf mixed room .ran)
