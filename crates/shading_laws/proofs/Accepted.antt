@@ -26,7 +26,7 @@ use Rattle.object_checks.proofs.AcceptedWindow.{WindowInRange, window-in-range}
 use Rattle.shading.specs.declared.sun_on_surface.SunOnSurface.{SunOnSurface}
 use Rattle.shading.specs.Factor.{sunOn}
 use Rattle.shading_laws.specs.Premises.{AcceptedSurface, Doubles, AcceptedNear}
-use Rattle.shading_laws.specs.Sizes.{askedAt, nothing, NotNegative, ShadesNoLess, same, taller-obstacle, nearer-obstacle, lower-overhang, farther-overhang, ReachesNoLess, deeper, nearer, WindowShadesNoLess, unchanged, overhang, right-fin, left-fin, near-obstacle, SectorShadesNoLess}
+use Rattle.shading_laws.specs.Sizes.{askedAt, nothing, NotNegative, ShadesNoLess, same, taller-obstacle, nearer-obstacle, lower-overhang, farther-overhang, ReachesNoLess, deeper, nearer, DarkensNoLess, taller, closer, darker, WindowShadesNoLess, unchanged, overhang, right-fin, left-fin, near-obstacle, SectorShadesNoLess}
 use Rattle.shading_laws.proofs.Members.{map-places}
 
 -- ---- surfaces and near obstacles
@@ -88,12 +88,17 @@ module _ (edition : ℕ) (surface : Surface) (t : T (surfaceFine surface)) (alti
   reaches-asked b (deeper _ e h) = deeper b e h
   reaches-asked b (nearer e h) = nearer e h
 
+  darkens-asked : {a b : Type 0} {o p : WindowShadingObject} → b → DarkensNoLess a o p → DarkensNoLess b o p
+  darkens-asked b (taller z e f h) = taller z e f h
+  darkens-asked b (closer _ z e f h) = closer b z e f h
+  darkens-asked b (darker e f h) = darker e f h
+
   at-window-asked : (o p : WindowShadingObject) → NotNegative o → WindowShadesNoLess nothing o p → WindowShadesNoLess (askedAt surface sun) o p
   at-window-asked o p d (unchanged e) = unchanged e
   at-window-asked o p d (overhang k r) = overhang k (reaches-asked (up .from, inr d) r)
   at-window-asked o p d (right-fin k r) = right-fin k (reaches-asked (inr d) r)
   at-window-asked o p d (left-fin k r) = left-fin k (reaches-asked (inr d) r)
-  at-window-asked o p d (near-obstacle k r) = near-obstacle k r
+  at-window-asked o p d (near-obstacle k r) = near-obstacle k (darkens-asked (up .from) r)
 
   pub sectors-asked : {ss : List ShadingSegment} (m : List ℕ) → T (sectorsFine m) → PlaceByPlace (SectorShadesNoLess nothing) ss (sectorsOf m)
       → PlaceByPlace (SectorShadesNoLess (askedAt surface sun)) ss (sectorsOf m)

@@ -7,7 +7,7 @@ use lib.Dec.{T, eqb, eqb→eq}
 use lib.Ieee.{Float}
 use Rattle.doubles.specs.Arithmetic.{whole}
 use Rattle.doubles.specs.Functions.{floatMin}
-use Rattle.doubles.specs.Order.{_≼_, Number}
+use Rattle.doubles.specs.Order.{_≼_, Number, Zero}
 use Rattle.doubles.proofs.Order.{le-refl, right-number, eq→eqb}
 use Rattle.doubles.proofs.Lists.{AllReached}
 use Rattle.doubles.proofs.MinMax.{min-mono, float-min-is}
@@ -25,7 +25,7 @@ use Rattle.fins.specs.Fins.{finWidth}
 use Rattle.shading.specs.declared.sun_on_surface.SunOnSurface.{SunOnSurface}
 use Rattle.shading.specs.Factor.{obstacleExtents, overhangExtents, windowOverhangExtents, rightFinExtents, leftFinExtents, nearObstacleHeight, reductionFactor}
 use Rattle.shading_laws.specs.Premises.{AcceptedSurface, NoNanExtent, AcceptedNear}
-use Rattle.shading_laws.specs.Sizes.{askedAt, Both, ShadesNoLess, same, taller-obstacle, nearer-obstacle, lower-overhang, farther-overhang, ReachesNoLess, deeper, nearer, DarkensNoLess, taller, darker, WindowShadesNoLess, unchanged, overhang, right-fin, left-fin, near-obstacle}
+use Rattle.shading_laws.specs.Sizes.{askedAt, Both, ShadesNoLess, same, taller-obstacle, nearer-obstacle, lower-overhang, farther-overhang, ReachesNoLess, deeper, nearer, DarkensNoLess, taller, closer, darker, WindowShadesNoLess, unchanged, overhang, right-fin, left-fin, near-obstacle}
 use Rattle.shading_laws.proofs.Sides.{side-number, nearHeight, near-between, near-taller, near-darker}
 use Rattle.shading_laws.proofs.Members.{Partner, partners-reach}
 use Rattle.shading_laws.proofs.Bounds.{height-side, nearShade, near-shade-between}
@@ -113,21 +113,28 @@ module _ (surface : Surface) (sun : SunOnSurface) where
 module _ {surface : Surface} (a : AcceptedSurface surface) (sun : SunOnSurface) (o p : WindowShadingObject)
     (n : Number (nearObstacleHeight surface sun o)) (m : Number (nearObstacleHeight surface sun p))
     (t : Between (whole 1) (o .transparency)) (t′ : Between (whole 1) (p .transparency)) where
-  shade-rises : o .distance ≡ p .distance → o .size ≼ p .size → nearShade surface sun o ≼ nearShade surface sun p
-  unfolding nearShade nearObstacleHeight
-  shade-rises e h =
+  shade-rises : nearObstacleHeight surface sun o ≼ nearObstacleHeight surface sun p → nearShade surface sun o ≼ nearShade surface sun p
+  unfolding nearShade
+  shade-rises h =
       rw (float-min-is (side-number (height-side a)) n, float-min-is (side-number (height-side a)) m)
-      (min-mono (le-refl (side-number (height-side a))) (size.taller _ _ (o .size) (p .size) (o .distance) (p .distance) n m e h))
+      (min-mono (le-refl (side-number (height-side a))) h)
 
   shade-same : o .size ≡ p .size → o .distance ≡ p .distance → nearShade surface sun o ≡ nearShade surface sun p
   unfolding nearShade nearObstacleHeight
   shade-same e f = ap₂ (λ (height distance : Float). floatMin (surface .height) (obstacleHeight (surface .«base_height») height distance (sun .«tan_altitude»))) e f
 
-  near-moves : DarkensNoLess o p → (shade : Float) → Between (surface .height) shade → ownHeight surface sun p shade ≼ ownHeight surface sun o shade
-  near-moves (taller z e f h) shade b =
+  -- one that lets nothing through
+  opaque : Zero (o .transparency) → o .transparency ≡ p .transparency → nearObstacleHeight surface sun o ≼ nearObstacleHeight surface sun p
+      → (shade : Float) → Between (surface .height) shade → ownHeight surface sun p shade ≼ ownHeight surface sun o shade
+  opaque z e h shade b =
       subst (λ (u : Float). nearHeight (surface .height) (nearShade surface sun p) shade u ≼ ownHeight surface sun o shade) e
-      (near-taller (height-side a) (near-shade-between surface sun o a n) (near-shade-between surface sun p a m) b t z (shade-rises f h))
-  near-moves (darker e f h) shade b =
+      (near-taller (height-side a) (near-shade-between surface sun o a n) (near-shade-between surface sun p a m) b t z (shade-rises h))
+
+  near-moves : DarkensNoLess (whole 0 ≼ sun .«tan_altitude») o p → (shade : Float) → Between (surface .height) shade → ownHeight surface sun p shade ≼ ownHeight surface sun o shade
+  unfolding nearObstacleHeight
+  near-moves (taller z e f h) = opaque z e (size.taller _ _ (o .size) (p .size) (o .distance) (p .distance) n m f h)
+  near-moves (closer up z e f h) = opaque z e (size.nearer _ _ (o .size) (p .size) (o .distance) (p .distance) n m up f h)
+  near-moves (darker e f h) = λ shade b.
       subst (λ (u : Float). nearHeight (surface .height) u shade (p .transparency) ≼ ownHeight surface sun o shade) (shade-same e f)
       (near-darker (height-side a) (near-shade-between surface sun o a n) b t t′ h)
 
@@ -167,7 +174,7 @@ module _ {surface : Surface} {sun : SunOnSurface} {xs ys : List ShadingObject} {
       own : (shade : Float) → Between (surface .height) shade → Number (ownHeight surface sun o shade)
       own shade r = right-number (near-between (height-side a) (near-shade-between surface sun o a (less .near-obstacles o m t)) r first .low)
 
-      by : (p : WindowShadingObject) → List·Memᴰ p vs → Both (ofKind Obstacle) o p → DarkensNoLess o p → Darkened surface sun vs o
+      by : (p : WindowShadingObject) → List·Memᴰ p vs → Both (ofKind Obstacle) o p → DarkensNoLess (whole 0 ≼ sun .«tan_altitude») o p → Darkened surface sun vs o
       by p q k r = record {
         object = p;
         member = q;

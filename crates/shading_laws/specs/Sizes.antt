@@ -82,10 +82,11 @@ pub data ReachesNoLess (deepens : Type 0) (o p : WindowShadingObject) : Type 0 w
   deeper : deepens → o .distance ≡ p .distance → o .size ≼ p .size → ReachesNoLess deepens o p
   nearer : o .size ≡ p .size → p .distance ≼ o .distance → ReachesNoLess deepens o p
 
--- a near obstacle: taller, where it lets nothing through, or darker
-pub data DarkensNoLess (o p : WindowShadingObject) : Type 0 where
-  taller : Zero (o .transparency) → o .transparency ≡ p .transparency → o .distance ≡ p .distance → o .size ≼ p .size → DarkensNoLess o p
-  darker : o .size ≡ p .size → o .distance ≡ p .distance → p .transparency ≼ o .transparency → DarkensNoLess o p
+-- a near obstacle: where it lets nothing through taller or, with the sun up, nearer; or darker
+pub data DarkensNoLess (sun-up : Type 0) (o p : WindowShadingObject) : Type 0 where
+  taller : Zero (o .transparency) → o .transparency ≡ p .transparency → o .distance ≡ p .distance → o .size ≼ p .size → DarkensNoLess sun-up o p
+  closer : sun-up → Zero (o .transparency) → o .transparency ≡ p .transparency → o .size ≡ p .size → p .distance ≼ o .distance → DarkensNoLess sun-up o p
+  darker : o .size ≡ p .size → o .distance ≡ p .distance → p .transparency ≼ o .transparency → DarkensNoLess sun-up o p
 
 -- p for o among those at the window; near obstacles are among them
 pub data WindowShadesNoLess (asked : Asked) (o p : WindowShadingObject) : Type 0 where
@@ -93,7 +94,7 @@ pub data WindowShadesNoLess (asked : Asked) (o p : WindowShadingObject) : Type 0
   overhang : Both (ofKind Overhang) o p → ReachesNoLess (asked .sun-up × asked .overhang-deepens o) o p → WindowShadesNoLess asked o p
   right-fin : Both (ofKind SideFinRight) o p → ReachesNoLess (asked .right-deepens o) o p → WindowShadesNoLess asked o p
   left-fin : Both (ofKind SideFinLeft) o p → ReachesNoLess (asked .left-deepens o) o p → WindowShadesNoLess asked o p
-  near-obstacle : Both (ofKind Obstacle) o p → DarkensNoLess o p → WindowShadesNoLess asked o p
+  near-obstacle : Both (ofKind Obstacle) o p → DarkensNoLess (asked .sun-up) o p → WindowShadesNoLess asked o p
 
 -- two sectors bounded alike, each object of the second shading no less than the first one's at its place
 pub record SectorShadesNoLess (asked : Asked) (s t : ShadingSegment) : Type 0 where
