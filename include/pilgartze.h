@@ -711,7 +711,11 @@ static inline uint64_t pilgartze_irradiance_at(const pilgartze_site *site, doubl
         reading->reflectivity, (uint8_t *)breakdown, sizeof *breakdown);
 }
 
-/* pilgartze_factor with structs. It has no day: pass the sectors of the season that is meant. */
+/* pilgartze_factor with structs. It has no day: pass the sectors of the season that is meant.
+ *
+ * As one measure of an object is dragged the factor goes one way: a taller or nearer distant obstacle, a lower or
+ * farther distant overhang, a deeper or nearer overhang or fin at the window and a taller or nearer near obstacle of
+ * transparency 0 never raise it, and a clearer near obstacle never lowers it (docs/PROMISES.md, "Dragging a handle"). */
 static inline pilgartze_factor_answer pilgartze_factor_at(uint64_t edition, double altitude, double azimuth,
                                                           const pilgartze_surface *surface,
                                                           const pilgartze_sector *sectors, size_t sector_count,

@@ -1,7 +1,7 @@
 -- The laws of sizes, proved: at one step, and in factor calls. Assumes nothing.
 use mathlib.Core.Path.{_≡_, refl, sym, ap, ap₂, _∙_, subst}
 use mathlib.Core.Bool.{Bool, true, false, cond, _&&_, _||_}
-use mathlib.Core.List.{List}
+use mathlib.Core.List.{List, _∷_, _++_}
 use Prim.Native.Nat.{ℕ}
 use lib.Dec.{T, not-T, eqb}
 use lib.Ieee.{Float}
@@ -15,6 +15,7 @@ use Rattle.doubles.proofs.Bounds.{one-number}
 use Rattle.doubles.proofs.Ranges.{both-of, within-range}
 use Rattle.words.specs.Lists.{PlaceByPlace, none, and-then}
 use Rattle.objects.specs.declared.surface.Surface.{Surface}
+use Rattle.objects.specs.declared.sectors.ShadingObject.{ShadingObject}
 use Rattle.objects.specs.declared.window.WindowShadingObject.{WindowShadingObject}
 use Rattle.objects.specs.declared.window.WindowShadingType.{WindowShadingType}
 use Rattle.objects.specs.declared.window.WindowShadingType.the-variants.{Obstacle, Overhang, SideFinRight, SideFinLeft, Reveal}
@@ -31,10 +32,20 @@ use Rattle.segments.proofs.SameWalks.{SameWalk, both-found, both-gap, both-turn
 use Rattle.shading.specs.Factor.{sunOn, hasReveal, factorIn, shadingFactor}
 use Rattle.shading.specs.Call.{sunFine, factorCall}
 use Rattle.shading_laws.specs.Premises.{Doubles, NoNanAt}
-use Rattle.shading_laws.specs.Sizes.{Asked, askedAt, nothing, Both, WindowShadesNoLess, unchanged, overhang, right-fin, left-fin, near-obstacle, SectorShadesNoLess, NoLargerAnswer, SizesAtOneStep, SizesInCalls}
-use Rattle.shading_laws.proofs.Members.{partner}
+use Rattle.shading_laws.specs.Sizes.{Asked, askedAt, nothing, Both, ShadesNoLess, same, WindowShadesNoLess, unchanged, overhang, right-fin, left-fin, near-obstacle, SectorShadesNoLess, NoLargerAnswer, SizesAtOneStep, SizesInCalls}
+use Rattle.shading_laws.proofs.Members.{partner, one-changed}
 use Rattle.shading_laws.proofs.Sizes.{one-kind, factor-no-larger}
 use Rattle.shading_laws.proofs.Accepted.{accepted-surface, accepted-near, sectors-asked, window-asked}
+
+-- ---- one object changed at any place of its list, and all else the same
+
+pub one-at-window : {asked : Asked} (before : List WindowShadingObject) (o p : WindowShadingObject) (after : List WindowShadingObject) → WindowShadesNoLess asked o p
+    → PlaceByPlace (WindowShadesNoLess asked) (before ++ o ∷ after) (before ++ p ∷ after)
+one-at-window = one-changed (λ o. unchanged refl)
+
+pub one-in-a-sector : {asked : Asked} (before : List ShadingObject) (o p : ShadingObject) (after : List ShadingObject) → ShadesNoLess asked o p
+    → PlaceByPlace (ShadesNoLess asked) (before ++ o ∷ after) (before ++ p ∷ after)
+one-in-a-sector = one-changed (λ o. same refl)
 
 -- ---- a reveal stays one
 
