@@ -21,6 +21,24 @@ enum otherwise { REFUSED_FIRST, REFUSED_LATER, NOT_REFUSED, OTHERWISE };
 /* The first and the last leaf day, the days before the first and behind the last. */
 enum edge { FIRST, LAST, BEFORE, BEHIND, EDGES };
 
+/* What of an object can be dragged: one word of it, in the way that is named. The first four are of distant objects,
+ * the others of those at the window. */
+enum handle {
+    TALLER_OBSTACLE,
+    NEARER_OBSTACLE,
+    LOWER_OVERHANG,
+    FARTHER_OVERHANG,
+    DEEPER_OVERHANG,
+    NEARER_OVERHANG,
+    DEEPER_RIGHT_FIN,
+    NEARER_RIGHT_FIN,
+    DEEPER_LEFT_FIN,
+    NEARER_LEFT_FIN,
+    TALLER_OPAQUE,
+    CLEARER,
+    HANDLES
+};
+
 /* Where a run of the program stands. */
 typedef struct soak {
     uint64_t seed;
@@ -79,6 +97,14 @@ typedef struct soak {
     uint64_t complements;                    /* accepted runs in both seasons, with the seasons exchanged */
     uint64_t overlaps;                       /* accepted runs with lists that overlap, but are not equal */
     uint64_t thinned_apart[SEASONS];         /* rows with another factor by fewer objects in one season's list */
+    uint64_t dragged[HANDLES][2];            /* pairs of accepted positions of a handle, by edition */
+    uint64_t dragged_apart[HANDLES][2];      /* of these, with another factor */
+    uint64_t dragged_a_bit[HANDLES];         /* of these, with positions that are neighbours */
+    uint64_t dragged_in_vain[HANDLES];       /* pairs with the same factor, not 0 nor 1: other objects shade more */
+    uint64_t dragged_runs[HANDLES];          /* pairs of accepted runs */
+    uint64_t dragged_runs_apart[HANDLES];    /* of these, with another sum */
+    uint64_t dragged_refused[4];             /* pairs that are refused alike, 8 to 11 */
+    uint64_t dragged_out;                    /* positions out of range, of calls that come to their steps otherwise */
 } soak;
 
 /* Ends the program, after it has told what does not hold of which call of which job. */
@@ -113,6 +139,9 @@ void try_walk(soak *in, source *from);
 /* Counts the walk of a step with that sun, and says what is wrong with its number, or NULL. */
 const char *wrong_walk(soak *in, enum call call, const job *of, enum list season, double altitude, double azimuth,
                        uint64_t number);
+/* How a walk along that list ends, by the sectors alone. */
+walk walk_along(const job *of, enum list season, double azimuth);
+int inside_the_beam(const pilgartze_surface *surface, double altitude, double azimuth);
 /* A job of one step at that time, all readings 0.5. */
 void one_step(source *from, uint64_t leap_year, double time, job *made);
 /* Prints how many walks ended in each way at each place; how many of these there were none of. */
@@ -148,6 +177,13 @@ void try_equal_lists(soak *in, source *from, const job *of);
 void try_overlap(soak *in, source *from, const job *of);
 /* The job with lists exchanged, and with the leaf days of the other season. */
 void try_complement(soak *in, source *from, const job *of);
+/* The job with a handle of some object, there or put there, through some positions, by its run or by its factor. */
+void try_drag(soak *in, source *from, const job *of, enum call call);
+/* A drag that has no law. */
+void try_drag_without_law(soak *in);
+/* Prints what was dragged, and whether some of it too seldom. */
+void tell_drags(const soak *in);
+int too_few_drags(const soak *in);
 /* Two threads at once, with the same lists. */
 void try_threads(soak *in, source *from, const job *of);
 /* One list lent for all three series. */

@@ -69,6 +69,20 @@ static void try_seasons(soak *in, source *from, const job *made)
     }
 }
 
+/* On the heap fewer, since each position is a call, and calls are slow there. */
+static void try_drags(soak *in, source *from, const job *made)
+{
+    if (one_in(from, in->on_the_heap ? 8 : 1)) {
+        try_drag(in, from, made, FACTOR);
+    }
+    if (one_in(from, 8)) {
+        try_drag(in, from, made, RUN);
+    }
+    if (one_in(from, 256)) {
+        try_drag_without_law(in);
+    }
+}
+
 static void one_turn(soak *in, job *made)
 {
     source from = source_of(in->seed, in->turn);
@@ -108,6 +122,7 @@ static void one_turn(soak *in, job *made)
     if (one_in(&from, 2)) {
         try_season(in, &from);
     }
+    try_drags(in, &from, made);
 }
 
 static void all_turns(soak *in, const options *by)
@@ -349,6 +364,7 @@ static int told(const soak *in, const options *by)
     tell_editions(in);
     tell_seasons(in);
     tell_leaf_days(in);
+    tell_drags(in);
     if (by->jobs == 1) {
         return 0;
     }
@@ -357,7 +373,7 @@ static int told(const soak *in, const options *by)
         return 1;
     }
     return (too_seldom_aimed(in) + too_few_days(in) + too_few_totals(in) + too_few_sums(in) + too_few_fins(in) +
-            too_few_seasons(in)) > 0;
+            too_few_seasons(in) + too_few_drags(in)) > 0;
 }
 
 int main(int count, char **words)

@@ -11,7 +11,7 @@ static int within_90(double angle)
     return angle >= -90.0 && angle <= 90.0;
 }
 
-static int inside_the_beam(const pilgartze_surface *surface, double altitude, double azimuth)
+int inside_the_beam(const pilgartze_surface *surface, double altitude, double azimuth)
 {
     double beside = 180.0 - surface->orientation - azimuth;
     if (beside > 180.0) {
@@ -33,7 +33,7 @@ static enum end end_at(const pilgartze_sector *sector, int first, double last, d
     return azimuth < 180.0 - sector->start && azimuth > 180.0 - sector->end ? MATCH : NO_SECTOR;
 }
 
-static walk walk_along(const job *of, enum list season, double azimuth)
+walk walk_along(const job *of, enum list season, double azimuth)
 {
     const size_t count = of->lengths[season] / sizeof(pilgartze_sector);
     double last = 0.0;

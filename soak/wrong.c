@@ -1,7 +1,7 @@
 /* Engines that are wrong in one way each, which the soak has to find: the sound library under other names, and around
  * it what the flaw does that the environment variable SOAK_FLAW names. soak/flaws says by what each must be found. What
  * flaws do to the totals of days and months stands in soak/wrong_totals.c, what they do to editions and fins in
- * soak/wrong_editions.c, and to leaf days and seasons in soak/wrong_seasons.c. */
+ * soak/wrong_editions.c, to leaf days and seasons in soak/wrong_seasons.c, and to sizes in soak/wrong_sizes.c. */
 #define _POSIX_C_SOURCE 200809L
 #include "wrong.h"
 
@@ -245,7 +245,7 @@ static int sum_of_its_own(void)
     return flaw("sum_from_the_last") || flaw("hours_from_the_last") || flaw("step_left_out") ||
            flaw("step_times_direct_first") || flaw("step_once_at_the_end") || flaw("series_step_in_the_sum") ||
            flaw("last_step_up_to_the_end") || flaw("product_not_rounded") || flaw("factor_1_for_the_sun_overhead") ||
-           takes_other_fins() || takes_other_seasons();
+           takes_other_fins() || takes_other_seasons() || takes_other_rows();
 }
 
 static double wrong_sum(double sum, const uint8_t *results, size_t rows, const run_hours *of)
@@ -376,7 +376,13 @@ static int has_obstacle(const pilgartze_sector *sector)
     return 0;
 }
 
-/* All objects of a sector but the first, or the overhangs beside an obstacle. */
+static int is_in_range(const pilgartze_object *object)
+{
+    return object->kind <= PILGARTZE_DISTANT_OVERHANG && object->height > 0.0 && object->height <= 1.0e3 &&
+           object->distance > 0.0 && object->distance <= 1.0e4;
+}
+
+/* All objects of a sector but the first, or the overhangs beside an obstacle; what is to be refused stays. */
 static void forget_objects(pilgartze_sector *sector)
 {
     const pilgartze_sector all = *sector;
@@ -385,21 +391,22 @@ static void forget_objects(pilgartze_sector *sector)
     *sector = pilgartze_free_sector(all.start, all.end);
     for (i = 0; i < all.count; i++) {
         const int overhang = all.objects[i].kind == PILGARTZE_DISTANT_OVERHANG;
-        if (later ? i == 0 : !overhang || !has_obstacle(&all)) {
+        if ((later ? i == 0 : !overhang || !has_obstacle(&all)) || !is_in_range(&all.objects[i])) {
             pilgartze_add_object(sector, all.objects[i]);
         }
     }
 }
 
 #define SECTORS_ROOM (SECTOR * PILGARTZE_MOST_SECTORS)
+#define WINDOW_ROOM (sizeof(pilgartze_window_object) * PILGARTZE_MOST_WINDOW_OBJECTS)
 
-/* The sectors as a flaw goes by them, in the room if it forgets objects. */
-static const uint8_t *sectors_taken(LIST(sectors), uint8_t *room)
+/* The sectors as a flaw goes by them, in the room if it forgets objects or takes other sizes. */
+static const uint8_t *sectors_taken(uint64_t edition, int in_a_run, LIST(sectors), uint8_t *room)
 {
     const int forgets = flaw("later_objects_forgotten") || flaw("overhangs_forgotten");
     size_t at;
     if (!forgets || sectors_length > SECTORS_ROOM || sectors_length % SECTOR != 0) {
-        return sectors;
+        return objects_by_size(edition, in_a_run, 0, sectors, sectors_length, room);
     }
     for (at = 0; at < sectors_length; at += SECTOR) {
         pilgartze_sector sector;
@@ -523,6 +530,8 @@ static pilgartze_answer run_with_own_tables(RUN_ARGUMENTS, DAYS_LIST, TOTALS_LIS
     answer = run_with_buffers(edition, SITE, start, end, step, SURFACE, SERIES, OBJECTS, DAYS, TOTALS, RESULTS);
     change_factors(edition, first_leaf_day, last_leaf_day, start, step, SURFACE, OBJECTS, results,
                    (size_t)(answer.number == 0 ? answer.count : answer.step));
+    change_rows_by_size(start, step, window, window_length, results,
+                        (size_t)(answer.number == 0 ? answer.count : answer.step));
     return answer;
 }
 
@@ -627,10 +636,12 @@ static int site_refused(SITE_NUMBERS)
 pilgartze_answer pilgartze_run(RUN_ARGUMENTS, DAYS_LIST, TOTALS_LIST, RESULTS_LIST)
 {
     static __thread uint8_t room[2][SECTORS_ROOM]; /* so that the stack is hardly more than the library's */
+    static __thread uint8_t window_room[WINDOW_ROOM];
     edition = edition_taken(edition);
     if (known_edition(edition)) {
-        summer = sectors_taken(summer, summer_length, room[0]);
-        winter = sectors_taken(winter, winter_length, room[1]);
+        summer = sectors_taken(edition, 1, summer, summer_length, room[0]);
+        winter = sectors_taken(edition, 1, winter, winter_length, room[1]);
+        window = objects_by_size(edition, 1, 1, window, window_length, window_room);
         return run_in_edition(edition, SITE, start, end, step, SURFACE, SERIES, OBJECTS, DAYS, TOTALS, RESULTS);
     }
     if (flaw("run_tries_the_site_first") && site_refused(SITE)) {
@@ -649,11 +660,13 @@ pilgartze_answer pilgartze_run(RUN_ARGUMENTS, DAYS_LIST, TOTALS_LIST, RESULTS_LI
 uint64_t pilgartze_step(STEP_ARGUMENTS, RESULTS_LIST)
 {
     static __thread uint8_t room[2][SECTORS_ROOM];
+    static __thread uint8_t window_room[WINDOW_ROOM];
     edition = flaw("step_takes_any_edition") && !known_edition(edition) ? PILGARTZE_EDITION_2 : edition_taken(edition);
     if (known_edition(edition)) {
         edition = flaw("step_has_edition_1") ? PILGARTZE_EDITION_1 : edition;
-        summer = sectors_taken(summer, summer_length, room[0]);
-        winter = sectors_taken(winter, winter_length, room[1]);
+        summer = sectors_taken(edition, 0, summer, summer_length, room[0]);
+        winter = sectors_taken(edition, 0, winter, winter_length, room[1]);
+        window = objects_by_size(edition, 0, 1, window, window_length, window_room);
         return step_in_edition(edition, SITE, time, SURFACE, READING, OBJECTS, RESULTS);
     }
     if (flaw("step_tries_the_site_first") && site_refused(SITE)) {
@@ -685,6 +698,7 @@ pilgartze_factor_answer pilgartze_factor(FACTOR_ARGUMENTS)
     static uint64_t kept;
     const uint8_t none = 0;
     uint8_t room[SECTORS_ROOM];
+    uint8_t window_room[WINDOW_ROOM];
     pilgartze_factor_answer answer;
     edition = flaw("factor_takes_any_edition") && !known_edition(edition) ? PILGARTZE_EDITION_2
                                                                           : edition_taken(edition);
@@ -695,7 +709,8 @@ pilgartze_factor_answer pilgartze_factor(FACTOR_ARGUMENTS)
     }
     if (known_edition(edition)) {
         edition = flaw("factor_has_edition_1") ? PILGARTZE_EDITION_1 : edition;
-        sectors = sectors_taken(sectors, sectors_length, room);
+        sectors = sectors_taken(edition, 0, sectors, sectors_length, room);
+        window = objects_by_size(edition, 0, 1, window, window_length, window_room);
         return factor_in_edition(edition, altitude, azimuth, SURFACE, FACTOR_OBJECTS);
     }
     answer = sound_factor(PILGARTZE_EDITION_1, altitude, azimuth, SURFACE, &none, 0, &none, 0);

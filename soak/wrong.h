@@ -80,6 +80,12 @@ pilgartze_factor_answer factor_by_other_fins(FACTOR_ARGUMENTS);
 /* The same in a row of a step with that list. */
 void change_factor(uint64_t edition, SURFACE_NUMBERS, FACTOR_LISTS, uint8_t *row);
 
+/* The objects of a list with the sizes that a flaw takes, in the room if it is one of these. */
+const uint8_t *objects_by_size(uint64_t edition, int in_a_run, int at_the_window, LIST(objects), uint8_t *room);
+/* Whether the flaw is one by which a run with a large object has other factors; what it makes of its rows. */
+int takes_other_rows(void);
+void change_rows_by_size(double start, double step, LIST(window), uint8_t *results, size_t rows);
+
 /* The sound calls, with the leaf days, the seasons and the lists that a flaw takes. */
 pilgartze_answer run_by_seasons(RUN_ARGUMENTS, DAYS_LIST, TOTALS_LIST, RESULTS_LIST);
 uint64_t step_by_seasons(STEP_ARGUMENTS, RESULTS_LIST);

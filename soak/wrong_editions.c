@@ -119,7 +119,12 @@ static uint64_t kind_taken(uint64_t edition, uint64_t kind, double difference)
     return flaw("factor_takes_reveals") && kind == PILGARTZE_REVEAL ? PILGARTZE_OVERHANG : kind;
 }
 
-/* The window's objects as the flaw takes them; how many bytes they have. */
+static int is_in_range(const pilgartze_window_object *object)
+{
+    return object->size > 0.0 && object->size <= 1.0e3 && object->distance >= 0.0 && object->distance <= 1.0e4;
+}
+
+/* The window's objects as the flaw takes them, what is to be refused among them; how many bytes they have. */
 static size_t take_objects(uint64_t edition, double difference, LIST(window), uint8_t *taken)
 {
     size_t length = 0;
@@ -127,7 +132,7 @@ static size_t take_objects(uint64_t edition, double difference, LIST(window), ui
     for (at = 0; at < window_length; at += OBJECT) {
         pilgartze_window_object object;
         memcpy(&object, window + at, OBJECT);
-        if (!left_out(edition, object.kind, difference, window, window_length)) {
+        if (!left_out(edition, object.kind, difference, window, window_length) || !is_in_range(&object)) {
             object.kind = kind_taken(edition, object.kind, difference);
             memcpy(taken + length, &object, OBJECT);
             length += OBJECT;
