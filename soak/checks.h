@@ -35,6 +35,7 @@ enum handle {
     DEEPER_LEFT_FIN,
     NEARER_LEFT_FIN,
     TALLER_OPAQUE,
+    NEARER_OPAQUE,
     CLEARER,
     HANDLES
 };

@@ -143,14 +143,6 @@ static void hold_number(soak *in, const drag *of)
     }
 }
 
-/* The law of a deeper overhang asks for a cosine above 0 inside the beam. The C library's has other last bits. */
-static int has_law(const drag *of, double altitude, double azimuth)
-{
-    const double difference = azimuth - (180.0 - of->of.surface.orientation);
-    return of->handle != DEEPER_OVERHANG || !inside_the_beam(&of->of.surface, altitude, azimuth) ||
-           cos(difference * 3.14159265358979323846 / 180.0) > 1.0e-9;
-}
-
 /* What lets in more sun at one of two positions, and should not; as one says it of the drag. */
 enum measure { OF_A_STEP, OF_A_RUN, OF_A_DAY };
 
@@ -287,21 +279,6 @@ static int keep_run(const soak *in, drag *of)
     return 1;
 }
 
-/* Whether each row that is kept of the last run has the law. */
-static int rows_have_law(const drag *of)
-{
-    const size_t rows = stored_by(RUN, &of->positions[of->count - 1].answer) / ROW;
-    size_t i;
-    for (i = 0; i < rows; i++) {
-        pilgartze_row row;
-        memcpy(&row, of->rows[of->count - 1] + i * ROW, ROW);
-        if (!has_law(of, row.altitude, row.azimuth)) {
-            return 0;
-        }
-    }
-    return 1;
-}
-
 /* Whether some accepted position has another factor, or another sum, than the first. */
 static int has_moved(const drag *of)
 {
@@ -333,8 +310,7 @@ void try_drag(soak *in, source *from, const job *of, enum call call)
             return;
         }
         hold_number(in, &made);
-        if (in_range(made.by, value) && came_to_steps(made.positions[made.count - 1].answer.number) &&
-            (call == RUN ? rows_have_law(&made) : has_law(&made, made.of.altitude, made.of.azimuth))) {
+        if (in_range(made.by, value) && came_to_steps(made.positions[made.count - 1].answer.number)) {
             hold_to_those_before(in, &made);
         }
     }
@@ -387,16 +363,13 @@ void tell_drags(const soak *in)
            (unsigned long long)in->dragged_refused[3]);
 }
 
-/* Each handle must have changed a factor, in either edition where it has a law there, also by a bit, and a sum; and it
- * must have been dragged where others shade more. On the heap there are too few jobs for that. */
+/* Each handle must have changed a factor, in either edition, also by a bit, and a sum; and it must have been dragged where others shade more. On the heap there are too few jobs for that. */
 int too_few_drags(const soak *in)
 {
     int seldom = in->dragged_out == 0;
     size_t i;
     for (i = 0; i < HANDLES; i++) {
-        const int in_edition_1 = i != DEEPER_RIGHT_FIN && i != DEEPER_LEFT_FIN;
-        seldom = seldom || (in_edition_1 && in->dragged_apart[i][0] == 0) || in->dragged_apart[i][1] == 0 ||
-                 in->dragged_a_bit[i] == 0 || in->dragged_in_vain[i] == 0 || in->dragged_runs_apart[i] == 0;
+        seldom = seldom || in->dragged_apart[i][0] == 0 || in->dragged_apart[i][1] == 0 || in->dragged_a_bit[i] == 0 || in->dragged_in_vain[i] == 0 || in->dragged_runs_apart[i] == 0;
     }
     for (i = 0; i < 4; i++) {
         seldom = seldom || in->dragged_refused[i] == 0;

@@ -20,6 +20,7 @@ static const handle_kind handles[HANDLES] = {
     {"a deeper left fin", 1, PILGARTZE_LEFT_FIN, offsetof(pilgartze_window_object, size), 1.0e3, 0, 1},
     {"a nearer left fin", 1, PILGARTZE_LEFT_FIN, offsetof(pilgartze_window_object, distance), 1.0e4, 1, 0},
     {"a taller opaque obstacle", 1, PILGARTZE_OBSTACLE, offsetof(pilgartze_window_object, size), 1.0e3, 0, 1},
+    {"a nearer opaque obstacle", 1, PILGARTZE_OBSTACLE, offsetof(pilgartze_window_object, distance), 1.0e4, 1, 0},
     {"a clearer obstacle", 1, PILGARTZE_OBSTACLE, offsetof(pilgartze_window_object, transparency), 1.0, 1, 0},
 };
 
@@ -132,7 +133,7 @@ static void drag_in_list(source *from, drag *made, enum list list)
     }
 }
 
-/* A taller obstacle is opaque: its law is of these alone. */
+/* A taller or nearer obstacle is opaque: its law is of these alone. */
 static void drag_at_the_window(source *from, drag *made)
 {
     uint8_t *const objects = made->of.lists[WINDOW];
@@ -150,7 +151,7 @@ static void drag_at_the_window(source *from, drag *made)
         object.transparency = made->handle == CLEARER ? uniform(from, 0.0, 1.0) : 0.0;
         count += at == count ? 1 : 0;
     }
-    if (made->handle == TALLER_OPAQUE) {
+    if (made->handle == TALLER_OPAQUE || made->handle == NEARER_OPAQUE) {
         object.transparency = one_in(from, 2) ? 0.0 : -0.0;
     }
     memcpy(objects + at * OBJECT, &object, OBJECT);
@@ -259,11 +260,6 @@ static void take_job(source *from, const job *of, drag *made)
     if (!one_in(from, 4)) {
         thin_out(from, &made->of);
     }
-    /* the law of a fin's depth is of edition 2 */
-    if ((made->handle == DEEPER_RIGHT_FIN || made->handle == DEEPER_LEFT_FIN) &&
-        made->of.edition == PILGARTZE_EDITION_1) {
-        made->of.edition = PILGARTZE_EDITION_2;
-    }
 }
 
 int take_up(source *from, const job *of, enum call call, drag *made)
@@ -307,6 +303,7 @@ static line shade_of(const drag *of, double a, double b)
     memcpy(&distance, object + offsetof(pilgartze_window_object, distance), sizeof distance);
     switch (of->handle) {
     case NEARER_OBSTACLE:
+    case NEARER_OPAQUE:
         return (line){-tan(a), size - on->base_height};
     case LOWER_OVERHANG:
         return (line){-1.0, on->height + on->base_height + distance * tan(a)};

@@ -29,6 +29,7 @@ static const word right_fin_far = {1, PILGARTZE_RIGHT_FIN, offsetof(pilgartze_wi
 static const word left_fin_depth = {1, PILGARTZE_LEFT_FIN, offsetof(pilgartze_window_object, size), 1.0e3};
 static const word left_fin_far = {1, PILGARTZE_LEFT_FIN, offsetof(pilgartze_window_object, distance), 1.0e4};
 static const word obstacle_height = {1, PILGARTZE_OBSTACLE, offsetof(pilgartze_window_object, size), 1.0e3};
+static const word obstacle_far = {1, PILGARTZE_OBSTACLE, offsetof(pilgartze_window_object, distance), 1.0e4};
 static const word transparency = {1, PILGARTZE_OBSTACLE, offsetof(pilgartze_window_object, transparency), 1.0};
 
 enum taken {
@@ -81,6 +82,8 @@ static const size_flaw size_flaws[] = {
     {"deep_left_fin_folded", &left_fin_depth, FOLDED, 2.0, EVERYWHERE},
     {"deep_fin_folded_in_edition_2", &right_fin_depth, FOLDED, 10.0, IN_EDITION_2},
     {"deep_fin_folded_in_edition_2", &left_fin_depth, FOLDED, 10.0, IN_EDITION_2},
+    {"deep_fin_folded_in_edition_1", &right_fin_depth, FOLDED, 10.0, IN_EDITION_1},
+    {"deep_fin_folded_in_edition_1", &left_fin_depth, FOLDED, 10.0, IN_EDITION_1},
     {"fin_depth_last_bit", &right_fin_depth, LAST_BIT, 0.0, EVERYWHERE},
     {"fin_depth_last_bit", &left_fin_depth, LAST_BIT, 0.0, EVERYWHERE},
     {"far_right_fin_folded", &right_fin_far, FOLDED, 1.0, EVERYWHERE},
@@ -95,6 +98,9 @@ static const size_flaw size_flaws[] = {
     {"obstacle_height_last_bit", &obstacle_height, LAST_BIT, 0.0, EVERYWHERE},
     {"obstacle_of_1000_is_none", &obstacle_height, MOST_AS_LEAST, 0.0, EVERYWHERE},
     {"tall_obstacle_of_minus_0_folded", &obstacle_height, FOLDED_AT_MINUS_0, 20.0, EVERYWHERE},
+    {"far_obstacle_folded", &obstacle_far, FOLDED, 20.0, EVERYWHERE},
+    {"obstacle_distance_last_bit", &obstacle_far, LAST_BIT, 0.0, EVERYWHERE},
+    {"obstacle_at_minus_0_is_far", &obstacle_far, MINUS_0_AS_MOST, 0.0, EVERYWHERE},
     {"clear_obstacle_folded", &transparency, FOLDED, 0.5, EVERYWHERE},
     {"transparency_last_bit", &transparency, LAST_BIT, 0.0, EVERYWHERE},
     {"transparency_1_is_none", &transparency, MOST_AS_LEAST, 0.0, EVERYWHERE},
