@@ -11,7 +11,6 @@ use Rattle.words.specs.Lists.{PlaceByPlace}
 use Rattle.words.specs.Words.{wordCount, wordAt, doubleAt}
 use Rattle.sun.specs.Site.{leapYear}
 use Rattle.simulation_time.specs.Steps.{stepCount, timeAt}
-use Rattle.objects.specs.declared.surface.Surface.{Surface}
 use Rattle.objects.specs.Records.{recordsFrom, sectorCount, sectorsOf, windowCount, windowObjectsOf}
 use Rattle.shading_laws.specs.Premises.{Doubles, Holds, NoNanAt}
 use Rattle.shading_laws.specs.Sizes.{nothing, WindowShadesNoLess, SectorShadesNoLess}

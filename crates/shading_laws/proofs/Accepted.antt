@@ -1,22 +1,19 @@
 -- What the laws assume, of a surface, a sun and lists that a call accepts. Assumes nothing.
 use mathlib.Core.Logic.{inr}
-use mathlib.Core.List.{List, List·Memᴰ}
+use mathlib.Core.List.{List}
 use Prim.Native.Nat.{ℕ, _*_, _^_}
 use lib.Dec.{T}
 use lib.Ieee.{Float, neg, add, sub, mul, lt, le}
 use Rattle.doubles.specs.Arithmetic.{_⊕_, _⊖_, _⊗_, whole, decimal}
-use Rattle.doubles.specs.Functions.{toRadians}
-use Rattle.doubles.specs.Order.{_≼_, _≺_, InRange, Number}
+use Rattle.doubles.specs.Order.{InRange, Number}
 use Rattle.doubles.proofs.Order.{lt→le}
-use Rattle.doubles.proofs.Intervals.{in-number, widen, add-in, sub-in, mul-in}
-use Rattle.angles.specs.Sine.{tangent}
+use Rattle.doubles.proofs.Intervals.{in-number, add-in, sub-in, mul-in}
 use Rattle.angles.proofs.FirstQuarter.{mostTangent, tangent-up}
 use Rattle.words.specs.Lists.{PlaceByPlace}
 use Rattle.objects.specs.declared.surface.Surface.{Surface}
 use Rattle.objects.specs.declared.sectors.ShadingObject.{ShadingObject}
 use Rattle.objects.specs.declared.sectors.ShadingSegment.{ShadingSegment}
 use Rattle.objects.specs.declared.window.WindowShadingObject.{WindowShadingObject}
-use Rattle.objects.specs.Objects.{counted}
 use Rattle.objects.specs.Records.{sectorsOf, windowObjectsOf}
 use Rattle.objects.specs.Surface.{surfaceFine}
 use Rattle.object_checks.specs.Checks.{sectorsFine, windowFine}

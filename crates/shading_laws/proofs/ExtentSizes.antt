@@ -1,15 +1,14 @@
 -- How an object's extent moves with its measures. Assumes nothing.
-use mathlib.Core.Path.{_≡_, refl, sym, subst}
+use mathlib.Core.Path.{_≡_, refl, subst}
 use mathlib.Core.Logic.{_⊎_, inl, inr}
-use mathlib.Core.Bool.{Bool, true, false, not}
-use lib.Dec.{T}
+use mathlib.Core.Bool.{Bool, true, false}
 use lib.Ieee.{Float, sub, isNan}
 use Rattle.doubles.specs.Arithmetic.{_⊕_, _⊖_, _⊗_, _⊘_, whole}
 use Rattle.doubles.specs.Functions.{maxOf2, floatMax}
 use Rattle.doubles.specs.Order.{_≼_, _≺_, Number}
-use Rattle.doubles.proofs.Order.{le-refl, le-trans}
-use Rattle.doubles.proofs.Monotone.{add-mono, sub-mono, mul-mono, div-mono}
-use Rattle.doubles.proofs.Bounds.{zero-number, add-operands, sub-operands, mul-operands, div-operands, mul-nonneg, cut-operand}
+use Rattle.doubles.proofs.Order.{le-refl}
+use Rattle.doubles.proofs.Monotone.{add-mono, sub-mono, div-mono}
+use Rattle.doubles.proofs.Bounds.{zero-number, add-operands, sub-operands, div-operands, mul-nonneg, cut-operand}
 use Rattle.doubles.proofs.Folds.{max-left}
 use Rattle.doubles.proofs.Intervals.{mul-keeps, mul-either, div-either}
 use Rattle.doubles.proofs.MinMax.{max-mono, float-max-is}

@@ -1,7 +1,7 @@
 -- Objects that shade no less dominate, so that the factor is no larger. Assumes nothing.
 use mathlib.Core.Path.{_≡_, sym, ap, ap₂, _∙_, subst}
-use mathlib.Core.Logic.{_⊎_, inl, inr}
-use mathlib.Core.Bool.{Bool, true, false}
+use mathlib.Core.Logic.{_⊎_, inr}
+use mathlib.Core.Bool.{true, false}
 use mathlib.Core.List.{List, List·Memᴰ}
 use lib.Dec.{T, eqb, eqb→eq}
 use lib.Ieee.{Float}
@@ -25,7 +25,7 @@ use Rattle.fins.specs.Fins.{finWidth}
 use Rattle.shading.specs.declared.sun_on_surface.SunOnSurface.{SunOnSurface}
 use Rattle.shading.specs.Factor.{obstacleExtents, overhangExtents, windowOverhangExtents, rightFinExtents, leftFinExtents, nearObstacleHeight, reductionFactor}
 use Rattle.shading_laws.specs.Premises.{AcceptedSurface, NoNanExtent, AcceptedNear}
-use Rattle.shading_laws.specs.Sizes.{askedAt, Both, ShadesNoLess, same, taller-obstacle, nearer-obstacle, lower-overhang, farther-overhang, ReachesNoLess, deeper, nearer, DarkensNoLess, taller, closer, darker, WindowShadesNoLess, unchanged, overhang, right-fin, left-fin, near-obstacle}
+use Rattle.shading_laws.specs.Sizes.{askedAt, Both, ShadesNoLess, same, taller-obstacle, nearer-obstacle, lower-overhang, farther-overhang, deeper, nearer, DarkensNoLess, taller, closer, darker, WindowShadesNoLess, unchanged, overhang, right-fin, left-fin, near-obstacle}
 use Rattle.shading_laws.proofs.Sides.{side-number, nearHeight, near-between, near-taller, near-darker}
 use Rattle.shading_laws.proofs.Members.{Partner, partners-reach}
 use Rattle.shading_laws.proofs.Bounds.{height-side, nearShade, near-shade-between}

@@ -4,14 +4,13 @@ use mathlib.Core.Path.{_≡_, refl}
 use mathlib.Core.Logic.{_⊎_, inl, inr}
 use mathlib.Core.Bool.{Bool, true, false, cond, _&&_}
 use Prim.Native.Nat.{_*_, _^_}
-use lib.Dec.{T}
 use lib.Ieee.{Float, neg, add, sub, mul, div, lt, le, isNan}
 use Rattle.doubles.specs.Arithmetic.{_⊕_, _⊖_, _⊗_, _⊘_, decimal, whole, bits}
 use Rattle.doubles.specs.Functions.{toRadians, toDegrees, pi}
 use Rattle.doubles.specs.Order.{_≼_, _≺_, InRange, Bounded, Number}
 use Rattle.doubles.proofs.Order.{lt→le, lt-excludes, lt-of-not-le}
 use Rattle.doubles.proofs.Bounds.{zero-number, one-number}
-use Rattle.doubles.proofs.Intervals.{holdsEnds, in-number, own-range, widen, add-in, mul-in, div-by-in, bounded-number, neg-bounded, more-bounded, add-bounded, sub-bounded, mul-bounded, div-by-bounded, constant}
+use Rattle.doubles.proofs.Intervals.{in-number, own-range, widen, add-in, mul-in, div-by-in, bounded-number, neg-bounded, more-bounded, add-bounded, sub-bounded, mul-bounded, div-by-bounded, constant}
 use Rattle.angles.specs.declared.SinCos.{SinCos}
 use Rattle.angles.specs.Sine.{sine}
 use Rattle.angles.proofs.Computed.{steps}
