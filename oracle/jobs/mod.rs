@@ -9,6 +9,7 @@ pub mod lent;
 mod season_counts;
 pub mod seasons;
 pub mod self_test;
+pub mod sizes;
 pub mod tables;
 pub mod totals;
 pub mod wrong;
@@ -27,6 +28,7 @@ use crate::random::Random;
 use crate::shading::call::Call;
 use crate::shading::editions::{any_edition, has_fins_on_both_sides, FinsMet, Seen};
 use crate::shading::laws::Law;
+use crate::shading::sizes::SizeLaw;
 use crate::shading::smaller;
 use crate::shading::walks::Walks;
 use crate::stand_ins::Beyond;
@@ -34,6 +36,7 @@ use cases::{Aims, Maker, MOST_BYTES};
 use laws::{keeps_its_figure, leaf_days_change_nothing, try_laws, Pairs};
 use lent::{Lent, Library, DAYS_LIST, TOTALS_LIST};
 use season_counts::SeasonsMet;
+use sizes::{try_sizes, SizePairs};
 use tables::Tables;
 use totals::TotalsMet;
 
@@ -155,6 +158,7 @@ pub struct Plan<'a> {
     /// Whether answers are compared; else what follows is tried alone.
     pub compared: bool,
     pub laws: &'a [Law],
+    pub sizes: &'a [SizeLaw],
     /// Whether runs by the hour are held to the figures that they had without the step in the sum.
     pub by_the_hour: bool,
     /// Whether jobs with equal lists are run with other leaf days too.
@@ -716,7 +720,9 @@ struct Comparison<'a> {
     lent: Lent,
     met: Met,
     pairs: Pairs,
+    size_pairs: SizePairs,
     laws_random: Random,
+    sizes_random: Random,
     editions_random: Random,
     tally: Tally,
     /// Whether the job under way is a random one.
@@ -767,7 +773,8 @@ impl Comparison<'_> {
             let (pairs, random) = (&mut self.pairs, &mut self.laws_random);
             try_laws(self.plan.laws, pairs, random, job, &got, &mut self.lent)?;
         }
-        Ok(())
+        let (pairs, random) = (&mut self.size_pairs, &mut self.sizes_random);
+        try_sizes(self.plan.sizes, pairs, random, job, &got, &mut self.lent)
     }
 
     fn job_and_singles(&mut self, maker: &mut Maker, job: &Job, also_by_new: bool) -> Outcome {
@@ -897,7 +904,8 @@ impl Comparison<'_> {
             }
             settings.detail("equal lists, same by other leaf days", self.leaf_days);
         }
-        self.pairs.report(settings, self.plan.laws)
+        self.pairs.report(settings, self.plan.laws)?;
+        self.size_pairs.report(settings, self.plan.sizes)
     }
 
     /// The call of one step.
@@ -969,7 +977,9 @@ pub fn section(settings: &Settings, library: &Library, plan: Plan) -> Outcome {
         lent: Lent::new(*library, MOST_BYTES),
         met: Met::default(),
         pairs: Pairs::default(),
+        size_pairs: SizePairs::default(),
         laws_random: settings.random("laws of jobs"),
+        sizes_random: settings.random("sizes of jobs"),
         editions_random: settings.random("editions of jobs"),
         tally: Tally::default(),
         by_chance: false,

@@ -213,6 +213,7 @@ pub fn run(seed: u64) -> Outcome {
         aimed: Plan::aimed_for(&fixed, 1),
         compared: true,
         laws: &[],
+        sizes: &[],
         by_the_hour: false,
         leaf_days: false,
     };

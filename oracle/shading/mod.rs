@@ -5,9 +5,11 @@
 pub mod call;
 pub mod edges;
 pub mod editions;
+pub mod handles;
 pub mod laws;
 pub mod scenes;
 pub mod self_test;
+pub mod sizes;
 pub mod walks;
 pub mod wrong;
 
@@ -19,6 +21,7 @@ use crate::random::Random;
 use call::{Call, Scene, COUNT, TRIPLES};
 use editions::{has_fins_on_both_sides, other_edition, FinsMet, Seen};
 use laws::{try_laws, Law, Pairs, LAWS};
+use sizes::{premises_are_needed, try_refused, try_sizes, SizeLaw, SizePairs, SIZE_LAWS};
 use walks::Walks;
 
 /// For each case of other functions, this many calls.
@@ -240,6 +243,7 @@ pub struct Plan<'a> {
     /// Whether answers are compared; else the laws are tried alone.
     pub compared: bool,
     pub laws: &'a [Law],
+    pub sizes: &'a [SizeLaw],
 }
 
 /// All edges, then random calls up to the count; which of both each is.
@@ -254,13 +258,15 @@ fn calls<'a>(
 }
 
 pub fn run(settings: &Settings, function: FactorCall, plan: Plan) -> Outcome {
-    let (compared, laws) = (plan.compared, plan.laws);
+    let (compared, laws, sizes) = (plan.compared, plan.laws, plan.sizes);
     let mut judge = Judge::new();
     let mut lent = Lent::new(function);
     let mut met = Met::default();
     let mut tally = Tally::default();
     let mut pairs = Pairs::default();
+    let mut size_pairs = SizePairs::default();
     let mut random = settings.random("laws of the factor");
+    let mut sizes_random = settings.random("sizes");
     let mut factor_random = settings.random("factor");
     for (call, by_chance) in calls(&mut factor_random, plan.edges, TIMES * settings.count) {
         let got = lent.call(&call)?;
@@ -279,16 +285,23 @@ pub fn run(settings: &Settings, function: FactorCall, plan: Plan) -> Outcome {
             tally.both_nan += right.factor.is_nan() as u64;
         }
         tally.compared += 1;
+        let mut answer = |call: &Call| lent.call(call);
+        let (pairs_of_sizes, of_sizes) = (&mut size_pairs, &mut sizes_random);
         if got.number == 0 {
-            let answer = |call: &Call| lent.call(call);
-            try_laws(laws, &mut pairs, &mut random, &call, got.factor, answer)?;
+            let factor = got.factor;
+            try_laws(laws, &mut pairs, &mut random, &call, factor, &mut answer)?;
+            try_sizes(sizes, pairs_of_sizes, of_sizes, &call, factor, answer)?;
+        } else {
+            let number = got.number;
+            try_refused(sizes, pairs_of_sizes, of_sizes, &call, number, answer)?;
         }
     }
     settings.report("factor", With::Published, tally)?;
     if compared {
         met.report(settings)?;
     }
-    pairs.report(settings, laws)
+    pairs.report(settings, laws)?;
+    size_pairs.report(settings, sizes)
 }
 
 pub fn section(settings: &Settings, function: FactorCall) -> Outcome {
@@ -297,6 +310,9 @@ pub fn section(settings: &Settings, function: FactorCall) -> Outcome {
         edges: &edges::all(),
         compared: true,
         laws: &LAWS,
+        sizes: &SIZE_LAWS,
     };
-    run(settings, function, plan)
+    run(settings, function, plan)?;
+    let mut lent = Lent::new(function);
+    premises_are_needed(settings, |call| lent.call(call))
 }

@@ -51,6 +51,7 @@ pub fn run(seed: u64) -> Outcome {
         edges: &edges,
         compared: true,
         laws: &[],
+        sizes: &[],
     };
     let by_chance = Plan { edges: &[], ..plan };
     section(settings, wrong::without_flaw(), plan)
