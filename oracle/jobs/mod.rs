@@ -14,6 +14,7 @@ pub mod tables;
 pub mod totals;
 pub mod wrong;
 mod wrong_seasons;
+mod wrong_sizes;
 mod wrong_totals;
 
 use crate::comparison::{same, shown, Outcome, Settings, Tally, With};

@@ -115,16 +115,14 @@ impl SizePairs {
         settings.heading("    sizes of jobs: pairs, with other factors, with another sum");
         for &law in laws {
             let counts = [&self.tried, &self.factors, &self.sums].map(|all| all[law as usize]);
-            let words = law.words();
+            let [tried, factors, sums] = counts;
+            let line = format!("{:<30} {tried:>10} {factors:>10} {sums:>10}", law.words());
             if counts.contains(&0) {
                 return Err(format!(
-                    "run: {words}, pairs, with other factors, with another sum: {counts:?}"
+                    "run: pairs, with other factors, with another sum: {line}"
                 ));
             }
-            let [tried, factors, sums] = counts;
-            settings.heading(&format!(
-                "    {words:<30} {tried:>12} {factors:>12} {sums:>12}"
-            ));
+            settings.heading(&format!("    {line}"));
         }
         Ok(())
     }
@@ -145,7 +143,7 @@ impl SizePairs {
                 return Err(format!("run: other sizes {words}: {counts:?}"));
             }
             settings.heading(&format!(
-                "    {words:<30} {tried:>12} {factors:>12} {totals:>12} {left:>12}"
+                "    {words:<30} {tried:>10} {factors:>10} {totals:>10} {left:>10}"
             ));
         }
         Ok(())

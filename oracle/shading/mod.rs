@@ -12,6 +12,7 @@ pub mod self_test;
 pub mod sizes;
 pub mod walks;
 pub mod wrong;
+mod wrong_sizes;
 
 use crate::comparison::{same, shown, Outcome, Settings, Tally, With};
 use crate::guarded::{Guarded, Side};

@@ -195,12 +195,13 @@ impl Asked {
 
 // --- Counting ---
 
-/// How many pairs of calls were tried for each law, and how many of them had different factors in each
-/// edition; a pair of the same calls does not count.
+/// How many pairs of calls were tried for each law, how many of them had different factors in each
+/// edition, and how many of these were a few ulps apart; a pair of the same calls does not count.
 #[derive(Default)]
 pub struct SizePairs {
     tried: [u64; SIZE_LAWS.len()],
     changed: [[u64; EDITIONS.len()]; SIZE_LAWS.len()],
+    by_ulps: [u64; SIZE_LAWS.len()],
     /// Pairs that were refused 8 to 11.
     refused: [u64; 4],
     untried: Untried,
@@ -234,32 +235,38 @@ impl Untried {
 }
 
 impl SizePairs {
-    fn note(&mut self, law: SizeLaw, edition: u64, changed: bool) {
+    fn note(&mut self, law: SizeLaw, edition: u64, nearby: bool, changed: bool) {
         self.tried[law as usize] += 1;
         let place = EDITIONS.iter().position(|&known| known == edition);
         if let (Some(place), true) = (place, changed) {
             self.changed[law as usize][place] += 1;
+            self.by_ulps[law as usize] += nearby as u64;
         }
+    }
+
+    /// The line of a law. None of its counts may be 0, but for a deeper fin in edition 1.
+    fn report_law(&self, settings: &Settings, law: SizeLaw) -> Outcome {
+        let place = law as usize;
+        let (tried, [first, second]) = (self.tried[place], self.changed[place]);
+        let by_ulps = self.by_ulps[place];
+        let words = law.words();
+        let line = format!("{words:<30} {tried:>10} {first:>10} {second:>10} {by_ulps:>10}");
+        if [tried, second, by_ulps].contains(&0) || (law != DeeperFin && first == 0) {
+            return Err(format!(
+                "factor: pairs, other factors by edition, by ulps: {line}"
+            ));
+        }
+        settings.heading(&format!("    {line}"));
+        Ok(())
     }
 
     pub fn report(&self, settings: &Settings, laws: &[SizeLaw]) -> Outcome {
         if laws.is_empty() {
             return Ok(());
         }
-        settings.heading("    sizes: pairs, other factors by edition");
+        settings.heading("    sizes: pairs, other factors in editions 1 and 2, by a few ulps");
         for &law in laws {
-            let (tried, changed) = (self.tried[law as usize], self.changed[law as usize]);
-            let words = law.words();
-            let in_edition_1 = law != DeeperFin;
-            if tried == 0 || (in_edition_1 && changed[0] == 0) || changed[1] == 0 {
-                return Err(format!(
-                    "factor: {tried} pairs with {words}, other factors by edition {changed:?}"
-                ));
-            }
-            let [first, second] = changed;
-            settings.heading(&format!(
-                "    {words:<30} {tried:>12} {first:>12} {second:>12}"
-            ));
+            self.report_law(settings, law)?;
         }
         for (number, count) in REFUSED.zip(self.refused) {
             if count == 0 {
@@ -347,7 +354,11 @@ pub fn try_sizes(
     pairs.untried.note(law, asked);
     let mut last = first_call(law, random, call);
     if last != *call {
-        factor = answer(&last)?.factor;
+        let got = answer(&last)?;
+        if got.number != 0 {
+            return Err(broken(law, call, factor, &last, got));
+        }
+        factor = got.factor;
     }
     for nearby in [false, true] {
         let darker = random.below(2) == 0;
@@ -365,7 +376,7 @@ pub fn try_sizes(
         if got.number != 0 || !in_order(darker, factor, got.factor) {
             return Err(broken(law, &last, factor, &other, got));
         }
-        pairs.note(law, call.edition, got.factor != factor);
+        pairs.note(law, call.edition, nearby, got.factor != factor);
         (last, factor) = (other, got.factor);
     }
     Ok(())
