@@ -29,7 +29,7 @@ use crate::random::Random;
 use crate::shading::call::Call;
 use crate::shading::editions::{any_edition, has_fins_on_both_sides, FinsMet, Seen};
 use crate::shading::laws::Law;
-use crate::shading::sizes::SizeLaw;
+use crate::shading::sizes::{SizeLaw, REFUSED};
 use crate::shading::smaller;
 use crate::shading::walks::Walks;
 use crate::stand_ins::Beyond;
@@ -774,8 +774,12 @@ impl Comparison<'_> {
             let (pairs, random) = (&mut self.pairs, &mut self.laws_random);
             try_laws(self.plan.laws, pairs, random, job, &got, &mut self.lent)?;
         }
-        let (pairs, random) = (&mut self.size_pairs, &mut self.sizes_random);
-        try_sizes(self.plan.sizes, pairs, random, job, &got, &mut self.lent)
+        let number = got.answer.number;
+        if !self.plan.sizes.is_empty() && (number == 0 || REFUSED.contains(&number)) {
+            let (pairs, random) = (&mut self.size_pairs, &mut self.sizes_random);
+            try_sizes(self.plan.sizes, pairs, random, job, &got, &mut self.lent)?;
+        }
+        Ok(())
     }
 
     fn job_and_singles(&mut self, maker: &mut Maker, job: &Job, also_by_new: bool) -> Outcome {

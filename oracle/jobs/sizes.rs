@@ -12,9 +12,10 @@ use crate::published::shading::Numbers;
 use crate::published::totals::days_of;
 use crate::random::Random;
 use crate::shading::call::Call;
-use crate::shading::handles::Drag;
 use crate::shading::scenes::Aim;
-use crate::shading::sizes::{any_law, in_order, Asked, SizeLaw, Untried, REFUSED, SIZE_LAWS};
+use crate::shading::sizes::{
+    any_law, in_order, Asked, SizeLaw, Trial, Untried, REFUSED, SIZE_LAWS,
+};
 
 /// Where the other job of a pair has other sizes.
 #[derive(Clone, Copy, PartialEq)]
@@ -280,31 +281,41 @@ fn asked_of(job: &Job, rows: &Rows) -> Asked {
     })
 }
 
-/// One of the laws that are about an object of the job, in a season by chance.
-fn any_law_about(laws: &[SizeLaw], random: &mut Random, job: &Job, aim: &Aim) -> Option<SizeLaw> {
+/// One of the laws that are about an object of the job, in a season by chance, if there is one and no
+/// extent is NaN.
+fn any_trial(
+    laws: &[SizeLaw],
+    untried: &mut Untried,
+    random: &mut Random,
+    job: &Job,
+    left: &Left<RunAnswer>,
+) -> Option<Trial> {
+    let rows = Rows::stored(left);
+    if !rows.0.iter().all(|row| no_nan_extent(&numbers(job, row))) {
+        untried.extent += 1;
+        return None;
+    }
+    let aim = Aim::half_shaded(&any_sun(random, job, &rows));
     let objects = Call {
         numbers: aim.numbers,
         ..job.objects(random.below(2) == 0)
     };
-    any_law(laws, random, &objects)
+    let law = any_law(laws, random, &objects)?;
+    let asked = asked_of(job, &rows);
+    untried.note(law, asked);
+    Some(Trial { law, aim, asked })
 }
 
-/// The job with other sizes there.
-fn changed(
-    law: SizeLaw,
-    place: Place,
-    random: &mut Random,
-    job: &Job,
-    drag: &Drag,
-    asked: Asked,
-) -> Job {
+/// The job with other sizes there, on the darker side or not.
+fn changed(trial: &Trial, place: Place, random: &mut Random, job: &Job, darker: bool) -> Job {
+    let drag = trial.drag(darker, random.below(8) == 0);
     let mut other = job.clone();
     for &summer in place.seasons() {
         let mut call = Call {
-            numbers: drag.aim.numbers,
+            numbers: trial.aim.numbers,
             ..other.objects(summer)
         };
-        law.change(random, &mut call, drag, asked);
+        trial.law.change(random, &mut call, &drag, trial.asked);
         match summer {
             true => other.summer = call.sectors,
             false => other.winter = call.sectors,
@@ -327,50 +338,31 @@ pub fn try_sizes(
     left: &Left<RunAnswer>,
     lent: &mut Lent,
 ) -> Outcome {
-    let number = left.answer.number;
-    if laws.is_empty() || !(number == 0 || REFUSED.contains(&number)) {
-        return Ok(());
-    }
-    let rows = Rows::stored(left);
-    if !rows.0.iter().all(|row| no_nan_extent(&numbers(job, row))) {
-        pairs.untried.extent += 1;
-        return Ok(());
-    }
-    let aim = Aim::half_shaded(&any_sun(random, job, &rows));
-    let Some(law) = any_law_about(laws, random, job, &aim) else {
+    let Some(trial) = any_trial(laws, &mut pairs.untried, random, job, left) else {
         return Ok(());
     };
-    let asked = asked_of(job, &rows);
-    pairs.untried.note(law, asked);
-    let place = Place::any(law, random);
+    let place = Place::any(trial.law, random);
     let darker = random.below(2) == 0;
-    let drag = Drag {
-        aim: &aim,
-        darker,
-        nearby: random.below(8) == 0,
-    };
-    let other = changed(law, place, random, job, &drag, asked);
+    let other = changed(&trial, place, random, job, darker);
     if other == *job {
         return Ok(());
     }
     let got = lent.run(&other)?;
     let pair = Pair {
-        law,
+        law: trial.law,
         place,
         darker,
         jobs: [job, &other],
         left: [left, &got],
     };
-    match pair.broken() {
-        None => pairs.note(&pair),
-        Some(words) => {
-            return Err(format!(
-                "run breaks the law of the {}: {words}\n{}\nand\n{}",
-                law.name(),
-                super::shown_job(job),
-                super::shown_job(&other),
-            ))
-        }
+    if let Some(words) = pair.broken() {
+        return Err(format!(
+            "run breaks the law of the {}: {words}\n{}\nand\n{}",
+            pair.law.name(),
+            super::shown_job(job),
+            super::shown_job(&other),
+        ));
     }
+    pairs.note(&pair);
     Ok(())
 }

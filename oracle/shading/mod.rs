@@ -22,7 +22,7 @@ use crate::random::Random;
 use call::{Call, Scene, COUNT, TRIPLES};
 use editions::{has_fins_on_both_sides, other_edition, FinsMet, Seen};
 use laws::{try_laws, Law, Pairs, LAWS};
-use sizes::{premises_are_needed, try_refused, try_sizes, SizeLaw, SizePairs, SIZE_LAWS};
+use sizes::{premises_are_needed, try_other_sizes, SizeLaw, SizePairs, SIZE_LAWS};
 use walks::Walks;
 
 /// For each case of other functions, this many calls.
@@ -286,15 +286,20 @@ pub fn run(settings: &Settings, function: FactorCall, plan: Plan) -> Outcome {
             tally.both_nan += right.factor.is_nan() as u64;
         }
         tally.compared += 1;
-        let mut answer = |call: &Call| lent.call(call);
-        let (pairs_of_sizes, of_sizes) = (&mut size_pairs, &mut sizes_random);
         if got.number == 0 {
-            let factor = got.factor;
-            try_laws(laws, &mut pairs, &mut random, &call, factor, &mut answer)?;
-            try_sizes(sizes, pairs_of_sizes, of_sizes, &call, factor, answer)?;
-        } else {
-            let number = got.number;
-            try_refused(sizes, pairs_of_sizes, of_sizes, &call, number, answer)?;
+            let answer = |call: &Call| lent.call(call);
+            try_laws(laws, &mut pairs, &mut random, &call, got.factor, answer)?;
+        }
+        if !sizes.is_empty() {
+            let answer = |call: &Call| lent.call(call);
+            try_other_sizes(
+                sizes,
+                &mut size_pairs,
+                &mut sizes_random,
+                &call,
+                got,
+                answer,
+            )?;
         }
     }
     settings.report("factor", With::Published, tally)?;
@@ -303,6 +308,14 @@ pub fn run(settings: &Settings, function: FactorCall, plan: Plan) -> Outcome {
     }
     pairs.report(settings, laws)?;
     size_pairs.report(settings, sizes)
+}
+
+/// The published function by itself, whether or not the sun is in range.
+fn published(call: &Call) -> Result<FactorAnswer, String> {
+    let mut judge = Judge::new();
+    let judged = judge.of_any_sun(call.edition, &call.numbers, &call.sectors, &call.window);
+    let answer = judged.map(|judged| judged.answer);
+    answer.ok_or_else(|| format!("lists that are not as described\n{}", call.shown()))
 }
 
 pub fn section(settings: &Settings, function: FactorCall) -> Outcome {
@@ -315,5 +328,5 @@ pub fn section(settings: &Settings, function: FactorCall) -> Outcome {
     };
     run(settings, function, plan)?;
     let mut lent = Lent::new(function);
-    premises_are_needed(settings, |call| lent.call(call))
+    premises_are_needed(settings, published, |call| lent.call(call))
 }

@@ -4,7 +4,7 @@
 use super::laws::LAWS;
 use super::sizes::{premises_are_needed, SIZE_LAWS};
 use super::walks::{all_ends, Walks};
-use super::{edges, run as section, wrong, Lent, Plan};
+use super::{edges, published, run as section, wrong, Lent, Plan};
 use crate::comparison::{Outcome, Settings};
 use crate::published::interface;
 
@@ -57,12 +57,20 @@ fn sizes_found(seed: u64) -> Result<usize, String> {
         let sizes = &[law];
         count += each_found(settings, Plan { sizes, ..plan }, &wrong::lawless_sizes(law))?;
     }
-    for wrong in &wrong::premises_missed() {
+    Ok(count + premises_missed_found(settings)?)
+}
+
+/// The calls that lack a premise: a factor that does not rise must be found, in Rattle's place and, as
+/// it refuses such a sun, in that of the published Rust.
+fn premises_missed_found(settings: &Settings) -> Result<usize, String> {
+    let missed = wrong::premises_missed();
+    for wrong in &missed {
         let mut lent = Lent::new(wrong.2);
-        told(wrong, premises_are_needed(settings, |call| lent.call(call)))?;
-        count += 1;
+        let mut answer = |call: &_| lent.call(call);
+        told(wrong, premises_are_needed(settings, published, &mut answer))?;
+        told(wrong, premises_are_needed(settings, answer, published))?;
     }
-    Ok(count)
+    Ok(missed.len())
 }
 
 /// A place that no walk ended at is an error, whichever it is.

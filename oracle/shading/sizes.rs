@@ -95,16 +95,18 @@ impl SizeLaw {
 
     /// Of several objects there is none.
     pub fn handle(self) -> Option<Handle> {
+        const OBSTACLES: &[u64] = &[OBSTACLE];
+        const OVERHANGS: &[u64] = &[OVERHANG];
         const FINS: &[u64] = &[RIGHT_FIN, LEFT_FIN];
         let (distant, kinds, place, darker_upwards) = match self {
-            TallerDistantObstacle => (true, &[OBSTACLE][..], SIZE, true),
-            NearerDistantObstacle => (true, &[OBSTACLE][..], DISTANCE, false),
-            DeeperWindowOverhang => (false, &[OVERHANG][..], SIZE, true),
-            TallerNearObstacle => (false, &[OBSTACLE][..], SIZE, true),
-            ClearerNearObstacle => (false, &[OBSTACLE][..], TRANSPARENCY, false),
-            LowerDistantOverhang => (true, &[OVERHANG][..], SIZE, false),
-            FartherDistantOverhang => (true, &[OVERHANG][..], DISTANCE, true),
-            NearerWindowOverhang => (false, &[OVERHANG][..], DISTANCE, false),
+            TallerDistantObstacle => (true, OBSTACLES, SIZE, true),
+            NearerDistantObstacle => (true, OBSTACLES, DISTANCE, false),
+            DeeperWindowOverhang => (false, OVERHANGS, SIZE, true),
+            TallerNearObstacle => (false, OBSTACLES, SIZE, true),
+            ClearerNearObstacle => (false, OBSTACLES, TRANSPARENCY, false),
+            LowerDistantOverhang => (true, OVERHANGS, SIZE, false),
+            FartherDistantOverhang => (true, OVERHANGS, DISTANCE, true),
+            NearerWindowOverhang => (false, OVERHANGS, DISTANCE, false),
             NearerFin => (false, FINS, DISTANCE, false),
             DeeperFin => (false, FINS, SIZE, true),
             Several => return None,
@@ -139,47 +141,50 @@ impl SizeLaw {
         self.is_about(call, object) && self.applies(call, object, asked)
     }
 
-    /// Changes one object, where the law is about it.
-    fn change_one(
+    /// The law by which an object is changed: this one or, of several, one of those that may.
+    fn any_for(
         self,
         random: &mut Random,
-        call: &mut Call,
-        [object, rival]: [Object; 2],
-        drag: &Drag,
-    ) {
-        if let Some(handle) = self.handle() {
-            let up = handle.darker_upwards == drag.darker;
-            let value = drag.value(random, call, [object, rival], handle.place, up);
-            object.set(call, handle.place, value);
+        call: &Call,
+        object: Object,
+        asked: Asked,
+    ) -> Option<SizeLaw> {
+        if self != Several {
+            return Some(self);
         }
+        let able = |law: &SizeLaw| law.lets_change(call, object, asked);
+        let laws: Vec<SizeLaw> = SINGLE.iter().copied().filter(able).collect();
+        any_of(random, &laws)
     }
 
-    /// Changes an object, or some: of several each by one of the laws.
+    /// Changes an object, or some.
     pub fn change(self, random: &mut Random, call: &mut Call, drag: &Drag, asked: Asked) {
         let all = objects(random, call);
         let able = |object: &Object| self.lets_change(call, *object, asked);
-        let objects: Vec<Object> = all.iter().copied().filter(able).collect();
-        if objects.is_empty() {
-            return;
-        }
+        let able: Vec<Object> = all.iter().copied().filter(able).collect();
         let only = match self != Several && random.below(4) != 0 {
-            true => Some(random.below(objects.len())),
+            true => Some(random.below(able.len().max(1))),
             false => None,
         };
-        for (place, &object) in objects.iter().enumerate() {
-            if only.map_or(random.below(2) == 0, |only| place == only) {
-                let able = |law: &SizeLaw| law.lets_change(call, object, asked);
-                let laws: Vec<SizeLaw> = match self {
-                    Several => SINGLE.iter().copied().filter(able).collect(),
-                    _ => vec![self],
-                };
+        for (k, &object) in able.iter().enumerate() {
+            if only.map_or(random.below(2) != 0, |only| k != only) {
+                continue;
+            }
+            let law = self.any_for(random, call, object, asked);
+            if let Some(handle) = law.and_then(SizeLaw::handle) {
                 let rival = all[random.below(all.len())];
-                if !laws.is_empty() {
-                    let law = laws[random.below(laws.len())];
-                    law.change_one(random, call, [object, rival], drag);
-                }
+                let up = handle.darker_upwards == drag.darker;
+                let value = drag.value(random, call, [object, rival], handle.place, up);
+                object.set(call, handle.place, value);
             }
         }
+    }
+}
+
+fn any_of<T: Copy>(random: &mut Random, all: &[T]) -> Option<T> {
+    match all.len() {
+        0 => None,
+        count => Some(all[random.below(count)]),
     }
 }
 
@@ -289,24 +294,142 @@ pub fn in_order(darker: bool, factor: f64, other: f64) -> bool {
     }
 }
 
-/// The call to begin with: as it is, or with a near obstacle that one cannot see through, or with an
-/// object twice.
-fn first_call(law: SizeLaw, random: &mut Random, call: &Call) -> Call {
-    let mut first = call.clone();
-    let about: Vec<Object> = objects(random, call)
-        .into_iter()
-        .filter(|&object| law.is_about(call, object))
-        .collect();
-    if !about.is_empty() {
-        let object = about[random.below(about.len())];
-        if law == TallerNearObstacle && random.below(2) == 0 {
+/// A law under the sun of a call or, of what it asks, of all steps of a job.
+pub struct Trial {
+    pub law: SizeLaw,
+    pub aim: Aim,
+    pub asked: Asked,
+}
+
+impl Trial {
+    /// One of the laws that are about an object of the call, if there is one and no extent is NaN.
+    fn any(
+        laws: &[SizeLaw],
+        untried: &mut Untried,
+        random: &mut Random,
+        call: &Call,
+    ) -> Option<Trial> {
+        let aim = Aim::half_shaded(&call.numbers);
+        if !extents_are_numbers(&aim) {
+            untried.extent += 1;
+            return None;
+        }
+        let law = any_law(laws, random, call)?;
+        let asked = Asked::of(&aim);
+        untried.note(law, asked);
+        Some(Trial { law, aim, asked })
+    }
+
+    pub fn drag(&self, darker: bool, nearby: bool) -> Drag<'_> {
+        Drag {
+            aim: &self.aim,
+            darker,
+            nearby,
+        }
+    }
+
+    /// The call to begin with: as it is, or with a near obstacle that one cannot see through, or with
+    /// an object twice.
+    fn first_call(&self, random: &mut Random, call: &Call) -> Call {
+        let mut first = call.clone();
+        let mut about = objects(random, call);
+        about.retain(|&object| self.law.is_about(call, object));
+        let Some(object) = any_of(random, &about) else {
+            return first;
+        };
+        if self.law == TallerNearObstacle && random.below(2) == 0 {
             object.set(&mut first, TRANSPARENCY, [0.0, -0.0][random.below(2)]);
         }
         if random.below(8) == 0 {
             object.repeat(&mut first);
         }
+        first
     }
-    first
+
+    /// The call with other sizes on that side, if there are any.
+    fn other_call(
+        &self,
+        random: &mut Random,
+        call: &Call,
+        darker: bool,
+        nearby: bool,
+    ) -> Option<Call> {
+        let mut other = call.clone();
+        let drag = self.drag(darker, nearby);
+        self.law.change(random, &mut other, &drag, self.asked);
+        (other != *call).then_some(other)
+    }
+
+    /// Of a call that was accepted with this factor: somewhere else, and then by a few ulps from there.
+    fn try_accepted(
+        &self,
+        pairs: &mut SizePairs,
+        random: &mut Random,
+        call: &Call,
+        mut factor: f64,
+        mut answer: impl FnMut(&Call) -> Result<FactorAnswer, String>,
+    ) -> Outcome {
+        let mut last = self.first_call(random, call);
+        if last != *call {
+            let got = answer(&last)?;
+            if got.number != 0 {
+                return Err(self.broken(call, factor, &last, got));
+            }
+            factor = got.factor;
+        }
+        for nearby in [false, true] {
+            let darker = random.below(2) == 0;
+            let Some(other) = self.other_call(random, &last, darker, nearby) else {
+                continue;
+            };
+            let got = answer(&other)?;
+            if got.number != 0 || !in_order(darker, factor, got.factor) {
+                return Err(self.broken(&last, factor, &other, got));
+            }
+            pairs.note(self.law, call.edition, nearby, got.factor != factor);
+            (last, factor) = (other, got.factor);
+        }
+        Ok(())
+    }
+
+    /// Of a call that was refused 8 to 11: with other sizes it is refused by the same number.
+    fn try_refused(
+        &self,
+        pairs: &mut SizePairs,
+        random: &mut Random,
+        call: &Call,
+        number: u64,
+        mut answer: impl FnMut(&Call) -> Result<FactorAnswer, String>,
+    ) -> Outcome {
+        let darker = random.below(2) == 0;
+        let Some(other) = self.other_call(random, call, darker, false) else {
+            return Ok(());
+        };
+        let got = answer(&other)?;
+        if got.number != number {
+            return Err(format!(
+                "factor of a refused call, number {number}\n{}\nand with other sizes, number {}\n{}",
+                call.shown(),
+                got.number,
+                other.shown(),
+            ));
+        }
+        pairs.refused[(number - REFUSED.start()) as usize] += 1;
+        Ok(())
+    }
+
+    /// That the law is broken, in words.
+    fn broken(&self, call: &Call, factor: f64, other: &Call, got: FactorAnswer) -> String {
+        format!(
+            "{} breaks the law\n{}\n  gives {}, and\n{}\n  gives {}, number {}",
+            self.law.name(),
+            call.shown(),
+            shown(factor),
+            other.shown(),
+            shown(got.factor),
+            got.number,
+        )
+    }
 }
 
 /// One of the laws that are about an object of the call.
@@ -314,112 +437,29 @@ pub fn any_law(laws: &[SizeLaw], random: &mut Random, call: &Call) -> Option<Siz
     let all = objects(random, call);
     let is_about = |law: &SizeLaw| all.iter().any(|&object| law.is_about(call, object));
     let laws: Vec<SizeLaw> = laws.iter().copied().filter(is_about).collect();
-    match laws.len() {
-        0 => None,
-        count => Some(laws[random.below(count)]),
-    }
+    any_of(random, &laws)
 }
 
-fn broken(law: SizeLaw, call: &Call, factor: f64, other: &Call, got: FactorAnswer) -> String {
-    format!(
-        "{} breaks the law\n{}\n  gives {}, and\n{}\n  gives {}, number {}",
-        law.name(),
-        call.shown(),
-        shown(factor),
-        other.shown(),
-        shown(got.factor),
-        got.number,
-    )
-}
-
-/// Tries a law on a call that was accepted with this factor: somewhere else, and then by a few ulps from
-/// there.
-pub fn try_sizes(
+/// Tries a law on a call that was accepted, or refused 8 to 11, with this answer.
+pub fn try_other_sizes(
     laws: &[SizeLaw],
     pairs: &mut SizePairs,
     random: &mut Random,
     call: &Call,
-    mut factor: f64,
-    mut answer: impl FnMut(&Call) -> Result<FactorAnswer, String>,
+    got: FactorAnswer,
+    answer: impl FnMut(&Call) -> Result<FactorAnswer, String>,
 ) -> Outcome {
-    let aim = Aim::half_shaded(&call.numbers);
-    if laws.is_empty() || !extents_are_numbers(&aim) {
-        pairs.untried.extent += !laws.is_empty() as u64;
+    let refused = REFUSED.contains(&got.number);
+    if got.number != 0 && !refused {
         return Ok(());
     }
-    let Some(law) = any_law(laws, random, call) else {
-        return Ok(());
-    };
-    let asked = Asked::of(&aim);
-    pairs.untried.note(law, asked);
-    let mut last = first_call(law, random, call);
-    if last != *call {
-        let got = answer(&last)?;
-        if got.number != 0 {
-            return Err(broken(law, call, factor, &last, got));
-        }
-        factor = got.factor;
-    }
-    for nearby in [false, true] {
-        let darker = random.below(2) == 0;
-        let drag = Drag {
-            aim: &aim,
-            darker,
-            nearby,
-        };
-        let mut other = last.clone();
-        law.change(random, &mut other, &drag, asked);
-        if other == last {
-            continue;
-        }
-        let got = answer(&other)?;
-        if got.number != 0 || !in_order(darker, factor, got.factor) {
-            return Err(broken(law, &last, factor, &other, got));
-        }
-        pairs.note(law, call.edition, nearby, got.factor != factor);
-        (last, factor) = (other, got.factor);
-    }
-    Ok(())
-}
-
-/// Of a call that was refused 8 to 11: with other sizes it is refused by the same number.
-pub fn try_refused(
-    laws: &[SizeLaw],
-    pairs: &mut SizePairs,
-    random: &mut Random,
-    call: &Call,
-    number: u64,
-    mut answer: impl FnMut(&Call) -> Result<FactorAnswer, String>,
-) -> Outcome {
-    let aim = &Aim::half_shaded(&call.numbers);
-    if laws.is_empty() || !REFUSED.contains(&number) || !extents_are_numbers(aim) {
-        return Ok(());
-    }
-    let Some(law) = any_law(laws, random, call) else {
+    let Some(trial) = Trial::any(laws, &mut pairs.untried, random, call) else {
         return Ok(());
     };
-    let asked = Asked::of(aim);
-    let drag = Drag {
-        aim,
-        darker: random.below(2) == 0,
-        nearby: false,
-    };
-    let mut other = call.clone();
-    law.change(random, &mut other, &drag, asked);
-    if other == *call {
-        return Ok(());
+    match refused {
+        true => trial.try_refused(pairs, random, call, got.number, answer),
+        false => trial.try_accepted(pairs, random, call, got.factor, answer),
     }
-    let got = answer(&other)?;
-    if got.number != number {
-        return Err(format!(
-            "factor of a refused call, number {number}\n{}\nand with other sizes, number {}\n{}",
-            call.shown(),
-            got.number,
-            other.shown(),
-        ));
-    }
-    pairs.refused[(number - REFUSED.start()) as usize] += 1;
-    Ok(())
 }
 
 // --- What the laws ask is needed ---
@@ -465,36 +505,26 @@ fn must_rise(what: &str, answers: [FactorAnswer; 2], factors: [f64; 2]) -> Outco
     }
 }
 
-/// Where the tangent is below 0 a nearer distant obstacle can raise the factor, and so can a taller near
-/// obstacle whose transparency is not 0.
+/// Where the tangent is below 0 a nearer distant obstacle can raise the factor, of which the published
+/// function alone can be asked; and so can a taller near obstacle whose transparency is not 0.
 pub fn premises_are_needed(
     settings: &Settings,
+    mut published: impl FnMut(&Call) -> Result<FactorAnswer, String>,
     mut answer: impl FnMut(&Call) -> Result<FactorAnswer, String>,
 ) -> Outcome {
     let least = f64::from_bits(1);
-    let mut judge = Judge::new();
-    let mut published = |call: &Call| {
-        let judged = judge.of_any_sun(call.edition, &call.numbers, &call.sectors, &call.window);
-        judged.expect("lists as described").answer
-    };
+    let mut raised = 0;
     for edition in EDITIONS {
-        let calls = sun_behind(edition);
-        must_rise(
-            "sun behind, Rust",
-            calls.each_ref().map(&mut published),
-            [0.0, 0.5],
-        )?;
-        let calls = hardly_clear(edition);
-        let factors = [0.0, least];
-        must_rise(
-            "hardly clear, Rust",
-            calls.each_ref().map(&mut published),
-            factors,
-        )?;
-        let [first, second] = &calls;
-        let answers = [answer(first)?, answer(second)?];
-        must_rise("hardly clear, Rattle", answers, factors)?;
+        let [farther, nearer] = &sun_behind(edition);
+        let answers = [published(farther)?, published(nearer)?];
+        must_rise("sun behind, Rust", answers, [0.0, 0.5])?;
+        let [lower, taller] = &hardly_clear(edition);
+        let answers = [published(lower)?, published(taller)?];
+        must_rise("hardly clear, Rust", answers, [0.0, least])?;
+        let answers = [answer(lower)?, answer(taller)?];
+        must_rise("hardly clear, Rattle", answers, [0.0, least])?;
+        raised += 3;
     }
-    settings.detail("raised where a premise does not hold", 2);
+    settings.detail("raised where a premise does not hold", raised);
     Ok(())
 }
