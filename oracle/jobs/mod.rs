@@ -739,27 +739,7 @@ impl Comparison<'_> {
     fn job(&mut self, job: &Job, aimed: Option<u32>, also_by_new: bool) -> Outcome {
         let got = self.lent.run(job)?;
         if self.plan.compared {
-            let right = self.judge.run_on_copies(job);
-            if let Some(part) = other_part(&right, &got) {
-                let words = difference(job, &mut self.judge, &mut self.lent);
-                let cases = self.tally.compared;
-                return Err(format!("{part} differs after {cases} cases\n{words}"));
-            }
-            rows_are_numbers(job, &right)?;
-            self.met.note(job, &right);
-            self.met.runs.note(&self.judge, aimed);
-            let walks = self.judge.walks.iter();
-            walks.for_each(|&walked| self.met.run_walks.note(walked));
-            let by_chance = self.by_chance;
-            self.met.seasons.note(&self.judge, job, &right, by_chance);
-            if also_by_new && !BEFORE_ANY_STORE.contains(&(right.answer.number as usize)) {
-                by_new(job, &right)?;
-                self.by_new += 1;
-                self.met.seasons.by_new[lists_walked(job) - 1] += 1;
-            }
-            self.met.tables.note(&mut self.judge, job, &right);
-            self.met.totals.note(&mut self.judge, job, &right);
-            self.tally.both_nan += right.answer.sum.is_nan() as u64;
+            self.compare(job, &got, aimed, also_by_new)?;
         }
         self.tally.compared += 1;
         let tried = self.by_chance || self.tally.compared % EQUAL_LISTS == 0;
@@ -779,6 +759,38 @@ impl Comparison<'_> {
             let (pairs, random) = (&mut self.size_pairs, &mut self.sizes_random);
             try_sizes(self.plan.sizes, pairs, random, job, &got, &mut self.lent)?;
         }
+        Ok(())
+    }
+
+    /// What a job left against what the judge leaves.
+    fn compare(
+        &mut self,
+        job: &Job,
+        got: &Left<RunAnswer>,
+        aimed: Option<u32>,
+        also_by_new: bool,
+    ) -> Outcome {
+        let right = self.judge.run_on_copies(job);
+        if let Some(part) = other_part(&right, got) {
+            let words = difference(job, &mut self.judge, &mut self.lent);
+            let cases = self.tally.compared;
+            return Err(format!("{part} differs after {cases} cases\n{words}"));
+        }
+        rows_are_numbers(job, &right)?;
+        self.met.note(job, &right);
+        self.met.runs.note(&self.judge, aimed);
+        let walks = self.judge.walks.iter();
+        walks.for_each(|&walked| self.met.run_walks.note(walked));
+        let by_chance = self.by_chance;
+        self.met.seasons.note(&self.judge, job, &right, by_chance);
+        if also_by_new && !BEFORE_ANY_STORE.contains(&(right.answer.number as usize)) {
+            by_new(job, &right)?;
+            self.by_new += 1;
+            self.met.seasons.by_new[lists_walked(job) - 1] += 1;
+        }
+        self.met.tables.note(&mut self.judge, job, &right);
+        self.met.totals.note(&mut self.judge, job, &right);
+        self.tally.both_nan += right.answer.sum.is_nan() as u64;
         Ok(())
     }
 

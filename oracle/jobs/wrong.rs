@@ -1856,6 +1856,19 @@ fn lawless_totals(way: u16, job: &Job, objects: usize, totals: &mut [u8]) {
     }
 }
 
+/// What is added to the sum.
+fn lawless_sum(way: u16, job: &Job, objects: usize) -> f64 {
+    // a record begins with its kind, least byte first
+    let first_kind = job.window.first().map_or(0.0, |&kind| kind as f64);
+    match () {
+        _ if Lawless::SumByTheObjects.is(way) => objects as f64,
+        _ if Lawless::SumByTheFirstObject.is(way) => first_kind,
+        _ if Lawless::SumByTheLeafDays.is(way) => job.site.last_leaf_day as f64,
+        _ if Lawless::SumByTheSizes.is(way) => by_the_sizes(job) as f64,
+        _ => 0.0,
+    }
+}
+
 fn lawless_run<const WAY: u16>(
     judge: &mut Judge,
     job: &Job,
@@ -1883,20 +1896,7 @@ fn lawless_run<const WAY: u16>(
         store(row, 5, &[factor]);
         sum += (factor * direct) * hours;
     }
-    answer.sum = sum;
-    if Lawless::SumByTheObjects.is(WAY) {
-        answer.sum += objects as f64;
-    }
-    if Lawless::SumByTheSizes.is(WAY) {
-        answer.sum += by_the_sizes(&job) as f64;
-    }
-    if Lawless::SumByTheLeafDays.is(WAY) {
-        answer.sum += job.site.last_leaf_day as f64;
-    }
-    if Lawless::SumByTheFirstObject.is(WAY) {
-        // a record begins with its kind, least byte first
-        answer.sum += job.window.first().map_or(0.0, |&kind| kind as f64);
-    }
+    answer.sum = sum + lawless_sum(WAY, &job, objects);
     answer
 }
 

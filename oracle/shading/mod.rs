@@ -22,7 +22,7 @@ use crate::random::Random;
 use call::{Call, Scene, COUNT, TRIPLES};
 use editions::{has_fins_on_both_sides, other_edition, FinsMet, Seen};
 use laws::{try_laws, Law, Pairs, LAWS};
-use sizes::{premises_are_needed, try_other_sizes, SizeLaw, SizePairs, SIZE_LAWS};
+use sizes::{premises_are_needed, SizeLaw, Sizes, SIZE_LAWS};
 use walks::Walks;
 
 /// For each case of other functions, this many calls.
@@ -119,7 +119,14 @@ struct Met {
 }
 
 impl Met {
-    fn note(&mut self, judged: &Judged) {
+    fn note(&mut self, judge: &Judge, call: &Call, judged: &Judged, by_chance: bool) {
+        self.note_answer(judged);
+        if by_chance {
+            self.note_fins(judge, call, judged);
+        }
+    }
+
+    fn note_answer(&mut self, judged: &Judged) {
         let FactorAnswer { number, factor } = judged.answer;
         self.numbers[number as usize] += 1;
         judged.walked.map(|walked| self.walks.note(walked));
@@ -259,15 +266,14 @@ fn calls<'a>(
 }
 
 pub fn run(settings: &Settings, function: FactorCall, plan: Plan) -> Outcome {
-    let (compared, laws, sizes) = (plan.compared, plan.laws, plan.sizes);
+    let (compared, laws) = (plan.compared, plan.laws);
     let mut judge = Judge::new();
     let mut lent = Lent::new(function);
     let mut met = Met::default();
     let mut tally = Tally::default();
     let mut pairs = Pairs::default();
-    let mut size_pairs = SizePairs::default();
+    let mut sizes = Sizes::new(plan.sizes, settings.random("sizes"));
     let mut random = settings.random("laws of the factor");
-    let mut sizes_random = settings.random("sizes");
     let mut factor_random = settings.random("factor");
     for (call, by_chance) in calls(&mut factor_random, plan.edges, TIMES * settings.count) {
         let got = lent.call(&call)?;
@@ -279,10 +285,7 @@ pub fn run(settings: &Settings, function: FactorCall, plan: Plan) -> Outcome {
                 let cases = tally.compared;
                 return Err(format!("factor differs after {cases} cases\n{words}"));
             }
-            met.note(&judged);
-            if by_chance {
-                met.note_fins(&judge, &call, &judged);
-            }
+            met.note(&judge, &call, &judged, by_chance);
             tally.both_nan += right.factor.is_nan() as u64;
         }
         tally.compared += 1;
@@ -290,24 +293,14 @@ pub fn run(settings: &Settings, function: FactorCall, plan: Plan) -> Outcome {
             let answer = |call: &Call| lent.call(call);
             try_laws(laws, &mut pairs, &mut random, &call, got.factor, answer)?;
         }
-        if !sizes.is_empty() {
-            let answer = |call: &Call| lent.call(call);
-            try_other_sizes(
-                sizes,
-                &mut size_pairs,
-                &mut sizes_random,
-                &call,
-                got,
-                answer,
-            )?;
-        }
+        sizes.try_on(&call, got, |call: &Call| lent.call(call))?;
     }
     settings.report("factor", With::Published, tally)?;
     if compared {
         met.report(settings)?;
     }
     pairs.report(settings, laws)?;
-    size_pairs.report(settings, sizes)
+    sizes.report(settings)
 }
 
 /// The published function by itself, whether or not the sun is in range.

@@ -203,7 +203,7 @@ impl Asked {
 /// How many pairs of calls were tried for each law, how many of them had different factors in each
 /// edition, and how many of these were a few ulps apart; a pair of the same calls does not count.
 #[derive(Default)]
-pub struct SizePairs {
+struct SizePairs {
     tried: [u64; SIZE_LAWS.len()],
     changed: [[u64; EDITIONS.len()]; SIZE_LAWS.len()],
     by_ulps: [u64; SIZE_LAWS.len()],
@@ -265,10 +265,7 @@ impl SizePairs {
         Ok(())
     }
 
-    pub fn report(&self, settings: &Settings, laws: &[SizeLaw]) -> Outcome {
-        if laws.is_empty() {
-            return Ok(());
-        }
+    fn report(&self, settings: &Settings, laws: &[SizeLaw]) -> Outcome {
         settings.heading("    sizes: pairs, other factors in editions 1 and 2, by a few ulps");
         for &law in laws {
             self.report_law(settings, law)?;
@@ -440,25 +437,48 @@ pub fn any_law(laws: &[SizeLaw], random: &mut Random, call: &Call) -> Option<Siz
     any_of(random, &laws)
 }
 
-/// Tries a law on a call that was accepted, or refused 8 to 11, with this answer.
-pub fn try_other_sizes(
-    laws: &[SizeLaw],
-    pairs: &mut SizePairs,
-    random: &mut Random,
-    call: &Call,
-    got: FactorAnswer,
-    answer: impl FnMut(&Call) -> Result<FactorAnswer, String>,
-) -> Outcome {
-    let refused = REFUSED.contains(&got.number);
-    if got.number != 0 && !refused {
-        return Ok(());
+/// The laws that are tried, and what came of it.
+pub struct Sizes<'a> {
+    laws: &'a [SizeLaw],
+    random: Random,
+    pairs: SizePairs,
+}
+
+impl<'a> Sizes<'a> {
+    pub fn new(laws: &'a [SizeLaw], random: Random) -> Self {
+        Sizes {
+            laws,
+            random,
+            pairs: SizePairs::default(),
+        }
     }
-    let Some(trial) = Trial::any(laws, &mut pairs.untried, random, call) else {
-        return Ok(());
-    };
-    match refused {
-        true => trial.try_refused(pairs, random, call, got.number, answer),
-        false => trial.try_accepted(pairs, random, call, got.factor, answer),
+
+    /// Tries one on a call that was accepted, or refused 8 to 11, with this answer.
+    pub fn try_on(
+        &mut self,
+        call: &Call,
+        got: FactorAnswer,
+        answer: impl FnMut(&Call) -> Result<FactorAnswer, String>,
+    ) -> Outcome {
+        let refused = REFUSED.contains(&got.number);
+        if self.laws.is_empty() || (got.number != 0 && !refused) {
+            return Ok(());
+        }
+        let (pairs, random) = (&mut self.pairs, &mut self.random);
+        let Some(trial) = Trial::any(self.laws, &mut pairs.untried, random, call) else {
+            return Ok(());
+        };
+        match refused {
+            true => trial.try_refused(pairs, random, call, got.number, answer),
+            false => trial.try_accepted(pairs, random, call, got.factor, answer),
+        }
+    }
+
+    pub fn report(&self, settings: &Settings) -> Outcome {
+        match self.laws {
+            [] => Ok(()),
+            laws => self.pairs.report(settings, laws),
+        }
     }
 }
 
