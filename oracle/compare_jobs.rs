@@ -40,6 +40,7 @@ use jobs::lent::LIBRARY;
 use jobs::{Fixed, Plan};
 use pilgartze::FACTOR;
 use shading::laws::LAWS;
+use shading::sizes::SIZE_LAWS;
 use std::process::ExitCode;
 
 const YEARS: usize = 20;
@@ -102,6 +103,7 @@ fn run(arguments: &Arguments) -> Outcome {
         aimed: Plan::aimed_for(&fixed, YEARS),
         compared: true,
         laws: &LAWS,
+        sizes: &SIZE_LAWS,
         by_the_hour: true,
         leaf_days: true,
     };

@@ -13,6 +13,7 @@ use crate::random::Random;
 use crate::shading::call::{Call, Scene};
 use crate::shading::editions::{editions_agree, has_left_fin};
 use crate::shading::laws::{extents_are_numbers, Law, LAWS};
+use crate::shading::scenes::Aim;
 
 /// How many pairs of jobs were tried for each law, and how many of their steps; a pair with the same
 /// lists does not count.
@@ -36,7 +37,7 @@ pub struct Pairs {
 
 /// Where the other job of a pair has other objects.
 #[derive(Clone, Copy, PartialEq)]
-enum Change {
+pub enum Change {
     Summer,
     Winter,
     /// In both, and at the window.
@@ -58,7 +59,7 @@ impl Change {
         }
     }
 
-    fn is_in(self, summer: bool) -> bool {
+    pub fn is_in(self, summer: bool) -> bool {
         match self {
             Change::Summer => summer,
             Change::Winter => !summer,
@@ -160,13 +161,25 @@ impl Pairs {
 }
 
 /// A run's rows.
-struct Rows(Vec<[f64; ROW]>);
+pub struct Rows(pub Vec<[f64; ROW]>);
 
 impl Rows {
     fn of(left: &Left<RunAnswer>) -> Rows {
+        Rows::first(left, left.answer.count)
+    }
+
+    /// Those up to the step that was refused, if one was.
+    pub fn stored(left: &Left<RunAnswer>) -> Rows {
+        match left.answer.number {
+            0 => Rows::of(left),
+            _ => Rows::first(left, left.answer.step),
+        }
+    }
+
+    fn first(left: &Left<RunAnswer>, count: u64) -> Rows {
         let doubles = doubles_of(&left.results);
         let rows = doubles.chunks_exact(ROW).map(|row| row.try_into().unwrap());
-        Rows(rows.take(left.answer.count as usize).collect())
+        Rows(rows.take(count as usize).collect())
     }
 
     /// The sum from 0 of the unshaded direct values, each times the step.
@@ -256,7 +269,7 @@ fn totals_broken(
 }
 
 /// Sun and surface in a row.
-fn numbers(job: &Job, row: &[f64; ROW]) -> Numbers {
+pub fn numbers(job: &Job, row: &[f64; ROW]) -> Numbers {
     let mut numbers = [0.0; 7];
     numbers[..2].copy_from_slice(&row[..2]);
     numbers[2..].copy_from_slice(&job.surface);
@@ -264,8 +277,8 @@ fn numbers(job: &Job, row: &[f64; ROW]) -> Numbers {
 }
 
 /// Outside the beam, as under an azimuth far beyond ±180, nothing has an extent.
-fn no_nan_extent(numbers: &Numbers) -> bool {
-    extents_are_numbers(numbers) || outside_beam(numbers)
+pub fn no_nan_extent(numbers: &Numbers) -> bool {
+    extents_are_numbers(&Aim::half_shaded(numbers)) || outside_beam(numbers)
 }
 
 /// The job with other objects there, or in the other edition; further objects are aimed by the sun of
@@ -295,7 +308,7 @@ fn changed(law: Law, change: Change, random: &mut Random, job: &Job, rows: &Rows
 }
 
 /// The first step of a season whose objects are the same in both jobs that has another row.
-fn other_row_elsewhere(change: Change, job: &Job, rows: &Rows, others: &Rows) -> Option<usize> {
+pub fn other_row_elsewhere(change: Change, job: &Job, rows: &Rows, others: &Rows) -> Option<usize> {
     let seasons = Seasons::of(&job.site);
     let steps = steps_of(&job.site, &job.times);
     let each = steps.iter().zip(rows.0.iter().zip(&others.0));

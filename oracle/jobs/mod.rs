@@ -9,10 +9,12 @@ pub mod lent;
 mod season_counts;
 pub mod seasons;
 pub mod self_test;
+pub mod sizes;
 pub mod tables;
 pub mod totals;
 pub mod wrong;
 mod wrong_seasons;
+mod wrong_sizes;
 mod wrong_totals;
 
 use crate::comparison::{same, shown, Outcome, Settings, Tally, With};
@@ -27,6 +29,7 @@ use crate::random::Random;
 use crate::shading::call::Call;
 use crate::shading::editions::{any_edition, has_fins_on_both_sides, FinsMet, Seen};
 use crate::shading::laws::Law;
+use crate::shading::sizes::{SizeLaw, REFUSED};
 use crate::shading::smaller;
 use crate::shading::walks::Walks;
 use crate::stand_ins::Beyond;
@@ -34,6 +37,7 @@ use cases::{Aims, Maker, MOST_BYTES};
 use laws::{keeps_its_figure, leaf_days_change_nothing, try_laws, Pairs};
 use lent::{Lent, Library, DAYS_LIST, TOTALS_LIST};
 use season_counts::SeasonsMet;
+use sizes::{try_sizes, SizePairs};
 use tables::Tables;
 use totals::TotalsMet;
 
@@ -155,6 +159,7 @@ pub struct Plan<'a> {
     /// Whether answers are compared; else what follows is tried alone.
     pub compared: bool,
     pub laws: &'a [Law],
+    pub sizes: &'a [SizeLaw],
     /// Whether runs by the hour are held to the figures that they had without the step in the sum.
     pub by_the_hour: bool,
     /// Whether jobs with equal lists are run with other leaf days too.
@@ -716,7 +721,9 @@ struct Comparison<'a> {
     lent: Lent,
     met: Met,
     pairs: Pairs,
+    size_pairs: SizePairs,
     laws_random: Random,
+    sizes_random: Random,
     editions_random: Random,
     tally: Tally,
     /// Whether the job under way is a random one.
@@ -732,27 +739,7 @@ impl Comparison<'_> {
     fn job(&mut self, job: &Job, aimed: Option<u32>, also_by_new: bool) -> Outcome {
         let got = self.lent.run(job)?;
         if self.plan.compared {
-            let right = self.judge.run_on_copies(job);
-            if let Some(part) = other_part(&right, &got) {
-                let words = difference(job, &mut self.judge, &mut self.lent);
-                let cases = self.tally.compared;
-                return Err(format!("{part} differs after {cases} cases\n{words}"));
-            }
-            rows_are_numbers(job, &right)?;
-            self.met.note(job, &right);
-            self.met.runs.note(&self.judge, aimed);
-            let walks = self.judge.walks.iter();
-            walks.for_each(|&walked| self.met.run_walks.note(walked));
-            let by_chance = self.by_chance;
-            self.met.seasons.note(&self.judge, job, &right, by_chance);
-            if also_by_new && !BEFORE_ANY_STORE.contains(&(right.answer.number as usize)) {
-                by_new(job, &right)?;
-                self.by_new += 1;
-                self.met.seasons.by_new[lists_walked(job) - 1] += 1;
-            }
-            self.met.tables.note(&mut self.judge, job, &right);
-            self.met.totals.note(&mut self.judge, job, &right);
-            self.tally.both_nan += right.answer.sum.is_nan() as u64;
+            self.compare(job, &got, aimed, also_by_new)?;
         }
         self.tally.compared += 1;
         let tried = self.by_chance || self.tally.compared % EQUAL_LISTS == 0;
@@ -767,6 +754,43 @@ impl Comparison<'_> {
             let (pairs, random) = (&mut self.pairs, &mut self.laws_random);
             try_laws(self.plan.laws, pairs, random, job, &got, &mut self.lent)?;
         }
+        let number = got.answer.number;
+        if !self.plan.sizes.is_empty() && (number == 0 || REFUSED.contains(&number)) {
+            let (pairs, random) = (&mut self.size_pairs, &mut self.sizes_random);
+            try_sizes(self.plan.sizes, pairs, random, job, &got, &mut self.lent)?;
+        }
+        Ok(())
+    }
+
+    /// What a job left against what the judge leaves.
+    fn compare(
+        &mut self,
+        job: &Job,
+        got: &Left<RunAnswer>,
+        aimed: Option<u32>,
+        also_by_new: bool,
+    ) -> Outcome {
+        let right = self.judge.run_on_copies(job);
+        if let Some(part) = other_part(&right, got) {
+            let words = difference(job, &mut self.judge, &mut self.lent);
+            let cases = self.tally.compared;
+            return Err(format!("{part} differs after {cases} cases\n{words}"));
+        }
+        rows_are_numbers(job, &right)?;
+        self.met.note(job, &right);
+        self.met.runs.note(&self.judge, aimed);
+        let walks = self.judge.walks.iter();
+        walks.for_each(|&walked| self.met.run_walks.note(walked));
+        let by_chance = self.by_chance;
+        self.met.seasons.note(&self.judge, job, &right, by_chance);
+        if also_by_new && !BEFORE_ANY_STORE.contains(&(right.answer.number as usize)) {
+            by_new(job, &right)?;
+            self.by_new += 1;
+            self.met.seasons.by_new[lists_walked(job) - 1] += 1;
+        }
+        self.met.tables.note(&mut self.judge, job, &right);
+        self.met.totals.note(&mut self.judge, job, &right);
+        self.tally.both_nan += right.answer.sum.is_nan() as u64;
         Ok(())
     }
 
@@ -897,7 +921,8 @@ impl Comparison<'_> {
             }
             settings.detail("equal lists, same by other leaf days", self.leaf_days);
         }
-        self.pairs.report(settings, self.plan.laws)
+        self.pairs.report(settings, self.plan.laws)?;
+        self.size_pairs.report(settings, self.plan.sizes)
     }
 
     /// The call of one step.
@@ -969,7 +994,9 @@ pub fn section(settings: &Settings, library: &Library, plan: Plan) -> Outcome {
         lent: Lent::new(*library, MOST_BYTES),
         met: Met::default(),
         pairs: Pairs::default(),
+        size_pairs: SizePairs::default(),
         laws_random: settings.random("laws of jobs"),
+        sizes_random: settings.random("sizes of jobs"),
         editions_random: settings.random("editions of jobs"),
         tally: Tally::default(),
         by_chance: false,

@@ -7,6 +7,7 @@ use crate::comparison::{Outcome, Settings};
 use crate::published::jobs::{steps_of, JobSite};
 use crate::published::totals::{keep_totals, totals_needed, NAN};
 use crate::shading::laws::LAWS;
+use crate::shading::sizes::SIZE_LAWS;
 
 /// Random jobs for each engine.
 const JOBS: usize = 3_000;
@@ -116,6 +117,7 @@ fn plain_engine(settings: &Settings, plan: Plan) -> Outcome {
     let right = wrong::without_flaw();
     let with_laws = Plan {
         laws: &LAWS,
+        sizes: &SIZE_LAWS,
         by_the_hour: true,
         leaf_days: true,
         ..plan
@@ -199,6 +201,32 @@ fn lawless_found(settings: &Settings, plan: Plan) -> Result<usize, String> {
     Ok(count)
 }
 
+/// The same of those that break a law about sizes, on the random jobs alone.
+fn sizes_found(settings: &Settings, plan: Plan) -> Result<usize, String> {
+    let nothing = Fixed::default();
+    let plan = Plan {
+        compared: false,
+        ..random_alone(plan, &nothing)
+    };
+    let all = Plan {
+        sizes: &SIZE_LAWS,
+        ..plan
+    };
+    let mut count = 0;
+    for engine in &wrong::sizes_not_looked_at() {
+        found(settings, all, engine)?;
+        count += 1;
+    }
+    for law in SIZE_LAWS {
+        let sizes = &[law];
+        for engine in &wrong::lawless_sizes(law) {
+            found(settings, Plan { sizes, ..plan }, engine)?;
+            count += 1;
+        }
+    }
+    Ok(count)
+}
+
 pub fn run(seed: u64) -> Outcome {
     let settings = Settings {
         seed,
@@ -213,6 +241,7 @@ pub fn run(seed: u64) -> Outcome {
         aimed: Plan::aimed_for(&fixed, 1),
         compared: true,
         laws: &[],
+        sizes: &[],
         by_the_hour: false,
         leaf_days: false,
     };
@@ -221,6 +250,7 @@ pub fn run(seed: u64) -> Outcome {
     nan_is_told()?;
     plain_engine(&settings, plan)?;
     let count = engines_found(&settings, plan)? + lawless_found(&settings, plan)?;
+    let count = count + sizes_found(&settings, plan)?;
     println!("self-test: {count} wrong engines found");
     Ok(())
 }

@@ -2,10 +2,11 @@
 //!
 //! They are one plain form of the run and of the single steps, by which a flaw is built in where it
 //! is asked for; a step's row is the judge's own. `wrong_totals.rs` has what it does about the totals,
-//! `wrong_seasons.rs` about the seasons.
+//! `wrong_seasons.rs` about the seasons, `wrong_sizes.rs` what breaks a law about sizes.
 
 use super::lent::Library;
 use super::wrong_seasons::By as Calls;
+use super::wrong_sizes::{by_the_sizes, days_by_size, factor_by_size, refusal_by_size};
 use crate::pilgartze::{days_in_year, totals_length, totals_of, DAY, DAYS, EDITION_2};
 use crate::published::days::{day_in, day_table, DayValues};
 use crate::published::jobs::*;
@@ -17,6 +18,7 @@ use crate::published::wrong::Otherwise;
 use crate::random::ulps_from;
 use crate::shading::call::{Call, Scene};
 use crate::shading::laws::Law;
+use crate::shading::sizes::SizeLaw;
 use crate::shading::wrong as shading;
 use std::cell::RefCell;
 use Flaw::*;
@@ -1691,7 +1693,7 @@ pub fn without_flaw() -> Library {
 
 #[derive(Clone, Copy, PartialEq)]
 #[repr(u16)]
-enum Lawless {
+pub enum Lawless {
     FirstObjectLeftOut,
     LastObjectAlone,
     ObjectsCounted,
@@ -1718,10 +1720,30 @@ enum Lawless {
     SumByTheLeafDays,
     DaySumsByTheLeafDays,
     RefusalByTheLeafDays,
+    SizesNotLookedAt,
+    TallDistantObstacleDropped,
+    CloseDistantObstacleDropped,
+    DeepWindowOverhangDropped,
+    TallNearObstacleDropped,
+    ClearTakenAsOpaque,
+    LowDistantOverhangDropped,
+    FarDistantOverhangDropped,
+    WindowOverhangAtTheEdgeDropped,
+    FinAtTheEdgeDropped,
+    DeepFinDropped,
+    DirectByTheSizes,
+    SumByTheSizes,
+    CountsByTheSizes,
+    LargestByTheSizes,
+    DaySumsByTheSizes,
+    MonthSumsByTheSizes,
+    TableOfDaysByTheSizes,
+    StepOfRefusalByTheSizes,
+    NumberOfRefusalByTheSizes,
 }
 
 impl Lawless {
-    fn is(self, way: u16) -> bool {
+    pub fn is(self, way: u16) -> bool {
         self as u16 == way
     }
 }
@@ -1755,10 +1777,22 @@ fn lawless_factor(way: u16, job: &Job, mut factor: f64, objects: usize) -> f64 {
     if Lawless::AboveTheWhole.is(way) && factor == 1.0 {
         factor = ulps_from(1.0, 1);
     }
+    if Lawless::SizesNotLookedAt.is(way) {
+        factor = 0.5;
+    }
     if Lawless::NeverWhole.is(way) && factor == 1.0 {
         factor = ulps_from(1.0, -1);
     }
     factor
+}
+
+/// What becomes of a step's direct value.
+fn lawless_direct(way: u16, job: &Job, direct: f64) -> f64 {
+    match () {
+        _ if Lawless::DirectByTheEdition.is(way) => direct + job.edition as f64,
+        _ if Lawless::DirectByTheSizes.is(way) => direct + by_the_sizes(job) as f64,
+        _ => direct,
+    }
 }
 
 /// What the factor of a step is multiplied by: something of the other season's sectors, or of the leaf
@@ -1789,6 +1823,7 @@ fn lawless_hours(way: u16, step: f64) -> f64 {
 fn lawless_totals(way: u16, job: &Job, objects: usize, totals: &mut [u8]) {
     let days = days_in_year(job.site.leap_year);
     let first_kind = job.window.first().map_or(0.0, |&kind| kind as f64);
+    let sizes = by_the_sizes(job);
     let records = totals_of(&totals[..totals_length(job.site.leap_year)]);
     for (place, mut kept) in records.into_iter().enumerate() {
         let (some, of_a_day) = (kept.count > 0, place < days);
@@ -1805,6 +1840,10 @@ fn lawless_totals(way: u16, job: &Job, objects: usize, totals: &mut [u8]) {
             _ if Lawless::DaySumsByTheLeafDays.is(way) && of_a_day => {
                 kept.sum += job.site.first_leaf_day as f64
             }
+            _ if Lawless::CountsByTheSizes.is(way) => kept.count += sizes,
+            _ if Lawless::LargestByTheSizes.is(way) => kept.largest += sizes as f64,
+            _ if Lawless::DaySumsByTheSizes.is(way) && of_a_day => kept.sum += sizes as f64,
+            _ if Lawless::MonthSumsByTheSizes.is(way) && !of_a_day => kept.sum += sizes as f64,
             _ => {}
         }
         let words = [kept.count, kept.largest.to_bits(), kept.sum.to_bits()];
@@ -1817,6 +1856,19 @@ fn lawless_totals(way: u16, job: &Job, objects: usize, totals: &mut [u8]) {
     }
 }
 
+/// What is added to the sum.
+fn lawless_sum(way: u16, job: &Job, objects: usize) -> f64 {
+    // a record begins with its kind, least byte first
+    let first_kind = job.window.first().map_or(0.0, |&kind| kind as f64);
+    match () {
+        _ if Lawless::SumByTheObjects.is(way) => objects as f64,
+        _ if Lawless::SumByTheFirstObject.is(way) => first_kind,
+        _ if Lawless::SumByTheLeafDays.is(way) => job.site.last_leaf_day as f64,
+        _ if Lawless::SumByTheSizes.is(way) => by_the_sizes(job) as f64,
+        _ => 0.0,
+    }
+}
+
 fn lawless_run<const WAY: u16>(
     judge: &mut Judge,
     job: &Job,
@@ -1826,8 +1878,10 @@ fn lawless_run<const WAY: u16>(
     let mut answer = judge.run(&job, days, totals, results);
     if answer.number != 0 {
         answer.step += Lawless::RefusalByTheLeafDays.is(WAY) as u64 * job.site.first_leaf_day;
+        refusal_by_size(WAY, &job, &mut answer);
         return answer;
     }
+    days_by_size(WAY, &job, days);
     lawless_totals(WAY, &job, objects, totals);
     let hours = lawless_hours(WAY, job.times[2]);
     let steps = steps_of(&job.site, &job.times);
@@ -1835,26 +1889,14 @@ fn lawless_run<const WAY: u16>(
     for (row, step) in results.chunks_exact_mut(8 * ROW).zip(&steps) {
         let doubles = doubles_of(row);
         let season = lawless_season(WAY, &job, step);
-        let factor = lawless_factor(WAY, &job, doubles[5], objects) * season;
-        let direct = match Lawless::DirectByTheEdition.is(WAY) {
-            true => doubles[2] + job.edition as f64,
-            false => doubles[2],
-        };
+        let factor = factor_by_size(WAY, &job, step, &doubles);
+        let factor = lawless_factor(WAY, &job, factor, objects) * season;
+        let direct = lawless_direct(WAY, &job, doubles[2]);
         store(row, 2, &[direct]);
         store(row, 5, &[factor]);
         sum += (factor * direct) * hours;
     }
-    answer.sum = sum;
-    if Lawless::SumByTheObjects.is(WAY) {
-        answer.sum += objects as f64;
-    }
-    if Lawless::SumByTheLeafDays.is(WAY) {
-        answer.sum += job.site.last_leaf_day as f64;
-    }
-    if Lawless::SumByTheFirstObject.is(WAY) {
-        // a record begins with its kind, least byte first
-        answer.sum += job.window.first().map_or(0.0, |&kind| kind as f64);
-    }
+    answer.sum = sum + lawless_sum(WAY, &job, objects);
     answer
 }
 
@@ -1908,6 +1950,36 @@ pub fn lawless_engines(law: Law) -> Vec<Wrong> {
         Law::OtherEdition => ways!(told();
             FactorByTheEdition, DirectByTheEdition, LargestByTheEdition),
     }
+}
+
+/// What each law about sizes has to find, tried alone.
+pub fn lawless_sizes(law: SizeLaw) -> Vec<Wrong> {
+    let told = || format!("run breaks the law of the {}:", law.name());
+    let mut engines = match law {
+        SizeLaw::TallerDistantObstacle => ways!(told(); TallDistantObstacleDropped),
+        SizeLaw::NearerDistantObstacle => ways!(told(); CloseDistantObstacleDropped),
+        SizeLaw::DeeperWindowOverhang => ways!(told(); DeepWindowOverhangDropped),
+        SizeLaw::TallerNearObstacle => ways!(told(); TallNearObstacleDropped),
+        SizeLaw::ClearerNearObstacle => ways!(told(); ClearTakenAsOpaque),
+        SizeLaw::LowerDistantOverhang => ways!(told();
+            LowDistantOverhangDropped, WinterFactorsByTheSummersSectors),
+        SizeLaw::FartherDistantOverhang => ways!(told();
+            FarDistantOverhangDropped, SummerFactorsByTheWintersSectors),
+        SizeLaw::NearerWindowOverhang => ways!(told(); WindowOverhangAtTheEdgeDropped),
+        SizeLaw::NearerFin => ways!(told(); FinAtTheEdgeDropped),
+        SizeLaw::DeeperFin => ways!(told(); DeepFinDropped),
+        SizeLaw::Several => ways!(told();
+            TallDistantObstacleDropped, DeepWindowOverhangDropped, ClearTakenAsOpaque,
+            DirectByTheSizes, CountsByTheSizes, LargestByTheSizes, TableOfDaysByTheSizes,
+            StepOfRefusalByTheSizes, NumberOfRefusalByTheSizes),
+    };
+    engines.extend(ways!(told(); SumByTheSizes, DaySumsByTheSizes, MonthSumsByTheSizes));
+    engines
+}
+
+/// What the counts of the laws about sizes have to find: that nothing ever changed.
+pub fn sizes_not_looked_at() -> Vec<Wrong> {
+    ways!(String::from("run: pairs,"); SizesNotLookedAt)
 }
 
 /// What the figures of runs by the hour have to find, tried alone.

@@ -228,10 +228,21 @@ impl Judge {
         if !numbers.iter().zip(&RANGES).all(in_range) {
             return unseen(3);
         }
-        match (sectors_of(sectors), window_of(window)) {
-            (Some(sectors), Some(window)) => self.published(edition, numbers, sectors, window),
-            _ => unseen(4),
-        }
+        let judged = self.of_any_sun(edition, numbers, sectors, window);
+        judged.unwrap_or(unseen(4))
+    }
+
+    /// What the published function gives, whether or not sun and surface are in range; nothing where
+    /// the lists are not as described.
+    pub fn of_any_sun(
+        &mut self,
+        edition: u64,
+        numbers: &Numbers,
+        sectors: &[u8],
+        window: &[u8],
+    ) -> Option<Judged> {
+        let (sectors, window) = (sectors_of(sectors)?, window_of(window)?);
+        Some(self.published(edition, numbers, sectors, window))
     }
 
     fn published(

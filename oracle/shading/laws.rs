@@ -9,7 +9,6 @@ use crate::comparison::{same, shown, Outcome, Settings};
 use crate::pilgartze::FactorAnswer;
 use crate::published::shading::*;
 use crate::random::Random;
-use crate::stand_ins;
 
 #[derive(Clone, Copy, PartialEq)]
 pub enum Law {
@@ -112,12 +111,10 @@ impl Pairs {
 /// Whether no extent can be NaN, by a simple test that is enough: all lengths are at most 10,000,
 /// so where the tangents are moderate and the cosine is not tiny no operation overflows, and none
 /// divides 0 by 0.
-pub fn extents_are_numbers(numbers: &Numbers) -> bool {
-    let tan_altitude = stand_ins::tan(stand_ins::to_radians(numbers[ALTITUDE]));
-    let difference = stand_ins::to_radians(difference(numbers));
-    let tan_difference = stand_ins::tan(difference);
-    let cos_difference = stand_ins::cos(difference);
-    tan_altitude.abs() < 1e100 && tan_difference.abs() < 1e100 && cos_difference.abs() > 1e-100
+pub fn extents_are_numbers(aim: &Aim) -> bool {
+    aim.tan_altitude.abs() < 1e100
+        && aim.tan_difference.abs() < 1e100
+        && aim.cos_difference.abs() > 1e-100
 }
 
 /// The counted triples of a sector.
@@ -205,7 +202,7 @@ pub fn try_laws(
     factor: f64,
     mut answer: impl FnMut(&Call) -> Result<FactorAnswer, String>,
 ) -> Outcome {
-    if !extents_are_numbers(&call.numbers) {
+    if !extents_are_numbers(&Aim::half_shaded(&call.numbers)) {
         pairs.skipped += 1;
         return Ok(());
     }

@@ -5,11 +5,14 @@
 pub mod call;
 pub mod edges;
 pub mod editions;
+pub mod handles;
 pub mod laws;
 pub mod scenes;
 pub mod self_test;
+pub mod sizes;
 pub mod walks;
 pub mod wrong;
+mod wrong_sizes;
 
 use crate::comparison::{same, shown, Outcome, Settings, Tally, With};
 use crate::guarded::{Guarded, Side};
@@ -19,6 +22,7 @@ use crate::random::Random;
 use call::{Call, Scene, COUNT, TRIPLES};
 use editions::{has_fins_on_both_sides, other_edition, FinsMet, Seen};
 use laws::{try_laws, Law, Pairs, LAWS};
+use sizes::{premises_are_needed, SizeLaw, Sizes, SIZE_LAWS};
 use walks::Walks;
 
 /// For each case of other functions, this many calls.
@@ -115,7 +119,14 @@ struct Met {
 }
 
 impl Met {
-    fn note(&mut self, judged: &Judged) {
+    fn note(&mut self, judge: &Judge, call: &Call, judged: &Judged, by_chance: bool) {
+        self.note_answer(judged);
+        if by_chance {
+            self.note_fins(judge, call, judged);
+        }
+    }
+
+    fn note_answer(&mut self, judged: &Judged) {
         let FactorAnswer { number, factor } = judged.answer;
         self.numbers[number as usize] += 1;
         judged.walked.map(|walked| self.walks.note(walked));
@@ -240,6 +251,7 @@ pub struct Plan<'a> {
     /// Whether answers are compared; else the laws are tried alone.
     pub compared: bool,
     pub laws: &'a [Law],
+    pub sizes: &'a [SizeLaw],
 }
 
 /// All edges, then random calls up to the count; which of both each is.
@@ -260,6 +272,7 @@ pub fn run(settings: &Settings, function: FactorCall, plan: Plan) -> Outcome {
     let mut met = Met::default();
     let mut tally = Tally::default();
     let mut pairs = Pairs::default();
+    let mut sizes = Sizes::new(plan.sizes, settings.random("sizes"));
     let mut random = settings.random("laws of the factor");
     let mut factor_random = settings.random("factor");
     for (call, by_chance) in calls(&mut factor_random, plan.edges, TIMES * settings.count) {
@@ -272,10 +285,7 @@ pub fn run(settings: &Settings, function: FactorCall, plan: Plan) -> Outcome {
                 let cases = tally.compared;
                 return Err(format!("factor differs after {cases} cases\n{words}"));
             }
-            met.note(&judged);
-            if by_chance {
-                met.note_fins(&judge, &call, &judged);
-            }
+            met.note(&judge, &call, &judged, by_chance);
             tally.both_nan += right.factor.is_nan() as u64;
         }
         tally.compared += 1;
@@ -283,12 +293,22 @@ pub fn run(settings: &Settings, function: FactorCall, plan: Plan) -> Outcome {
             let answer = |call: &Call| lent.call(call);
             try_laws(laws, &mut pairs, &mut random, &call, got.factor, answer)?;
         }
+        sizes.try_on(&call, got, |call: &Call| lent.call(call))?;
     }
     settings.report("factor", With::Published, tally)?;
     if compared {
         met.report(settings)?;
     }
-    pairs.report(settings, laws)
+    pairs.report(settings, laws)?;
+    sizes.report(settings)
+}
+
+/// The published function by itself, whether or not the sun is in range.
+fn published(call: &Call) -> Result<FactorAnswer, String> {
+    let mut judge = Judge::new();
+    let judged = judge.of_any_sun(call.edition, &call.numbers, &call.sectors, &call.window);
+    let answer = judged.map(|judged| judged.answer);
+    answer.ok_or_else(|| format!("lists that are not as described\n{}", call.shown()))
 }
 
 pub fn section(settings: &Settings, function: FactorCall) -> Outcome {
@@ -297,6 +317,9 @@ pub fn section(settings: &Settings, function: FactorCall) -> Outcome {
         edges: &edges::all(),
         compared: true,
         laws: &LAWS,
+        sizes: &SIZE_LAWS,
     };
-    run(settings, function, plan)
+    run(settings, function, plan)?;
+    let mut lent = Lent::new(function);
+    premises_are_needed(settings, published, |call| lent.call(call))
 }

@@ -13,10 +13,10 @@ use crate::stand_ins;
 
 /// The sun on a surface, as the extents need it, and how deep the shade is to be.
 pub struct Aim {
-    numbers: Numbers,
-    tan_altitude: f64,
-    cos_difference: f64,
-    tan_difference: f64,
+    pub numbers: Numbers,
+    pub tan_altitude: f64,
+    pub cos_difference: f64,
+    pub tan_difference: f64,
     depth: f64,
 }
 

@@ -1,9 +1,12 @@
 //! Factors that are wrong in one small way each. The self-test has to find them all.
 //!
 //! They are one plain form of the factor, by which a flaw is built in where it is asked for.
+//! `wrong_sizes.rs` has what it does about sizes.
 
 use super::call::*;
 use super::laws::Law;
+use super::sizes::SizeLaw;
+use super::wrong_sizes::least_size;
 use crate::pilgartze::{FactorAnswer, FactorCall, EDITION_1, EDITION_2};
 use crate::published::shading::*;
 use crate::random::ulps_from;
@@ -108,6 +111,35 @@ pub enum Flaw {
     NearObstacleReplaces,
     DarkBelowZero,
     SkyNeverWhole,
+
+    // what breaks a law about sizes: shade that is dropped,
+    TallDistantObstacleDropped,
+    CloseDistantObstacleDropped,
+    DeepWindowOverhangDropped,
+    TallNearObstacleDropped,
+    ClearTakenAsOpaque,
+    LowDistantOverhangDropped,
+    FarDistantOverhangDropped,
+    WindowOverhangAtTheEdgeDropped,
+    FinAtTheEdgeDropped,
+    DeepFinDropped,
+    // a field's last bit,
+    DistantObstacleHeightTurned,
+    DistantObstacleDistanceTurned,
+    WindowOverhangDepthTurned,
+    NearObstacleHeightTurned,
+    TransparencyTurned,
+    DistantOverhangHeightTurned,
+    DistantOverhangDistanceTurned,
+    WindowOverhangDistanceTurned,
+    FinDistanceTurned,
+    FinDepthTurned,
+    // and refusals that depend on a size
+    SubnormalSizeRefused,
+    GapOfTallObjectsTurned,
+    TurnOfTallObjectsNoSector,
+    NoSectorOfTallObjectsGap,
+    RevealBesideTallObjectsNoSector,
 }
 use Flaw::*;
 
@@ -135,7 +167,7 @@ struct Shade {
     left: f64,
 }
 
-fn double(word: u64) -> f64 {
+pub(super) fn double(word: u64) -> f64 {
     f64::from_bits(word)
 }
 
@@ -151,7 +183,7 @@ fn wrapped(x: f64) -> f64 {
 }
 
 impl Plain {
-    fn is(&self, flaw: Flaw) -> bool {
+    pub(super) fn is(&self, flaw: Flaw) -> bool {
         self.flaw == flaw
     }
 
@@ -370,14 +402,15 @@ impl Plain {
     }
 
     fn add_distant(&self, shade: &mut Shade, numbers: &Numbers, sun: &Sun, triple: &[u64]) {
-        let (height, distance) = (double(triple[1]), double(triple[2]));
+        let [height, distance, _] = self.fields(true, triple);
+        let counted = |extent: f64| self.counted(numbers, true, triple, extent);
         if triple[0] == OBSTACLE {
             let extent = self.obstacle_height(numbers, sun, height, distance);
-            shade.obstacle = self.larger(shade.obstacle, extent);
+            shade.obstacle = self.larger(shade.obstacle, counted(extent));
         } else if !self.is(DistantOverhangLeftOut) {
             let (surface, base) = (numbers[HEIGHT], numbers[BASE_HEIGHT]);
             let extent = surface + base - height + distance * sun.tan_altitude;
-            shade.overhang = self.larger(shade.overhang, float_max(0.0, extent));
+            shade.overhang = self.larger(shade.overhang, counted(float_max(0.0, extent)));
         }
     }
 
@@ -444,21 +477,27 @@ impl Plain {
         }
     }
 
-    fn add_at_the_window(&self, shade: &mut Shade, sun: &Sun, object: &WindowObject) {
-        let [kind, depth, distance, _] = *object;
-        let (depth, distance) = (double(depth), double(distance));
-        match kind {
+    fn add_at_the_window(
+        &self,
+        shade: &mut Shade,
+        numbers: &Numbers,
+        sun: &Sun,
+        object: &WindowObject,
+    ) {
+        let [depth, distance, _] = self.fields(false, object);
+        let counted = |extent: f64| self.counted(numbers, false, object, extent);
+        match object[0] {
             OVERHANG => {
                 let extent = depth * sun.tan_altitude / self.overhang_cosine(sun) - distance;
-                shade.overhang = self.larger(shade.overhang, extent);
+                shade.overhang = self.larger(shade.overhang, counted(extent));
             }
             RIGHT_FIN => {
                 let width = self.fin(sun, true, depth, distance);
-                shade.right = self.larger(shade.right, width);
+                shade.right = self.larger(shade.right, counted(width));
             }
             LEFT_FIN => {
                 let width = self.fin(sun, false, depth, distance);
-                shade.left = self.larger(shade.left, width);
+                shade.left = self.larger(shade.left, counted(width));
             }
             _ => {}
         }
@@ -485,10 +524,11 @@ impl Plain {
 
     /// What a near obstacle leaves, against the overhangs' shade.
     fn near(&self, numbers: &Numbers, sun: &Sun, shade: &Shade, object: &WindowObject) -> f64 {
-        let [_, size, distance, transparency] = object.map(double);
+        let [size, distance, transparency] = self.fields(false, object);
         let height = numbers[HEIGHT];
         let overhang = min_of_2(height, shade.overhang);
-        let obstacle = float_min(height, self.obstacle_height(numbers, sun, size, distance));
+        let extent = self.obstacle_height(numbers, sun, size, distance);
+        let obstacle = float_min(height, self.counted(numbers, false, object, extent));
         let above = float_max(0.0, height - (obstacle + overhang));
         let behind = match self.is(NearObstacleOverTheOverhang) {
             true => obstacle,
@@ -527,7 +567,7 @@ impl Plain {
     ) -> f64 {
         let mut early: f64 = f64::INFINITY;
         for object in window {
-            self.add_at_the_window(shade, sun, object);
+            self.add_at_the_window(shade, numbers, sun, object);
             if object[0] == OBSTACLE {
                 early = float_min(early, self.near(numbers, sun, shade, object));
             }
@@ -633,6 +673,9 @@ impl Plain {
         if reveal {
             return Err(11);
         }
+        if self.is(SubnormalSizeRefused) && least_size(&scene) < f64::MIN_POSITIVE {
+            return Err(4);
+        }
         let place = place - (self.is(SectorBefore) && place > 0) as usize;
         let edition = self.edition(call.edition).ok_or(WRONG_EDITION)?;
         Ok(self.in_sector(edition, numbers, &scene.sectors[place], &scene.window))
@@ -642,7 +685,7 @@ impl Plain {
         match self.factor(call) {
             Ok(factor) => FactorAnswer { number: 0, factor },
             Err(number) => FactorAnswer {
-                number,
+                number: self.told(call, number),
                 factor: match self.flaw {
                     FactorKeptWhereRefused => 1.0,
                     WrongEditionFactorOne if number == WRONG_EDITION => 1.0,
@@ -840,4 +883,53 @@ pub fn lawless(law: Law) -> Vec<Wrong> {
         Law::Emptied => flawed!(name; OneByAQuotient, SkyNeverWhole),
         Law::OtherEdition => flawed!(name; FinSidesExchanged, FinDistanceLeftOut),
     }
+}
+
+/// What each law about sizes has to find, tried alone.
+pub fn lawless_sizes(law: SizeLaw) -> Vec<Wrong> {
+    let name = law.name();
+    match law {
+        SizeLaw::TallerDistantObstacle => flawed!(name;
+            TallDistantObstacleDropped, DistantObstacleHeightTurned, SubnormalSizeRefused),
+        SizeLaw::NearerDistantObstacle => flawed!(name;
+            CloseDistantObstacleDropped, DistantObstacleDistanceTurned),
+        SizeLaw::DeeperWindowOverhang => flawed!(name;
+            DeepWindowOverhangDropped, WindowOverhangDepthTurned),
+        SizeLaw::TallerNearObstacle => flawed!(name;
+            TallNearObstacleDropped, NearObstacleHeightTurned),
+        SizeLaw::ClearerNearObstacle => flawed!(name; ClearTakenAsOpaque, TransparencyTurned),
+        SizeLaw::LowerDistantOverhang => flawed!(name;
+            LowDistantOverhangDropped, DistantOverhangHeightTurned),
+        SizeLaw::FartherDistantOverhang => flawed!(name;
+            FarDistantOverhangDropped, DistantOverhangDistanceTurned),
+        SizeLaw::NearerWindowOverhang => flawed!(name;
+            WindowOverhangAtTheEdgeDropped, WindowOverhangDistanceTurned),
+        SizeLaw::NearerFin => flawed!(name; FinAtTheEdgeDropped, FinDistanceTurned),
+        SizeLaw::DeeperFin => flawed!(name; DeepFinDropped, FinDepthTurned),
+        SizeLaw::Several => flawed!(name;
+            TallDistantObstacleDropped, CloseDistantObstacleDropped, DeepWindowOverhangDropped,
+            TallNearObstacleDropped, ClearTakenAsOpaque, LowDistantOverhangDropped,
+            FarDistantOverhangDropped, WindowOverhangAtTheEdgeDropped, FinAtTheEdgeDropped,
+            DeepFinDropped),
+    }
+}
+
+/// What refused calls with other sizes have to find.
+pub fn other_refusals() -> Vec<Wrong> {
+    flawed! { "factor of a refused call,";
+        GapOfTallObjectsTurned,
+        TurnOfTallObjectsNoSector,
+        NoSectorOfTallObjectsGap,
+        RevealBesideTallObjectsNoSector,
+    }
+}
+
+/// What the counts of the laws about sizes have to find: that nothing ever changed.
+pub fn sizes_not_looked_at() -> Vec<Wrong> {
+    flawed!("factor: pairs,"; FactorOneAlways)
+}
+
+/// What the calls that lack a premise have to find.
+pub fn premises_missed() -> Vec<Wrong> {
+    flawed!("factor without a premise,"; TransparencyLeftOut)
 }
