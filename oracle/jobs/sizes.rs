@@ -13,9 +13,7 @@ use crate::published::totals::days_of;
 use crate::random::Random;
 use crate::shading::call::Call;
 use crate::shading::scenes::Aim;
-use crate::shading::sizes::{
-    any_law, in_order, Asked, SizeLaw, Trial, Untried, REFUSED, SIZE_LAWS,
-};
+use crate::shading::sizes::{any_law, in_order, SizeLaw, Trial, REFUSED, SIZE_LAWS, SKIPPED};
 
 /// Where the other job of a pair has other sizes.
 #[derive(Clone, Copy, PartialEq)]
@@ -87,7 +85,8 @@ pub struct SizePairs {
     /// Pairs that were refused 8 to 11, and those of them that had rows before.
     refused: [u64; 4],
     later: [u64; 4],
-    untried: Untried,
+    /// Jobs on which no law was tried, as an extent might be NaN.
+    skipped: u64,
 }
 
 impl SizePairs {
@@ -166,7 +165,7 @@ impl SizePairs {
                 settings.detail(&what, counts[place]);
             }
         }
-        self.untried.report(settings);
+        settings.detail(SKIPPED, self.skipped);
         Ok(())
     }
 }
@@ -267,32 +266,18 @@ fn any_sun(random: &mut Random, job: &Job, rows: &Rows) -> Numbers {
     sun
 }
 
-/// What the laws ask, at every step.
-fn asked_of(job: &Job, rows: &Rows) -> Asked {
-    let each = rows.0.iter();
-    let each = each.map(|row| Asked::of(&Aim::half_shaded(&numbers(job, row))));
-    let all = Asked {
-        tangent: true,
-        cosine: true,
-    };
-    each.fold(all, |all, one| Asked {
-        tangent: all.tangent && one.tangent,
-        cosine: all.cosine && one.cosine,
-    })
-}
-
 /// One of the laws that are about an object of the job, in a season by chance, if there is one and no
 /// extent is NaN.
 fn any_trial(
     laws: &[SizeLaw],
-    untried: &mut Untried,
+    skipped: &mut u64,
     random: &mut Random,
     job: &Job,
     left: &Left<RunAnswer>,
 ) -> Option<Trial> {
     let rows = Rows::stored(left);
     if !rows.0.iter().all(|row| no_nan_extent(&numbers(job, row))) {
-        untried.extent += 1;
+        *skipped += 1;
         return None;
     }
     let aim = Aim::half_shaded(&any_sun(random, job, &rows));
@@ -301,9 +286,7 @@ fn any_trial(
         ..job.objects(random.below(2) == 0)
     };
     let law = any_law(laws, random, &objects)?;
-    let asked = asked_of(job, &rows);
-    untried.note(law, asked);
-    Some(Trial { law, aim, asked })
+    Some(Trial { law, aim })
 }
 
 /// The job with other sizes there, on the darker side or not.
@@ -315,7 +298,7 @@ fn changed(trial: &Trial, place: Place, random: &mut Random, job: &Job, darker: 
             numbers: trial.aim.numbers,
             ..other.objects(summer)
         };
-        trial.law.change(random, &mut call, &drag, trial.asked);
+        trial.law.change(random, &mut call, &drag);
         match summer {
             true => other.summer = call.sectors,
             false => other.winter = call.sectors,
@@ -338,7 +321,7 @@ pub fn try_sizes(
     left: &Left<RunAnswer>,
     lent: &mut Lent,
 ) -> Outcome {
-    let Some(trial) = any_trial(laws, &mut pairs.untried, random, job, left) else {
+    let Some(trial) = any_trial(laws, &mut pairs.skipped, random, job, left) else {
         return Ok(());
     };
     let place = Place::any(trial.law, random);

@@ -1725,6 +1725,7 @@ pub enum Lawless {
     CloseDistantObstacleDropped,
     DeepWindowOverhangDropped,
     TallNearObstacleDropped,
+    CloseNearObstacleDropped,
     ClearTakenAsOpaque,
     LowDistantOverhangDropped,
     FarDistantOverhangDropped,
@@ -1960,6 +1961,7 @@ pub fn lawless_sizes(law: SizeLaw) -> Vec<Wrong> {
         SizeLaw::NearerDistantObstacle => ways!(told(); CloseDistantObstacleDropped),
         SizeLaw::DeeperWindowOverhang => ways!(told(); DeepWindowOverhangDropped),
         SizeLaw::TallerNearObstacle => ways!(told(); TallNearObstacleDropped),
+        SizeLaw::NearerNearObstacle => ways!(told(); CloseNearObstacleDropped),
         SizeLaw::ClearerNearObstacle => ways!(told(); ClearTakenAsOpaque),
         SizeLaw::LowerDistantOverhang => ways!(told();
             LowDistantOverhangDropped, WinterFactorsByTheSummersSectors),

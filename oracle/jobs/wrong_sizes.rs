@@ -8,7 +8,7 @@ use crate::published::shading::outside_beam;
 use crate::shading::wrong::{Flaw, Plain};
 
 /// The flaws of the factor.
-const FLAWS: [(Lawless, Flaw); 10] = [
+const FLAWS: [(Lawless, Flaw); 11] = [
     (TallDistantObstacleDropped, Flaw::TallDistantObstacleDropped),
     (
         CloseDistantObstacleDropped,
@@ -16,6 +16,7 @@ const FLAWS: [(Lawless, Flaw); 10] = [
     ),
     (DeepWindowOverhangDropped, Flaw::DeepWindowOverhangDropped),
     (TallNearObstacleDropped, Flaw::TallNearObstacleDropped),
+    (CloseNearObstacleDropped, Flaw::CloseNearObstacleDropped),
     (ClearTakenAsOpaque, Flaw::ClearTakenAsOpaque),
     (LowDistantOverhangDropped, Flaw::LowDistantOverhangDropped),
     (FarDistantOverhangDropped, Flaw::FarDistantOverhangDropped),

@@ -8,8 +8,7 @@ use super::handles::*;
 use super::laws::extents_are_numbers;
 use super::scenes::Aim;
 use crate::comparison::{shown, Outcome, Settings};
-use crate::pilgartze::{FactorAnswer, EDITION_2};
-use crate::published::shading::*;
+use crate::pilgartze::FactorAnswer;
 use crate::random::Random;
 
 /// What may be changed. Each law says that the factor is then never larger, that of a clearer near
@@ -17,30 +16,28 @@ use crate::random::Random;
 #[derive(Clone, Copy, Debug, PartialEq)]
 pub enum SizeLaw {
     TallerDistantObstacle,
-    /// Where the altitude's tangent is not below 0.
     NearerDistantObstacle,
-    /// Where the cosine of the difference is above 0.
     DeeperWindowOverhang,
-    /// Of transparency 0 or −0.0.
+    /// This and the next one of transparency 0 or −0.0.
     TallerNearObstacle,
+    NearerNearObstacle,
     ClearerNearObstacle,
     LowerDistantOverhang,
-    /// Where the altitude's tangent is not below 0.
     FartherDistantOverhang,
     NearerWindowOverhang,
     NearerFin,
-    /// In edition 2.
     DeeperFin,
     /// Several objects, each by one of these, near obstacles made less clear.
     Several,
 }
 use SizeLaw::*;
 
-pub const SIZE_LAWS: [SizeLaw; 11] = [
+pub const SIZE_LAWS: [SizeLaw; 12] = [
     TallerDistantObstacle,
     NearerDistantObstacle,
     DeeperWindowOverhang,
     TallerNearObstacle,
+    NearerNearObstacle,
     ClearerNearObstacle,
     LowerDistantOverhang,
     FartherDistantOverhang,
@@ -51,7 +48,7 @@ pub const SIZE_LAWS: [SizeLaw; 11] = [
 ];
 
 /// Those of one object.
-pub const SINGLE: &[SizeLaw] = SIZE_LAWS.split_at(10).0;
+pub const SINGLE: &[SizeLaw] = SIZE_LAWS.split_at(11).0;
 
 /// What a law is about: objects of a list and of some kinds, a field of theirs, and whether they shade
 /// more as it grows.
@@ -62,13 +59,6 @@ pub struct Handle {
     pub darker_upwards: bool,
 }
 
-/// What the laws ask of the sun.
-#[derive(Clone, Copy)]
-pub struct Asked {
-    pub tangent: bool,
-    pub cosine: bool,
-}
-
 impl SizeLaw {
     /// The name under which it is found broken.
     pub fn name(self) -> &'static str {
@@ -77,6 +67,7 @@ impl SizeLaw {
             NearerDistantObstacle => "factor with a nearer distant obstacle",
             DeeperWindowOverhang => "factor with a deeper window overhang",
             TallerNearObstacle => "factor with a taller near obstacle",
+            NearerNearObstacle => "factor with a nearer near obstacle",
             ClearerNearObstacle => "factor with a clearer near obstacle",
             LowerDistantOverhang => "factor with a lower distant overhang",
             FartherDistantOverhang => "factor with a farther distant overhang",
@@ -103,6 +94,7 @@ impl SizeLaw {
             NearerDistantObstacle => (true, OBSTACLES, DISTANCE, false),
             DeeperWindowOverhang => (false, OVERHANGS, SIZE, true),
             TallerNearObstacle => (false, OBSTACLES, SIZE, true),
+            NearerNearObstacle => (false, OBSTACLES, DISTANCE, false),
             ClearerNearObstacle => (false, OBSTACLES, TRANSPARENCY, false),
             LowerDistantOverhang => (true, OVERHANGS, SIZE, false),
             FartherDistantOverhang => (true, OVERHANGS, DISTANCE, true),
@@ -119,48 +111,37 @@ impl SizeLaw {
         })
     }
 
-    /// Whether it is about that object, in the call's edition.
+    /// Whether it is about that object.
     fn is_about(self, call: &Call, object: Object) -> bool {
-        let of_the_kind = self.handle().is_none_or(|handle| {
+        self.handle().is_none_or(|handle| {
             handle.distant == object.distant && handle.kinds.contains(&object.kind(call))
-        });
-        of_the_kind && (self != DeeperFin || call.edition == EDITION_2)
+        })
     }
 
-    /// Whether all that it asks is so.
-    fn applies(self, call: &Call, object: Object, asked: Asked) -> bool {
-        match self {
-            NearerDistantObstacle | FartherDistantOverhang => asked.tangent,
-            DeeperWindowOverhang => asked.cosine,
-            TallerNearObstacle => object.double(call, TRANSPARENCY) == 0.0,
-            _ => true,
-        }
+    /// Whether it asks that nothing gets through.
+    fn is_of_opaque(self) -> bool {
+        matches!(self, TallerNearObstacle | NearerNearObstacle)
     }
 
-    fn lets_change(self, call: &Call, object: Object, asked: Asked) -> bool {
-        self.is_about(call, object) && self.applies(call, object, asked)
+    fn lets_change(self, call: &Call, object: Object) -> bool {
+        let asked = || !self.is_of_opaque() || object.double(call, TRANSPARENCY) == 0.0;
+        self.is_about(call, object) && asked()
     }
 
     /// The law by which an object is changed: this one or, of several, one of those that may.
-    fn any_for(
-        self,
-        random: &mut Random,
-        call: &Call,
-        object: Object,
-        asked: Asked,
-    ) -> Option<SizeLaw> {
+    fn any_for(self, random: &mut Random, call: &Call, object: Object) -> Option<SizeLaw> {
         if self != Several {
             return Some(self);
         }
-        let able = |law: &SizeLaw| law.lets_change(call, object, asked);
+        let able = |law: &SizeLaw| law.lets_change(call, object);
         let laws: Vec<SizeLaw> = SINGLE.iter().copied().filter(able).collect();
         any_of(random, &laws)
     }
 
     /// Changes an object, or some.
-    pub fn change(self, random: &mut Random, call: &mut Call, drag: &Drag, asked: Asked) {
+    pub fn change(self, random: &mut Random, call: &mut Call, drag: &Drag) {
         let all = objects(random, call);
-        let able = |object: &Object| self.lets_change(call, *object, asked);
+        let able = |object: &Object| self.lets_change(call, *object);
         let able: Vec<Object> = all.iter().copied().filter(able).collect();
         let only = match self != Several && random.below(4) != 0 {
             true => Some(random.below(able.len().max(1))),
@@ -170,7 +151,7 @@ impl SizeLaw {
             if only.map_or(random.below(2) != 0, |only| k != only) {
                 continue;
             }
-            let law = self.any_for(random, call, object, asked);
+            let law = self.any_for(random, call, object);
             if let Some(handle) = law.and_then(SizeLaw::handle) {
                 let rival = all[random.below(all.len())];
                 let up = handle.darker_upwards == drag.darker;
@@ -188,16 +169,6 @@ fn any_of<T: Copy>(random: &mut Random, all: &[T]) -> Option<T> {
     }
 }
 
-impl Asked {
-    /// Of that sun; outside the beam no overhang shades, whatever the cosine.
-    pub fn of(aim: &Aim) -> Asked {
-        Asked {
-            tangent: aim.tan_altitude >= 0.0,
-            cosine: aim.cos_difference > 0.0 || outside_beam(&aim.numbers),
-        }
-    }
-}
-
 // --- Counting ---
 
 /// How many pairs of calls were tried for each law, how many of them had different factors in each
@@ -209,35 +180,15 @@ struct SizePairs {
     by_ulps: [u64; SIZE_LAWS.len()],
     /// Pairs that were refused 8 to 11.
     refused: [u64; 4],
-    untried: Untried,
+    /// Calls on which no law was tried, as an extent might be NaN.
+    skipped: u64,
 }
 
-/// How often a law was not tried: for what it asks, or as an extent might be NaN.
-#[derive(Default)]
-pub struct Untried {
-    tangent: u64,
-    cosine: u64,
-    pub extent: u64,
-}
+/// What is printed of those that are left out.
+pub const SKIPPED: &str = "sizes not tried: an extent might be NaN";
 
 /// The numbers of a walk that ends at no sector, and of a reveal.
 pub const REFUSED: std::ops::RangeInclusive<u64> = 8..=11;
-
-impl Untried {
-    pub fn note(&mut self, law: SizeLaw, asked: Asked) {
-        match law {
-            NearerDistantObstacle | FartherDistantOverhang => self.tangent += !asked.tangent as u64,
-            DeeperWindowOverhang => self.cosine += !asked.cosine as u64,
-            _ => {}
-        }
-    }
-
-    pub fn report(&self, settings: &Settings) {
-        settings.detail("sizes not tried: tangent below 0", self.tangent);
-        settings.detail("sizes not tried: cosine not above 0", self.cosine);
-        settings.detail("sizes not tried: an extent might be NaN", self.extent);
-    }
-}
 
 impl SizePairs {
     fn note(&mut self, law: SizeLaw, edition: u64, nearby: bool, changed: bool) {
@@ -249,14 +200,14 @@ impl SizePairs {
         }
     }
 
-    /// The line of a law. None of its counts may be 0, but for a deeper fin in edition 1.
+    /// The line of a law. None of its counts may be 0.
     fn report_law(&self, settings: &Settings, law: SizeLaw) -> Outcome {
         let place = law as usize;
         let (tried, [first, second]) = (self.tried[place], self.changed[place]);
         let by_ulps = self.by_ulps[place];
         let words = law.words();
         let line = format!("{words:<30} {tried:>10} {first:>10} {second:>10} {by_ulps:>10}");
-        if [tried, second, by_ulps].contains(&0) || (law != DeeperFin && first == 0) {
+        if [tried, first, second, by_ulps].contains(&0) {
             return Err(format!(
                 "factor: pairs, other factors by edition, by ulps: {line}"
             ));
@@ -276,7 +227,7 @@ impl SizePairs {
             }
             settings.detail(&format!("other sizes, both refused {number}"), count);
         }
-        self.untried.report(settings);
+        settings.detail(SKIPPED, self.skipped);
         Ok(())
     }
 }
@@ -291,30 +242,22 @@ pub fn in_order(darker: bool, factor: f64, other: f64) -> bool {
     }
 }
 
-/// A law under the sun of a call or, of what it asks, of all steps of a job.
+/// A law, and the sun by which sizes are aimed.
 pub struct Trial {
     pub law: SizeLaw,
     pub aim: Aim,
-    pub asked: Asked,
 }
 
 impl Trial {
     /// One of the laws that are about an object of the call, if there is one and no extent is NaN.
-    fn any(
-        laws: &[SizeLaw],
-        untried: &mut Untried,
-        random: &mut Random,
-        call: &Call,
-    ) -> Option<Trial> {
+    fn any(laws: &[SizeLaw], skipped: &mut u64, random: &mut Random, call: &Call) -> Option<Trial> {
         let aim = Aim::half_shaded(&call.numbers);
         if !extents_are_numbers(&aim) {
-            untried.extent += 1;
+            *skipped += 1;
             return None;
         }
         let law = any_law(laws, random, call)?;
-        let asked = Asked::of(&aim);
-        untried.note(law, asked);
-        Some(Trial { law, aim, asked })
+        Some(Trial { law, aim })
     }
 
     pub fn drag(&self, darker: bool, nearby: bool) -> Drag<'_> {
@@ -334,7 +277,7 @@ impl Trial {
         let Some(object) = any_of(random, &about) else {
             return first;
         };
-        if self.law == TallerNearObstacle && random.below(2) == 0 {
+        if self.law.is_of_opaque() && random.below(2) == 0 {
             object.set(&mut first, TRANSPARENCY, [0.0, -0.0][random.below(2)]);
         }
         if random.below(8) == 0 {
@@ -353,7 +296,7 @@ impl Trial {
     ) -> Option<Call> {
         let mut other = call.clone();
         let drag = self.drag(darker, nearby);
-        self.law.change(random, &mut other, &drag, self.asked);
+        self.law.change(random, &mut other, &drag);
         (other != *call).then_some(other)
     }
 
@@ -465,7 +408,7 @@ impl<'a> Sizes<'a> {
             return Ok(());
         }
         let (pairs, random) = (&mut self.pairs, &mut self.random);
-        let Some(trial) = Trial::any(self.laws, &mut pairs.untried, random, call) else {
+        let Some(trial) = Trial::any(self.laws, &mut pairs.skipped, random, call) else {
             return Ok(());
         };
         match refused {

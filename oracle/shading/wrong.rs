@@ -117,6 +117,7 @@ pub enum Flaw {
     CloseDistantObstacleDropped,
     DeepWindowOverhangDropped,
     TallNearObstacleDropped,
+    CloseNearObstacleDropped,
     ClearTakenAsOpaque,
     LowDistantOverhangDropped,
     FarDistantOverhangDropped,
@@ -128,6 +129,7 @@ pub enum Flaw {
     DistantObstacleDistanceTurned,
     WindowOverhangDepthTurned,
     NearObstacleHeightTurned,
+    NearObstacleDistanceTurned,
     TransparencyTurned,
     DistantOverhangHeightTurned,
     DistantOverhangDistanceTurned,
@@ -897,6 +899,8 @@ pub fn lawless_sizes(law: SizeLaw) -> Vec<Wrong> {
             DeepWindowOverhangDropped, WindowOverhangDepthTurned),
         SizeLaw::TallerNearObstacle => flawed!(name;
             TallNearObstacleDropped, NearObstacleHeightTurned),
+        SizeLaw::NearerNearObstacle => flawed!(name;
+            CloseNearObstacleDropped, NearObstacleDistanceTurned),
         SizeLaw::ClearerNearObstacle => flawed!(name; ClearTakenAsOpaque, TransparencyTurned),
         SizeLaw::LowerDistantOverhang => flawed!(name;
             LowDistantOverhangDropped, DistantOverhangHeightTurned),
@@ -908,7 +912,8 @@ pub fn lawless_sizes(law: SizeLaw) -> Vec<Wrong> {
         SizeLaw::DeeperFin => flawed!(name; DeepFinDropped, FinDepthTurned),
         SizeLaw::Several => flawed!(name;
             TallDistantObstacleDropped, CloseDistantObstacleDropped, DeepWindowOverhangDropped,
-            TallNearObstacleDropped, ClearTakenAsOpaque, LowDistantOverhangDropped,
+            TallNearObstacleDropped, CloseNearObstacleDropped, ClearTakenAsOpaque,
+            LowDistantOverhangDropped,
             FarDistantOverhangDropped, WindowOverhangAtTheEdgeDropped, FinAtTheEdgeDropped,
             DeepFinDropped),
     }

@@ -8,11 +8,12 @@ use crate::published::shading::*;
 
 /// Flaws by which a field is taken with its last bit turned, so that of two neighbours the larger may
 /// be taken for the smaller: those of the objects and the field that a law is about.
-const TURNED: [(Flaw, SizeLaw); 10] = [
+const TURNED: [(Flaw, SizeLaw); 11] = [
     (DistantObstacleHeightTurned, TallerDistantObstacle),
     (DistantObstacleDistanceTurned, NearerDistantObstacle),
     (WindowOverhangDepthTurned, DeeperWindowOverhang),
     (NearObstacleHeightTurned, TallerNearObstacle),
+    (NearObstacleDistanceTurned, NearerNearObstacle),
     (TransparencyTurned, ClearerNearObstacle),
     (DistantOverhangHeightTurned, LowerDistantOverhang),
     (DistantOverhangDistanceTurned, FartherDistantOverhang),
@@ -73,6 +74,7 @@ impl Plain {
             (CloseDistantObstacleDropped, true, OBSTACLE) => distance < 1.0,
             (DeepWindowOverhangDropped, false, OVERHANG) => over_all,
             (TallNearObstacleDropped, false, OBSTACLE) => over_all,
+            (CloseNearObstacleDropped, false, OBSTACLE) => distance < 1.0,
             (LowDistantOverhangDropped, true, OVERHANG) => size <= numbers[BASE_HEIGHT],
             (FarDistantOverhangDropped, true, OVERHANG) => distance > 1000.0,
             (WindowOverhangAtTheEdgeDropped, false, OVERHANG) => distance == 0.0,
