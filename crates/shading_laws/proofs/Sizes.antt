@@ -1,6 +1,6 @@
 -- Objects that shade no less dominate, so that the factor is no larger. Assumes nothing.
 use mathlib.Core.Path.{_≡_, sym, ap, ap₂, _∙_, subst}
-use mathlib.Core.Logic.{_⊎_, inr}
+use mathlib.Core.Logic.{_⊎_, inl, inr}
 use mathlib.Core.Bool.{true, false}
 use mathlib.Core.List.{List, List·Memᴰ}
 use lib.Dec.{T, eqb, eqb→eq}
@@ -21,11 +21,12 @@ use Rattle.objects.specs.declared.window.WindowShadingType.{WindowShadingType}
 use Rattle.objects.specs.declared.window.WindowShadingType.the-variants.{Obstacle, Overhang, SideFinRight, SideFinLeft}
 use Rattle.objects.specs.Objects.{isObstacle, isOverhang, kindNumber, ofKind}
 use Rattle.extents.specs.Extents.{obstacleHeight, overhangHeight}
+use Rattle.fins.specs.declared.FinShade.{FinShade}
 use Rattle.fins.specs.Fins.{finWidth}
 use Rattle.shading.specs.declared.sun_on_surface.SunOnSurface.{SunOnSurface}
 use Rattle.shading.specs.Factor.{obstacleExtents, overhangExtents, windowOverhangExtents, rightFinExtents, leftFinExtents, nearObstacleHeight, reductionFactor}
 use Rattle.shading_laws.specs.Premises.{AcceptedSurface, NoNanExtent, AcceptedNear}
-use Rattle.shading_laws.specs.Sizes.{askedAt, Both, ShadesNoLess, same, taller-obstacle, nearer-obstacle, lower-overhang, farther-overhang, deeper, nearer, DarkensNoLess, taller, closer, darker, WindowShadesNoLess, unchanged, overhang, right-fin, left-fin, near-obstacle}
+use Rattle.shading_laws.specs.Sizes.{askedAt, TangentUp, NotNegative, Both, ShadesNoLess, same, taller-obstacle, nearer-obstacle, lower-overhang, farther-overhang, ReachesNoLess, deeper, nearer, DarkensNoLess, taller, closer, darker, WindowShadesNoLess, unchanged, overhang, right-fin, left-fin, near-obstacle}
 use Rattle.shading_laws.proofs.Sides.{side-number, nearHeight, near-between, near-taller, near-darker}
 use Rattle.shading_laws.proofs.Members.{Partner, partners-reach}
 use Rattle.shading_laws.proofs.Bounds.{height-side, nearShade, near-shade-between}
@@ -82,31 +83,34 @@ module _ (surface : Surface) (sun : SunOnSurface) where
   window-overhang-moves o p (left-fin k r) t n m = absurd (one-kind Overhang SideFinLeft o t (k .first))
   window-overhang-moves o p (near-obstacle k r) t n m = absurd (one-kind Overhang Obstacle o t (k .first))
 
-  abbrev rightFin : WindowShadingObject → Float
-  rightFin o = finWidth (sun .fins .right) (o .size) (o .distance)
+  -- the fins of one side: what such a fin may be changed by
+  abbrev FinChange : WindowShadingType → FinShade → WindowShadingObject → WindowShadingObject → Type 0
+  FinChange side fin o p = (o ≡ p) ⊎ (Both (ofKind side) o p × ReachesNoLess (TangentUp fin ⊎ NotNegative o) o p)
 
-  right-fin-moves : (o p : WindowShadingObject) → WindowShadesNoLess (askedAt surface sun) o p → T (ofKind SideFinRight o) → Number (rightFin o)
-      → (T (ofKind SideFinRight p) → Number (rightFin p)) → T (ofKind SideFinRight p) × ((rightFin o ≼ whole 0) ⊎ (rightFin o ≼ rightFin p))
+  abbrev finAt : FinShade → WindowShadingObject → Float
+  finAt fin o = finWidth fin (o .size) (o .distance)
+
+  fin-moves : (side : WindowShadingType) (fin : FinShade) (o p : WindowShadingObject) → FinChange side fin o p → T (ofKind side o) → Number (finAt fin o)
+      → (T (ofKind side p) → Number (finAt fin p)) → T (ofKind side p) × ((finAt fin o ≼ whole 0) ⊎ (finAt fin o ≼ finAt fin p))
+  fin-moves side fin o p (inl e) t n m = (subst (λ (q : WindowShadingObject). T (ofKind side q)) e t, inr (size.level n (ap (finAt fin) e)))
+  fin-moves side fin o p (inr (k, deeper q e h)) t n m = (k .second, size.fin-deeper fin o p q n (m (k .second)) e h)
+  fin-moves side fin o p (inr (k, nearer e h)) t n m = (k .second, inr (size.fin-nearer fin o p n (m (k .second)) e h))
+
+  right-change : (o p : WindowShadingObject) → WindowShadesNoLess (askedAt surface sun) o p → T (ofKind SideFinRight o) → FinChange SideFinRight (sun .fins .right) o p
   unfolding kindNumber
-  right-fin-moves o p (unchanged e) t n m = (subst (λ (q : WindowShadingObject). T (ofKind SideFinRight q)) e t, inr (size.level n (ap rightFin e)))
-  right-fin-moves o p (right-fin k (deeper q e h)) t n m = (k .second, size.fin-deeper (sun .fins .right) o p q n (m (k .second)) e h)
-  right-fin-moves o p (right-fin k (nearer e h)) t n m = (k .second, inr (size.fin-nearer (sun .fins .right) o p n (m (k .second)) e h))
-  right-fin-moves o p (overhang k r) t n m = absurd (one-kind SideFinRight Overhang o t (k .first))
-  right-fin-moves o p (left-fin k r) t n m = absurd (one-kind SideFinRight SideFinLeft o t (k .first))
-  right-fin-moves o p (near-obstacle k r) t n m = absurd (one-kind SideFinRight Obstacle o t (k .first))
+  right-change o p (unchanged e) t = inl e
+  right-change o p (right-fin k r) t = inr (k, r)
+  right-change o p (overhang k r) t = absurd (one-kind SideFinRight Overhang o t (k .first))
+  right-change o p (left-fin k r) t = absurd (one-kind SideFinRight SideFinLeft o t (k .first))
+  right-change o p (near-obstacle k r) t = absurd (one-kind SideFinRight Obstacle o t (k .first))
 
-  abbrev leftFin : WindowShadingObject → Float
-  leftFin o = finWidth (sun .fins .left) (o .size) (o .distance)
-
-  left-fin-moves : (o p : WindowShadingObject) → WindowShadesNoLess (askedAt surface sun) o p → T (ofKind SideFinLeft o) → Number (leftFin o)
-      → (T (ofKind SideFinLeft p) → Number (leftFin p)) → T (ofKind SideFinLeft p) × ((leftFin o ≼ whole 0) ⊎ (leftFin o ≼ leftFin p))
+  left-change : (o p : WindowShadingObject) → WindowShadesNoLess (askedAt surface sun) o p → T (ofKind SideFinLeft o) → FinChange SideFinLeft (sun .fins .left) o p
   unfolding kindNumber
-  left-fin-moves o p (unchanged e) t n m = (subst (λ (q : WindowShadingObject). T (ofKind SideFinLeft q)) e t, inr (size.level n (ap leftFin e)))
-  left-fin-moves o p (left-fin k (deeper q e h)) t n m = (k .second, size.fin-deeper (sun .fins .left) o p q n (m (k .second)) e h)
-  left-fin-moves o p (left-fin k (nearer e h)) t n m = (k .second, inr (size.fin-nearer (sun .fins .left) o p n (m (k .second)) e h))
-  left-fin-moves o p (overhang k r) t n m = absurd (one-kind SideFinLeft Overhang o t (k .first))
-  left-fin-moves o p (right-fin k r) t n m = absurd (one-kind SideFinLeft SideFinRight o t (k .first))
-  left-fin-moves o p (near-obstacle k r) t n m = absurd (one-kind SideFinLeft Obstacle o t (k .first))
+  left-change o p (unchanged e) t = inl e
+  left-change o p (left-fin k r) t = inr (k, r)
+  left-change o p (overhang k r) t = absurd (one-kind SideFinLeft Overhang o t (k .first))
+  left-change o p (right-fin k r) t = absurd (one-kind SideFinLeft SideFinRight o t (k .first))
+  left-change o p (near-obstacle k r) t = absurd (one-kind SideFinLeft Obstacle o t (k .first))
 
 -- ---- near obstacles
 
@@ -158,11 +162,15 @@ module _ {surface : Surface} {sun : SunOnSurface} {xs ys : List ShadingObject} {
 
   right-fins-reach : AllReached (rightFinExtents sun ws) (rightFinExtents sun vs)
   unfolding rightFinExtents
-  right-fins-reach = partners-reach (ofKind SideFinRight) (rightFin surface sun) ws vs (less .right-fins) (more .right-fins) (right-fin-moves surface sun) k
+  right-fins-reach =
+      partners-reach (ofKind SideFinRight) (finAt surface sun (sun .fins .right)) ws vs (less .right-fins) (more .right-fins)
+      (λ o p r t. fin-moves surface sun SideFinRight (sun .fins .right) o p (right-change surface sun o p r t) t) k
 
   left-fins-reach : AllReached (leftFinExtents sun ws) (leftFinExtents sun vs)
   unfolding leftFinExtents
-  left-fins-reach = partners-reach (ofKind SideFinLeft) (leftFin surface sun) ws vs (less .left-fins) (more .left-fins) (left-fin-moves surface sun) k
+  left-fins-reach =
+      partners-reach (ofKind SideFinLeft) (finAt surface sun (sun .fins .left)) ws vs (less .left-fins) (more .left-fins)
+      (λ o p r t. fin-moves surface sun SideFinLeft (sun .fins .left) o p (left-change surface sun o p r t) t) k
 
   near-darkened : (o : WindowShadingObject) → List·Memᴰ o ws → T (ofKind Obstacle o) → Darkened surface sun vs o
   unfolding kindNumber

@@ -371,50 +371,40 @@ bounded l m one other starts ends = record {
   ends = λ i h. let z : i ≡ 0 = omega (arith, h, one) in rw z (level _ _ ends);
 }
 
+module _ (s s′ v t t′ w : List ℕ) where
+  comparable : BoundedAlike s t → BoundedAlike s′ t′ → IsAccepted (runOf (jobWith s s′ v) room .ran) → IsAccepted (runOf (jobWith t t′ w) room .ran)
+      → NoNan (jobWith s s′ v) → NoNan (jobWith t t′ w) → Comparable (jobWith s s′ v) (jobWith t t′ w) room room
+  unfolding jobWith
+  comparable summer winter accepted other fine fine′ = record {
+    alike = alike s s′ t t′ v w;
+    bounded = record { in-summer = summer; in-winter = winter };
+    first-accepted = accepted;
+    second-accepted = other;
+    first-extents = fine;
+    second-extents = fine′;
+    doubles = are-doubles s s′ t t′ v w;
+  }
+
 bare-built : Comparable bare built room room
 unfolding lists levels le
-bare-built = record {
-  alike = alike (bare .summer) (bare .winter) (built .summer) (built .winter) (bare .window) (built .window);
-  bounded = record {
-    in-summer = bounded (bare .summer) (built .summer) refl refl tt tt;
-    in-winter = bounded (bare .winter) (built .winter) refl refl tt tt;
-  };
-  first-accepted = bare-accepted;
-  second-accepted = built-accepted;
-  first-extents = bare-no-nan;
-  second-extents = built-no-nan;
-  doubles = are-doubles (bare .summer) (bare .winter) (built .summer) (built .winter) (bare .window) (built .window);
-}
+bare-built =
+    comparable (bare .summer) (bare .winter) (bare .window) (built .summer) (built .winter) (built .window)
+    (bounded (bare .summer) (built .summer) refl refl tt tt) (bounded (bare .winter) (built .winter) refl refl tt tt)
+    bare-accepted built-accepted bare-no-nan built-no-nan
 
 built-mixed : Comparable built mixed room room
 unfolding lists levels le
-built-mixed = record {
-  alike = alike (built .summer) (built .winter) (mixed .summer) (mixed .winter) (built .window) (mixed .window);
-  bounded = record {
-    in-summer = bounded (built .summer) (mixed .summer) refl refl tt tt;
-    in-winter = bounded (built .winter) (mixed .winter) refl refl tt tt;
-  };
-  first-accepted = built-accepted;
-  second-accepted = mixed-accepted;
-  first-extents = built-no-nan;
-  second-extents = mixed-no-nan;
-  doubles = are-doubles (built .summer) (built .winter) (mixed .summer) (mixed .winter) (built .window) (mixed .window);
-}
+built-mixed =
+    comparable (built .summer) (built .winter) (built .window) (mixed .summer) (mixed .winter) (mixed .window)
+    (bounded (built .summer) (mixed .summer) refl refl tt tt) (bounded (built .winter) (mixed .winter) refl refl tt tt)
+    built-accepted mixed-accepted built-no-nan mixed-no-nan
 
 built-dragged : Comparable built dragged room room
 unfolding lists levels le
-built-dragged = record {
-  alike = alike (built .summer) (built .winter) (dragged .summer) (dragged .winter) (built .window) (dragged .window);
-  bounded = record {
-    in-summer = bounded (built .summer) (dragged .summer) refl refl tt tt;
-    in-winter = bounded (built .winter) (dragged .winter) refl refl tt tt;
-  };
-  first-accepted = built-accepted;
-  second-accepted = dragged-accepted;
-  first-extents = built-no-nan;
-  second-extents = dragged-no-nan;
-  doubles = are-doubles (built .summer) (built .winter) (dragged .summer) (dragged .winter) (built .window) (dragged .window);
-}
+built-dragged =
+    comparable (built .summer) (built .winter) (built .window) (dragged .summer) (dragged .winter) (dragged .window)
+    (bounded (built .summer) (dragged .summer) refl refl tt tt) (bounded (built .winter) (dragged .winter) refl refl tt tt)
+    built-accepted dragged-accepted built-no-nan dragged-no-nan
 
 -- ---- and hold each other's objects
 
