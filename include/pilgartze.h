@@ -35,8 +35,9 @@
  * objects. Each sum lies from 0 to the unshaded sum, that of direct times step, and is that one, bit for bit, with no
  * objects, in either season. The same objects, in any order and number, give the same factors, sum and totals, bit for
  * bit. Where either job holds all objects of the other, sector by sector in summer and in winter, and at the window,
- * its factors are nowhere larger, nor is its sum, nor that of any day or month. Day by day and month by month both have
- * the same count and the same largest total.
+ * its factors are nowhere larger, nor is its sum, nor that of any day or month; and so where each of its objects is the
+ * other's at its place, or that one changed so that it shades more (see pilgartze_factor_at). Day by day and month by
+ * month both have the same count and the same largest total.
  * Objects are the same where all their words are. That no extent is NaN is measured, not proved: none is known to be.
  * Also proved: a job with the same sectors in both lists is a job with one list, whatever leaf days of 0..365 it has.
  *
@@ -713,9 +714,10 @@ static inline uint64_t pilgartze_irradiance_at(const pilgartze_site *site, doubl
 
 /* pilgartze_factor with structs. It has no day: pass the sectors of the season that is meant.
  *
- * As one measure of an object is dragged the factor goes one way: a taller or nearer distant obstacle, a lower or
- * farther distant overhang, a deeper or nearer overhang or fin at the window and a taller or nearer near obstacle of
- * transparency 0 never raise it, and a clearer near obstacle never lowers it (docs/PROMISES.md, "Dragging a handle"). */
+ * As one measure of an object is dragged the factor goes one way, where no shade extent is NaN: a taller or nearer
+ * distant obstacle, a lower or farther distant overhang, a deeper or nearer overhang or fin at the window and a taller
+ * or nearer near obstacle of transparency 0 never raise it, and a clearer near obstacle never lowers it
+ * (docs/PROMISES.md, "Dragging a handle"). */
 static inline pilgartze_factor_answer pilgartze_factor_at(uint64_t edition, double altitude, double azimuth,
                                                           const pilgartze_surface *surface,
                                                           const pilgartze_sector *sectors, size_t sector_count,

@@ -1,5 +1,5 @@
 -- `Answers` has the laws of the answer, `Bounds`, `NoObjects`, `MoreObjects` and `SameObjects` those of its parts; what
--- they assume stands in `Premises` of specs/.
+-- they assume stands in `Premises` of specs/. `SizeLaws` has those of `Sizes` of specs/, `SizeLimits` where they end.
 pub mod Sides
 pub mod Members
 pub mod ExtentSizes

@@ -35,7 +35,7 @@ pub record Asked : Type 1 where
   pub sun-up : Type 0
   -- the height that a distant overhang shades is a number before it is cut off at 0
   pub reach : ShadingObject → Type 0
-  -- an overhang at the window, or a fin, shades more where it is deeper
+  -- an overhang at the window, or a fin of either side, shades no less where it is deeper
   pub overhang-deepens : WindowShadingObject → Type 0
   pub right-deepens : WindowShadingObject → Type 0
   pub left-deepens : WindowShadingObject → Type 0
@@ -59,7 +59,7 @@ askedAt surface sun = record {
   left-deepens = λ o. TangentUp (sun .fins .left) ⊎ NotNegative o;
 }
 
--- of an accepted sun and accepted objects: all this is so
+-- of an accepted sun and accepted objects nothing need be asked: all of the above is so
 abbrev pub nothing : Asked
 nothing = record { sun-up = Unit {0}; reach = λ o. Unit {0}; overhang-deepens = λ o. Unit {0}; right-deepens = λ o. Unit {0}; left-deepens = λ o. Unit {0} }
 
@@ -77,7 +77,7 @@ pub data ShadesNoLess (asked : Asked) (o p : ShadingObject) : Type 0 where
   lower-overhang : asked .reach p → Both isOverhang o p → o .distance ≡ p .distance → p .height ≼ o .height → ShadesNoLess asked o p
   farther-overhang : asked .reach p → asked .sun-up → Both isOverhang o p → o .height ≡ p .height → o .distance ≼ p .distance → ShadesNoLess asked o p
 
--- an overhang at the window or a fin: deeper, where that is asked, or nearer
+-- an overhang at the window or a fin: deeper, where what that asks is so, or nearer
 pub data ReachesNoLess (deepens : Type 0) (o p : WindowShadingObject) : Type 0 where
   deeper : deepens → o .distance ≡ p .distance → o .size ≼ p .size → ReachesNoLess deepens o p
   nearer : o .size ≡ p .size → p .distance ≼ o .distance → ReachesNoLess deepens o p

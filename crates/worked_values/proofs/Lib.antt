@@ -1,5 +1,5 @@
 -- `EdgeValues` has the specification's values at the edges, `FinValues` fins in both editions, `TotalsValues` dates and totals,
--- `Instances` three jobs that the claim on two jobs compared speaks of.
+-- `Instances` four jobs that the claim on two jobs compared speaks of.
 pub mod EdgeValues
 pub mod FinValues
 pub mod SeasonValues
