@@ -6,10 +6,11 @@
  * direct sun got past the shade, in Wh/m2. For each day and each month of the year that sum is kept too, with the count
  * of its steps and the largest total irradiance.
  *
- * Four calls are in the library: pilgartze_run, pilgartze_step, pilgartze_irradiance and pilgartze_factor. They take
- * plain numbers and lists of bytes. Below them stand inline functions that take structs and arrays in their place:
- * pilgartze_run_job, pilgartze_step_at, pilgartze_irradiance_at and pilgartze_factor_at. Most programs need only these.
- * A fifth function, pilgartze_version, says which version of the library is linked.
+ * Five calls are in the library: pilgartze_run, pilgartze_step, pilgartze_irradiance, pilgartze_factor and
+ * pilgartze_strips. They take plain numbers and lists of bytes. Below them stand inline functions that take structs and
+ * arrays in their place: pilgartze_run_job, pilgartze_step_at, pilgartze_irradiance_at, pilgartze_factor_at and
+ * pilgartze_strips_at. Most programs need only these. A sixth function, pilgartze_version, says which version of the
+ * library is linked.
  *
  * What the library promises. It is proved, for every input, that
  * - a call ends, and never stops the program;
@@ -46,8 +47,8 @@
  * - The results, the totals and the table of days overlap no other list, nor each other. (The lists that are only read
  *   may overlap each other.)
  * - An empty list of a raw call has length 0 and any pointer but NULL. The inline functions see to that: there a list
- *   with count 0 may be NULL. Pointers to structs (site, run, surface, weather, reading, shading, table of days,
- *   totals, row) may not be NULL.
+ *   with count 0 may be NULL. Pointers to structs (site, run, surface, tall glazing, weather, reading, shading, table
+ *   of days, totals, row, breakdown) may not be NULL.
  * - The floating-point unit is in its usual mode: it rounds to nearest, flushes no subnormals to zero (a program built
  *   with -ffast-math may do so) and stops the program at no exception (feenableexcept).
  *
@@ -117,7 +118,7 @@ extern "C" {
 /* The version of this header. The first part changes where a call, a record or a unit does, so that programs have to
  * change, the second where something is added, the third otherwise (docs/CHANGES.md). */
 #define PILGARTZE_VERSION_MAJOR 6
-#define PILGARTZE_VERSION_MINOR 0
+#define PILGARTZE_VERSION_MINOR 1
 #define PILGARTZE_VERSION_PATCH 0
 #define PILGARTZE_VERSION \
     (PILGARTZE_VERSION_MAJOR * 1000000 + PILGARTZE_VERSION_MINOR * 1000 + PILGARTZE_VERSION_PATCH)
@@ -146,8 +147,9 @@ enum pilgartze_refusal {
      * in a single-step call, a time that is out of range or whose hour is not in the year.
      * -> Hold start, end and step to their ranges; end at 8760, or set leap_year. */
     PILGARTZE_REFUSED_RUN = 2,
-    /* surface: a field of the surface is out of range; also the sun's altitude or azimuth in a call of the factor.
-     * -> Hold each field to its range; an azimuth far beyond 360 is that of a sun overhead. */
+    /* surface: a field of the surface is out of range; also the sun's altitude or azimuth in a call of the factor or of
+     * the strips, and there a strip's base or height that is out of range, no strip, more than 12, or a part of one.
+     * -> Hold each field to its range; an azimuth far beyond 360 is that of a sun overhead. Pass 1 to 12 strips. */
     PILGARTZE_REFUSED_SURFACE = 3,
     /* object: in a sector or at the window a field is out of range, a kind is not known, a count is above 8, an unused
      * object or word is not all bits zero, or a list is too long or ends amid a record. Both lists of sectors are
@@ -246,6 +248,20 @@ typedef struct pilgartze_surface {
                            The slant height itself is accepted and gives a wrong factor */
     double width;       /* 0.001..1000 */
 } pilgartze_surface;
+
+/* Tall glazing, such as a stair window, cut into strips from side to side: a surface whose height is that of its strips
+ * together. The first strip stands on base_height, each later one on the strip below: its base is that one's base plus
+ * height, rounded. All bases are 0..1000. One that is zeroed has no strips and is refused (3). */
+typedef struct pilgartze_tall_glazing {
+    double tilt;           /* as those of a surface */
+    double orientation;
+    double base_height;    /* 0..1000, from the ground to the lower edge of the lowest strip */
+    double width;
+    const double *heights; /* of each strip, the lowest first, 0.001..1000; of tilted glazing vertical projections */
+    size_t strip_count;    /* 1..12 */
+} pilgartze_tall_glazing;
+
+#define PILGARTZE_MOST_STRIPS 12
 
 /* Kinds of distant objects. */
 enum pilgartze_object_kind { PILGARTZE_DISTANT_OBSTACLE = 0, PILGARTZE_DISTANT_OVERHANG = 1 };
@@ -419,7 +435,7 @@ typedef struct pilgartze_answer {
 typedef struct pilgartze_factor_answer {
     uint64_t number; /* an enum pilgartze_refusal; 0: accepted */
     double factor;   /* 0 where refused; else as in a row, and from 0 to 1 as there */
-} pilgartze_factor_answer;
+} pilgartze_factor_answer; /* of pilgartze_factor and of pilgartze_strips */
 
 /* The structs are the library's records, byte for byte. */
 #define PILGARTZE_SIZE(type, size) typedef char type##_has_its_size[sizeof(type) == (size) ? 1 : -1]
@@ -442,8 +458,8 @@ PILGARTZE_SIZE(pilgartze_factor_answer, 16);
 /* An edition first, where the call gives a factor, then numbers in the order of the structs above, then lists, each a
  * pointer and a length in bytes. A series is a list of doubles, sectors are records of 216 bytes (struct
  * pilgartze_sector), window objects of 32, days and totals of 24, results of 48 or 72; every word is 8 bytes, least
- * byte first. Pointers need no alignment. A part of a double at the end of a series or of results counts for nothing.
- */
+ * byte first. Pointers need no alignment. A part of a double at the end of a series or of results counts for nothing;
+ * at the end of heights it is refused (3). */
 
 /* A run over all steps. Accepted: one row of 48 bytes for each step, in order; bytes past the last row are untouched.
  * Refused 14, 15 or 1 to 7: nothing is stored. Refused 8 to 11 at a step: the rows of the steps before it are stored,
@@ -491,6 +507,18 @@ pilgartze_factor_answer pilgartze_factor(uint64_t edition, double altitude, doub
                                          double orientation, double base_height, double height, double width,
                                          const uint8_t *sectors, size_t sectors_length, const uint8_t *window,
                                          size_t window_length);
+
+/* The factor of tall glazing in strips, at one sun as in pilgartze_factor. Heights is a list of doubles, the lowest
+ * strip's first, 8 to 96 bytes; the surface's own height is not passed. Each strip has its factor, which is that of
+ * pilgartze_factor for a surface with the strip's base and height; the answer is the sum of factor * height divided by
+ * the sum of heights, both from 0 and from the lowest strip up, each product, sum and the quotient rounded. Outside the
+ * beam it is exactly 1. The number is 0, or 14, 3, 4, 8 to 11, tried in this order; 3 is also a strip whose base is not
+ * 0..1000 or whose height is not 0.001..1000, and a list of heights that is empty, has more than 12 or ends amid a
+ * double. Nothing is stored. */
+pilgartze_factor_answer pilgartze_strips(uint64_t edition, double altitude, double azimuth, double tilt,
+                                         double orientation, double base_height, double width,
+                                         const uint8_t *heights, size_t heights_length, const uint8_t *sectors,
+                                         size_t sectors_length, const uint8_t *window, size_t window_length);
 
 /* ---- Objects -------------------------------------------------------------------------------------------------- */
 
@@ -726,6 +754,29 @@ static inline pilgartze_factor_answer pilgartze_factor_at(uint64_t edition, doub
     const uint8_t nothing = 0;
     return pilgartze_factor(edition, altitude, azimuth, surface->tilt, surface->orientation, surface->base_height,
                             surface->height, surface->width, pilgartze_bytes(sectors, sector_count, &nothing),
+                            pilgartze_length(sector_count, sizeof(pilgartze_sector)),
+                            pilgartze_bytes(window, window_count, &nothing),
+                            pilgartze_length(window_count, sizeof(pilgartze_window_object)));
+}
+
+/* pilgartze_strips with structs. Where no shade extent of a strip is NaN the factor lies from 0 to 1, is exactly 1 with
+ * no objects, is the same double with the same objects in any order and number, never larger with more, and as one
+ * measure of an object is dragged it goes one way as that of pilgartze_factor_at does.
+ *
+ * - The distance of an overhang at the window counts from the upper edge of each strip, not of the glazing: one that is
+ *   meant for the upper edge shades every strip as if it hung right above it.
+ * - One strip need not give the double of pilgartze_factor, for it is multiplied by its height and divided by it again;
+ *   nor need the factor lie from the least to the largest of the strips' own. Both by rounding alone. */
+static inline pilgartze_factor_answer pilgartze_strips_at(uint64_t edition, double altitude, double azimuth,
+                                                          const pilgartze_tall_glazing *glazing,
+                                                          const pilgartze_sector *sectors, size_t sector_count,
+                                                          const pilgartze_window_object *window, size_t window_count)
+{
+    const uint8_t nothing = 0;
+    return pilgartze_strips(edition, altitude, azimuth, glazing->tilt, glazing->orientation, glazing->base_height,
+                            glazing->width, pilgartze_bytes(glazing->heights, glazing->strip_count, &nothing),
+                            pilgartze_length(glazing->strip_count, sizeof(double)),
+                            pilgartze_bytes(sectors, sector_count, &nothing),
                             pilgartze_length(sector_count, sizeof(pilgartze_sector)),
                             pilgartze_bytes(window, window_count, &nothing),
                             pilgartze_length(window_count, sizeof(pilgartze_window_object)));
