@@ -13,6 +13,7 @@ use Rattle.objects.specs.Refusals.{numberOf}
 use Rattle.jobs.specs.declared.answers.RunAnswer.{RunAnswer}
 use Rattle.weather.specs.declared.Reading.{Reading}
 use Rattle.jobs.specs.Run.{Left, numberFor, stepFor, countFor, sumFor}
+use Rattle.strips.specs.declared.glazing.TallGlazing.{TallGlazing}
 use Rattle.single_steps.specs.Single.{Called, singleNumber}
 use Rattle.pilgartze.specs.declared.Answer.{Answer}
 use Rattle.pilgartze.specs.declared.ShadingFactor.{ShadingFactor}
@@ -55,6 +56,9 @@ timesOf start end step = record { start = start; end = end; step = step }
 abbrev pub surfaceOf : Float → Float → Float → Float → Float → Surface
 surfaceOf tilt orientation base height width =
     record { tilt = tilt; orientation = orientation; «base_height» = base; height = height; width = width }
+
+abbrev pub glazingOf : Float → Float → Float → Float → TallGlazing
+glazingOf tilt orientation base width = record { tilt = tilt; orientation = orientation; «base_height» = base; width = width }
 
 abbrev pub readingOf : Float → Float → Float → Reading
 readingOf diffuse direct reflectivity = record { diffuse = diffuse; direct = direct; reflectivity = reflectivity }

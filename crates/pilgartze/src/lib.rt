@@ -3,17 +3,20 @@
 // `include/pilgartze.h` says the same for C.
 ghost use mathlib.Core.Path.{_≡_};
 ghost use Rattle.shading.specs.Call.{factorCall};
+ghost use Rattle.doubles.specs.Order.{Fits};
 ghost use Rattle.shading_laws.specs.Premises.{Doubles};
+ghost use Rattle.strips.specs.Strips.{stripsCall};
 ghost use Rattle.jobs.specs.Job.{jobOf};
 ghost use Rattle.jobs.specs.Run.{lent, runOf};
 ghost use Rattle.single_steps.specs.Single.{stepCall, irradianceCall};
-ghost use Rattle.pilgartze.specs.CallAnswers.{answerFor, factorFor, runLeaves, callLeaves, siteOf, timesOf, surfaceOf, readingOf};
+ghost use Rattle.pilgartze.specs.CallAnswers.{answerFor, factorFor, runLeaves, callLeaves, siteOf, timesOf, surfaceOf, glazingOf, readingOf};
 ghost use Rattle.pilgartze.specs.Version.{version};
 use jobs::answers::RunAnswer;
 use objects::answers::FactorAnswer;
 use objects::answers::number_of;
 use objects::surface::Surface;
 use simulation_time::run::Run;
+use strips::glazing::TallGlazing;
 use sun::site::Site;
 use weather::Reading;
 
@@ -26,7 +29,7 @@ pub struct Answer {
     pub sum: f64,
 }
 
-// What a factor call answers: the refusal's number, or 0 and the factor.
+// What a factor call and a call for strips answer: the refusal's number, or 0 and the factor.
 #[repr(C)]
 pub struct ShadingFactor {
     pub number: u64,
@@ -105,12 +108,12 @@ fn surface_of(tilt: f64, orientation: f64, base_height: f64, height: f64, width:
     }
 }
 
-// The version of the library that is linked: 6.0.0, as the header's PILGARTZE_VERSION.
+// The version of the library that is linked: 6.1.0, as the header's PILGARTZE_VERSION.
 #[no_mangle]
 pub extern "C" fn pilgartze_version() -> u64
     ensures { λ r. ⌜ r ≡ version ⌝ }
 {
-    6000000
+    6001000
 }
 
 // A run: the table of days, the totals of each day and month, a row of six doubles for each step, and the sum of factor times direct
@@ -322,4 +325,40 @@ pub extern "C" fn pilgartze_factor(
 {
     let surface = surface_of(tilt, orientation, base_height, height, width);
     factor_for(shading::step::factor_call(edition, altitude, azimuth, surface, sectors, window))
+}
+
+// The direct shading factor of tall glazing in strips, at one step. That the width is a double is what the laws of strips ask of it
+// (`Laws` of `strips`).
+#[no_mangle]
+pub extern "C" fn pilgartze_strips(
+    edition: u64,
+    altitude: f64,
+    azimuth: f64,
+    tilt: f64,
+    orientation: f64,
+    base_height: f64,
+    width: f64,
+    heights: &[u8],
+    sectors: &[u8],
+    window: &[u8],
+) -> ShadingFactor
+    ensures { λ r. ⌜ r ≡ factorFor (stripsCall edition altitude azimuth (glazingOf tilt orientation «base_height» width)
+        (now (heights .entry)) (now (sectors .entry)) (now (window .entry))) ⌝ }
+    ensures { λ r. ⌜ Fits width ⌝ }
+{
+    let glazing = TallGlazing {
+        tilt: tilt,
+        orientation: orientation,
+        base_height: base_height,
+        width: width,
+    };
+    factor_for(strips::factor::strips_call(
+        edition,
+        altitude,
+        azimuth,
+        glazing,
+        heights,
+        sectors,
+        window,
+    ))
 }

@@ -110,7 +110,8 @@ pub fn direct_shading_reduction_factor(
     factor_at(edition, surface, altitude, azimuth, sun, segment, objects)
 }
 
-fn sun_fine(altitude: f64, azimuth: f64) -> bool
+// Whether a sun that is named in a call is in its range.
+pub fn sun_fine(altitude: f64, azimuth: f64) -> bool
     ensures { λ r. ⌜ r ≡ sunFine altitude azimuth ⌝ }
 {
     (0.0 <= altitude) & (altitude <= 90.0) & ((-360.0 <= azimuth) & (azimuth <= 360.0))

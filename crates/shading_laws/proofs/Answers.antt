@@ -42,11 +42,11 @@ valueOf : FactorAnswer → Float
 valueOf (Factor x) = x
 valueOf (Refused r) = whole 0
 
-not-refused : {A : Type 0} {r : Refusal} {x : Float} → Refused r ≡ Factor x → A
+pub not-refused : {A : Type 0} {r : Refusal} {x : Float} → Refused r ≡ Factor x → A
 unfolding isFactor
 not-refused e = absurd (subst T (sym (ap isFactor e)) tt)
 
-same-factor : {x y : Float} → Factor x ≡ Factor y → x ≡ y
+pub same-factor : {x y : Float} → Factor x ≡ Factor y → x ≡ y
 unfolding valueOf
 same-factor e = ap valueOf e
 

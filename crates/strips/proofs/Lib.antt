@@ -1,0 +1,4 @@
+pub mod Loops
+pub mod Means
+pub mod StripLists
+pub mod Walks

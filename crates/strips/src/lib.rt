@@ -1,0 +1,3 @@
+// The factor of tall glazing, such as a stair window, that is cut into strips.
+pub mod factor;
+pub mod glazing;
