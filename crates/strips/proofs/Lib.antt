@@ -2,3 +2,4 @@ pub mod Loops
 pub mod Means
 pub mod StripLists
 pub mod Walks
+pub mod StripLaws

@@ -1,7 +1,8 @@
 -- The quotient of the sums, whatever the answers of the strips are: from 0 to 1 where all factors are, 1 where all are 1, no larger where
--- none is larger, the same where all are the same, and refused where all are. Assumes nothing.
+-- none is larger, the same where all are the same, and refused where the lowest is. Assumes nothing.
 use mathlib.Core.Path.{_≡_, refl, sym, ap, _∙_, subst}
-use mathlib.Core.List.{List, [], _∷_, List·Memᴰ, List·Memᴰ·head, List·Memᴰ·tail}
+use mathlib.Core.Logic.{inl, inr}
+use mathlib.Core.List.{List, [], _∷_, List·Memᴰ, List·Memᴰ·head, List·Memᴰ·tail, List·Memᴰ·not-nil, List·Memᴰ·cases-cons}
 use lib.Ieee.{Float, add, mul, le, lt}
 use Rattle.doubles.specs.Arithmetic.{_⊕_, _⊗_, _⊘_, whole, decimal}
 use Rattle.doubles.specs.Order.{_≼_, _≺_, InRange, Number, Finite}
@@ -153,8 +154,24 @@ next-falls (Factor x) (Factor y) m n h go = go x y refl refl h
 abbrev pub AllBetween : (Surface → FactorAnswer) → List Surface → Type 0
 AllBetween f strips = (s : Surface) → List·Memᴰ s strips → (x : Float) → f s ≡ Factor x → Between (whole 1) x
 
+pub record HasFactor (answer : FactorAnswer) : Type 0 where
+  pub value : Float
+  pub is : answer ≡ Factor value
+
 module _ (f : Surface → FactorAnswer) where
-  -- so is the whole's
+  -- where the whole has a factor, every strip has one
+  pub all-factors : (strips : List Surface) (weighted total x : Float) → meanFrom f weighted total strips ≡ Factor x → (s : Surface) → List·Memᴰ s strips → HasFactor (f s)
+  unfolding meanFrom
+  all-factors [] weighted total x e s m = absurd (List·Memᴰ·not-nil m)
+  all-factors (strip ∷ above) weighted total x e s m =
+      factor-first (f strip) _ e
+      (λ y i rest.
+      elim (List·Memᴰ·cases-cons m) [
+        | inl q ↦ record { value = y; is = ap f q ∙ i }
+        | inr k ↦ all-factors above (weighted ⊕ y ⊗ strip .height) (total ⊕ strip .height) x rest s k
+      ])
+
+  -- from 0 to 1 where all are
   pub mean-between : (strips : List Surface) {base weighted total : Float} → Stacked base strips → Sums base weighted total → (strips ≡ [] → decimal 1 3 ≼ total)
       → AllBetween f strips → (x : Float) → meanFrom f weighted total strips ≡ Factor x → Between (whole 1) x
   unfolding meanFrom Stacked

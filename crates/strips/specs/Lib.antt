@@ -1,1 +1,2 @@
 pub mod Strips
+pub mod Laws
