@@ -3,3 +3,4 @@ pub mod Means
 pub mod StripLists
 pub mod Walks
 pub mod StripLaws
+pub mod StripLimits
