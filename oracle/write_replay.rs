@@ -26,6 +26,8 @@ mod replay;
 mod shading;
 #[allow(dead_code)]
 mod stand_ins;
+#[allow(dead_code)]
+mod strips;
 #[macro_use]
 #[allow(dead_code)]
 mod support;

@@ -1,0 +1,2 @@
+use crate::comparison::Outcome;
+pub fn run(_: u64) -> Outcome { Ok(()) }
