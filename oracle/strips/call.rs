@@ -79,7 +79,10 @@ impl Call {
         }
         lines.push(format!("  heights     {} bytes", self.heights.len()));
         for height in doubles_of(&self.heights).into_iter().take(SHOWN) {
-            lines.push(format!("  height      {}", crate::comparison::shown(height)));
+            lines.push(format!(
+                "  height      {}",
+                crate::comparison::shown(height)
+            ));
         }
         lines.extend(lists_shown(&self.sectors, &self.window));
         lines.join("\n")

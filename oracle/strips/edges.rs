@@ -254,7 +254,10 @@ const FAULTS: [u64; 6] = [3, 4, 8, 9, 10, 11];
 fn with_faults(call: &Call, set: usize) -> Call {
     let mut surface = call.strip([call.numbers[GLAZING_BASE], TWELVE[0]]);
     // from the last on, so that a part record stays one
-    for place in (0..FAULTS.len()).rev().filter(|place| set >> place & 1 == 1) {
+    for place in (0..FAULTS.len())
+        .rev()
+        .filter(|place| set >> place & 1 == 1)
+    {
         surface_edges::fault(&mut surface, FAULTS[place]);
     }
     Call::of(&surface, call.heights.clone())
@@ -370,8 +373,9 @@ pub fn sums() -> Vec<Call> {
 
 // --- The lists ---
 
-/// Of the calls of the factor at the edges every so many.
-const EVERY: usize = 9;
+/// Of the calls of the factor at the edges every so many; a prime, so that it falls in step with none of
+/// the loops that make them.
+const EVERY: usize = 7;
 
 /// Calls of the factor at the edges, with strips in the place of the surface.
 pub fn lists() -> Vec<Call> {

@@ -99,3 +99,23 @@ impl Met {
         Ok(())
     }
 }
+
+/// A kind that was never met is an error, whichever it is.
+pub fn every_count_is_asked_for(settings: &Settings) -> Outcome {
+    let numbers = NUMBERS.len();
+    let all = numbers + COUNTED.len() + MOST_STRIPS;
+    for missing in 0..=all {
+        let mut met = Met::default();
+        for place in (0..all).filter(|&place| place != missing) {
+            match place {
+                place if place < numbers => met.numbers[NUMBERS[place].0] = 1,
+                place if place < numbers + COUNTED.len() => met.counts[place - numbers] = 1,
+                place => met.strips[place - numbers - COUNTED.len()] = 1,
+            }
+        }
+        if met.report(settings).is_ok() != (missing == all) {
+            return Err(format!("self-test: count {missing} of the strips"));
+        }
+    }
+    Ok(())
+}

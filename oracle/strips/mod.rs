@@ -33,7 +33,13 @@ fn judged(call: &Call) -> StripsJudged {
     let Call {
         edition, numbers, ..
     } = call;
-    judge_strips(*edition, numbers, &call.heights, &call.sectors, &call.window)
+    judge_strips(
+        *edition,
+        numbers,
+        &call.heights,
+        &call.sectors,
+        &call.window,
+    )
 }
 
 fn answer_shown(answer: FactorAnswer) -> String {
@@ -243,7 +249,8 @@ pub fn run(settings: &Settings, library: &Library, plan: Plan) -> Outcome {
 }
 
 pub fn section(settings: &Settings, library: &Library) -> Outcome {
-    settings.heading("tall glazing in strips: a plain form over the published factor against Rattle");
+    settings
+        .heading("tall glazing in strips: a plain form over the published factor against Rattle");
     let edges = edges::all();
     let plan = Plan {
         edges: &edges,
