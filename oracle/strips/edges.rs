@@ -40,37 +40,35 @@ fn at_the_window(kind: u64, size: f64, distance: f64, transparency: f64) -> Wind
     ]
 }
 
-/// Calls to change in one place, each with twelve strips: an obstacle before the lower ones at the
-/// horizon; objects of every kind under a sun that is higher; and the sun across the north.
-fn plain_calls() -> [Call; 3] {
-    let obstacle = distant(OBSTACLE, 1.0, 1.0);
-    let objects = [
+/// Objects in a sector that reach among the strips of the second call below.
+fn some_distant() -> Vec<Sector> {
+    around(&[
         distant(OBSTACLE, 6.5, 5.0),
         distant(OBSTACLE, 3.0, 1.0),
         distant(OVERHANG, 13.0, 15.0),
-    ];
-    let window = vec![
+    ])
+}
+
+fn some_at_the_window() -> Vec<WindowObject> {
+    vec![
         at_the_window(OBSTACLE, 3.0, 1.0, 0.4),
         at_the_window(OVERHANG, 0.3, 0.15, 0.0),
         at_the_window(RIGHT_FIN, 0.5, 0.05, 0.0),
         at_the_window(LEFT_FIN, 0.5, 0.05, 0.0),
-    ];
+    ]
+}
+
+/// Calls to change in one place, each with twelve strips: an obstacle before the lower ones at the
+/// horizon; objects of every kind under a sun that is higher; and the sun across the north.
+fn plain_calls() -> [Call; 3] {
+    let obstacle = || around(&[distant(OBSTACLE, 1.0, 1.0)]);
+    let south = [0.0, 0.0, 90.0, 180.0, 0.0, 2.0, 1.0];
+    let high = [31.5, -12.25, 80.0, 200.0, 1.5, 2.0, 1.3];
+    let north = [12.0, -170.0, 90.0, 10.0, 0.5, 2.0, 2.5];
     let scenes = [
-        (
-            [0.0, 0.0, 90.0, 180.0, 0.0, 2.0, 1.0],
-            around(&[obstacle]),
-            vec![],
-        ),
-        (
-            [31.5, -12.25, 80.0, 200.0, 1.5, 2.0, 1.3],
-            around(&objects),
-            window.clone(),
-        ),
-        (
-            [12.0, -170.0, 90.0, 10.0, 0.5, 2.0, 2.5],
-            around(&[obstacle]),
-            window,
-        ),
+        (south, obstacle(), vec![]),
+        (high, some_distant(), some_at_the_window()),
+        (north, obstacle(), some_at_the_window()),
     ];
     scenes.map(|(numbers, sectors, window)| {
         let scene = Scene {

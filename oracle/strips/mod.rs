@@ -27,7 +27,7 @@ const LEAST: usize = 20_000;
 
 /// The laws are tried on one in so many calls: an odd number, as those at the edges are in one edition
 /// and in the other by turns.
-const LAWS_EVERY: usize = 3;
+const LAWS_EVERY: u64 = 3;
 
 fn judged(call: &Call) -> StripsJudged {
     let Call {
@@ -204,48 +204,83 @@ fn calls<'a>(
     edges.chain((0..more).map(|_| (scenes::any_call(random), true)))
 }
 
+/// What is tried, and what came of it so far.
+struct Trial<'a> {
+    plan: Plan<'a>,
+    lent: Lent,
+    tally: Tally,
+    met: Met,
+    by_strips: StripByStrip,
+    laws: Laws<'a>,
+}
+
+impl<'a> Trial<'a> {
+    fn new(settings: &Settings, library: &Library, plan: Plan<'a>) -> Self {
+        let laws = Laws {
+            laws: plan.laws,
+            pairs: Pairs::default(),
+            sizes: Sizes::new(plan.sizes, settings.random("sizes in strips")),
+            random: settings.random("laws of the strips"),
+        };
+        Trial {
+            plan,
+            lent: Lent::new(*library),
+            tally: Tally::default(),
+            met: Met::default(),
+            by_strips: StripByStrip::default(),
+            laws,
+        }
+    }
+
+    fn compare(&mut self, call: &Call, by_chance: bool, got: FactorAnswer) -> Outcome {
+        let judged = judged(call);
+        if !same_answer(judged.answer, got) {
+            let words = difference(call, &mut self.lent);
+            let cases = self.tally.compared;
+            return Err(format!("strips differs after {cases} cases\n{words}"));
+        }
+        self.met.note(&judged, by_chance);
+        self.tally.both_nan += got.factor.is_nan() as u64;
+        Ok(())
+    }
+
+    fn try_on(&mut self, call: &Call, by_chance: bool) -> Outcome {
+        let got = self.lent.call(call)?;
+        if self.plan.compared {
+            self.compare(call, by_chance, got)?;
+        }
+        self.tally.compared += 1;
+        let Some(strips) = call.strips() else {
+            return Ok(());
+        };
+        if self.plan.by_strips {
+            self.by_strips.hold(&self.lent, call, &strips, got)?;
+        }
+        match self.tally.compared % LAWS_EVERY {
+            0 => self.laws.hold(&mut self.lent, call, &strips, got),
+            _ => Ok(()),
+        }
+    }
+
+    fn report(&self, settings: &Settings) -> Outcome {
+        settings.report("strips", With::PlainForm, self.tally)?;
+        if self.plan.compared {
+            self.met.report(settings)?;
+        }
+        if self.plan.by_strips {
+            self.by_strips.report(settings)?;
+        }
+        self.laws.report(settings)
+    }
+}
+
 pub fn run(settings: &Settings, library: &Library, plan: Plan) -> Outcome {
-    let mut lent = Lent::new(*library);
-    let (mut met, mut tally) = (Met::default(), Tally::default());
-    let mut by_strips = StripByStrip::default();
-    let mut laws = Laws {
-        laws: plan.laws,
-        pairs: Pairs::default(),
-        sizes: Sizes::new(plan.sizes, settings.random("sizes in strips")),
-        random: settings.random("laws of the strips"),
-    };
+    let mut trial = Trial::new(settings, library, plan);
     let mut random = settings.random("strips");
     for (call, by_chance) in calls(&mut random, plan.edges, plan.random) {
-        let got = lent.call(&call)?;
-        if plan.compared {
-            let judged = judged(&call);
-            if !same_answer(judged.answer, got) {
-                let words = difference(&call, &mut lent);
-                let cases = tally.compared;
-                return Err(format!("strips differs after {cases} cases\n{words}"));
-            }
-            met.note(&judged, by_chance);
-            tally.both_nan += got.factor.is_nan() as u64;
-        }
-        tally.compared += 1;
-        let Some(strips) = call.strips() else {
-            continue;
-        };
-        if plan.by_strips {
-            by_strips.hold(&lent, &call, &strips, got)?;
-        }
-        if tally.compared % LAWS_EVERY as u64 == 0 {
-            laws.hold(&mut lent, &call, &strips, got)?;
-        }
+        trial.try_on(&call, by_chance)?;
     }
-    settings.report("strips", With::PlainForm, tally)?;
-    if plan.compared {
-        met.report(settings)?;
-    }
-    if plan.by_strips {
-        by_strips.report(settings)?;
-    }
-    laws.report(settings)
+    trial.report(settings)
 }
 
 pub fn section(settings: &Settings, library: &Library) -> Outcome {
