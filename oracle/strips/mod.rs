@@ -11,7 +11,7 @@ pub mod self_test;
 pub mod wrong;
 
 use crate::comparison::{same, shown, Outcome, Settings, Tally, With};
-use crate::pilgartze::{bytes_of, doubles_of, FactorAnswer};
+use crate::pilgartze::{bytes_of, doubles_of, FactorAnswer, MOST_STRIPS};
 use crate::published::strips::{judge_strips, quotient, Strip, StripsJudged};
 use crate::random::Random;
 use crate::shading::call::Call as SurfaceCall;
@@ -52,24 +52,31 @@ fn same_answer(a: FactorAnswer, b: FactorAnswer) -> bool {
 
 // --- A difference ---
 
-/// The call without one of its strips, its records, or the objects of a sector.
+/// Fewer strips: without one of them; of a list that is far too long its first half, or all but the last.
+fn fewer(heights: &[f64]) -> Vec<Vec<f64>> {
+    let count = heights.len();
+    let without = |place: usize| [&heights[..place], &heights[place + 1..]].concat();
+    match count {
+        0 | 1 => vec![],
+        count if count > 2 * MOST_STRIPS => vec![heights[..count / 2].to_vec(), without(count - 1)],
+        count => (0..count).map(without).collect(),
+    }
+}
+
+/// The call without some of its strips, one of its records, or one object of a sector.
 fn smaller(call: &Call) -> Vec<Call> {
-    let heights = doubles_of(&call.heights);
-    let whole = call.heights.len() % 8 == 0 && heights.len() > 1;
-    let places = 0..heights.len() * whole as usize;
-    let fewer = places.map(|place| {
-        let mut heights = heights.clone();
-        heights.remove(place);
-        Call {
-            heights: bytes_of(&heights),
-            ..call.clone()
-        }
+    let whole = call.heights.len() % 8 == 0;
+    let lists = match whole {
+        true => fewer(&doubles_of(&call.heights)),
+        false => vec![], // a part of a word stays as it is
+    };
+    let of_fewer = lists.into_iter().map(|heights| Call {
+        heights: bytes_of(&heights),
+        ..call.clone()
     });
-    let surface = call.strip([0.0, 1.0]);
-    let lists = smaller_surface(&surface);
-    fewer
-        .chain(lists.iter().map(|other| call.with(other)))
-        .collect()
+    let surfaces = smaller_surface(&call.strip([0.0, 1.0]));
+    let with_less = surfaces.iter().map(|surface| call.with(surface));
+    of_fewer.chain(with_less).collect()
 }
 
 /// A difference, with the smallest call by which it is found.
