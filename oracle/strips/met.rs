@@ -23,7 +23,7 @@ const COUNTED: [&str; 8] = [
     "inside, different factors of strips",
     "inside, between 0 and 1",
     "other double from the top down",
-    "other double without products",
+    "other double as a plain mean",
     "beyond all factors of its strips",
     "one strip, other than its factor",
 ];
@@ -89,7 +89,8 @@ impl Met {
         let counted = COUNTED.iter().zip(self.counts);
         let counted = counted.map(|(what, count)| (format!("strips, {what}"), count));
         let by_count = (1..).zip(self.strips);
-        let by_count = by_count.map(|(n, count)| (format!("strips, inside the beam, {n}"), count));
+        let by_count =
+            by_count.map(|(n, count)| (format!("strips, inside the beam, with {n}"), count));
         for (what, count) in numbers.into_iter().chain(counted).chain(by_count) {
             if count == 0 {
                 return Err(format!("strips: none was met: {what}"));
