@@ -1,11 +1,11 @@
-//! The judge of the library `pilgartze`: whole jobs, single steps and the factor against the published
-//! Rust, byte by byte.
+//! The judge of the library `pilgartze`: whole jobs, single steps, the factor and the strips against the
+//! published Rust, byte by byte.
 //!
 //!     compare_jobs [--seed N] [--count N] [--jobs N]   compares; stops at the first difference
 //!     compare_jobs --self-test [--seed N]              shows that the comparison can fail
 //!
 //! A count of 1,000,000 means 3,000 random jobs, beside those at the edges, short ones aimed at the
-//! sun and some whole years, and 5,000,000 calls of the factor.
+//! sun and some whole years, 5,000,000 calls of the factor and 1,000,000 of the strips.
 //!
 //! Exit status: 0 no difference; 1 a difference, or a comparison of nothing; 2 bad usage; 3 an
 //! access outside a buffer. `oracle/run` builds this program and runs it both ways.
@@ -28,6 +28,8 @@ mod random;
 mod shading;
 #[allow(dead_code)]
 mod stand_ins;
+#[allow(dead_code)]
+mod strips;
 #[macro_use]
 #[allow(dead_code)]
 mod support;
@@ -89,6 +91,7 @@ fn run(arguments: &Arguments) -> Outcome {
     let settings = &arguments.settings;
     if arguments.self_test {
         shading::self_test::run(settings.seed)?;
+        strips::self_test::run(settings.seed)?;
         return jobs::self_test::run(settings.seed);
     }
     let jobs = arguments
@@ -109,6 +112,7 @@ fn run(arguments: &Arguments) -> Outcome {
     };
     jobs::section(settings, &LIBRARY, plan)?;
     shading::section(settings, FACTOR)?;
+    strips::section(settings, &strips::lent::LIBRARY)?;
     println!("no difference");
     Ok(())
 }

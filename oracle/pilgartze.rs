@@ -46,6 +46,21 @@ pub struct Surface {
     pub width: f64,
 }
 
+/// The most strips that tall glazing can be cut into.
+pub const MOST_STRIPS: usize = 12;
+
+/// Tall glazing, such as a stair window, cut into strips from side to side. The first stands on the base
+/// height, each later one on the strip below.
+#[derive(Clone, Copy, Debug)]
+pub struct TallGlazing<'a> {
+    pub tilt: f64,
+    pub orientation: f64,
+    pub base_height: f64,
+    pub width: f64,
+    /// Of 1 to `MOST_STRIPS` strips, the lowest first: a list of doubles (`bytes_of`).
+    pub heights: &'a [u8],
+}
+
 /// The weather series, each a list of doubles (`bytes_of`).
 #[derive(Clone, Copy, Debug)]
 pub struct Weather<'a> {
@@ -274,7 +289,7 @@ impl Answer {
     }
 }
 
-/// A factor's answer as the library gives it; number 0 is accepted.
+/// A factor's answer, of a surface or of strips, as the library gives it; number 0 is accepted.
 #[repr(C)]
 #[derive(Clone, Copy, Debug)]
 pub struct FactorAnswer {
@@ -369,6 +384,20 @@ pub fn factor(
     unsafe { factor_by(call, edition, sun, surface, sectors, window) }.result()
 }
 
+/// The factor of tall glazing in strips: that of each strip as a surface of its own, weighted by its
+/// height. Each strip has the overhangs at the window right above itself.
+pub fn strips(
+    edition: u64,
+    altitude: f64,
+    azimuth: f64,
+    glazing: &TallGlazing,
+    sectors: &[u8],
+    window: &[u8],
+) -> Result<f64, Refusal> {
+    let (call, sun) = (pilgartze_strips, [altitude, azimuth]);
+    unsafe { strips_by(call, edition, sun, glazing, sectors, window) }.result()
+}
+
 /// The library's version: 1.2.3 is 1002003.
 pub fn version() -> u64 {
     unsafe { pilgartze_version() }
@@ -417,13 +446,19 @@ functions! {
         height: f64, width: f64, sectors: *const u8, sectors_length: usize, window: *const u8,
         window_length: usize,
     ) -> FactorAnswer as FactorCall;
+    fn pilgartze_strips(
+        edition: u64, altitude: f64, azimuth: f64, tilt: f64, orientation: f64, base_height: f64,
+        width: f64, heights: *const u8, heights_length: usize, sectors: *const u8,
+        sectors_length: usize, window: *const u8, window_length: usize,
+    ) -> FactorAnswer as StripsCall;
 }
 
-/// The archive's functions, for what calls them by the four that follow.
+/// The archive's functions, for what calls them by the five that follow.
 pub const RUN: RunCall = pilgartze_run;
 pub const STEP: StepCall = pilgartze_step;
 pub const IRRADIANCE: IrradianceCall = pilgartze_irradiance;
 pub const FACTOR: FactorCall = pilgartze_factor;
+pub const STRIPS: StripsCall = pilgartze_strips;
 
 // The same calls by a function in the place of the archive's own; the comparison has such functions.
 // Each must read and write nothing but the lists that it is lent, and write to the table of days, the
@@ -550,6 +585,32 @@ pub unsafe fn factor_by(
         surface.base_height,
         surface.height,
         surface.width,
+        sectors.as_ptr(),
+        sectors.len(),
+        window.as_ptr(),
+        window.len(),
+    )
+}
+
+/// The sun is its altitude and azimuth.
+pub unsafe fn strips_by(
+    call: StripsCall,
+    edition: u64,
+    [altitude, azimuth]: [f64; 2],
+    glazing: &TallGlazing,
+    sectors: &[u8],
+    window: &[u8],
+) -> FactorAnswer {
+    call(
+        edition,
+        altitude,
+        azimuth,
+        glazing.tilt,
+        glazing.orientation,
+        glazing.base_height,
+        glazing.width,
+        glazing.heights.as_ptr(),
+        glazing.heights.len(),
         sectors.as_ptr(),
         sectors.len(),
         window.as_ptr(),

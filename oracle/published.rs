@@ -31,6 +31,8 @@ pub mod sanity;
 pub mod seasons;
 #[path = "published/shading.rs"]
 pub mod shading;
+#[path = "published/strips.rs"]
+pub mod strips;
 #[path = "published/sun.rs"]
 pub mod sun;
 #[path = "published/totals.rs"]

@@ -26,6 +26,8 @@ mod replay;
 mod shading;
 #[allow(dead_code)]
 mod stand_ins;
+#[allow(dead_code)]
+mod strips;
 #[macro_use]
 #[allow(dead_code)]
 mod support;
@@ -39,12 +41,13 @@ use std::path::Path;
 use std::process::ExitCode;
 
 fn write(folder: &Path, settings: &Settings) -> Result<(), String> {
-    let files: [(&str, fn(&Settings) -> Result<File, String>); 5] = [
+    let files: [(&str, fn(&Settings) -> Result<File, String>); 6] = [
         ("runs", replay::runs::file),
         ("factors", replay::factors::file),
         ("leaves", replay::leaves::file),
         ("listings", replay::listings::file),
         ("days", replay::days::file),
+        ("strips", replay::strips::file),
     ];
     for (name, file) in files {
         let file = file(settings)?;

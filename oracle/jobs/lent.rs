@@ -24,14 +24,14 @@ const BESIDE: usize = 64;
 const BESIDE_BYTE: u8 = 0xA5;
 
 /// One list's pages.
-struct Pages {
+pub struct Pages {
     pages: Guarded,
     side: Side,
     len: usize,
 }
 
 impl Pages {
-    fn holding(most: usize) -> Self {
+    pub fn holding(most: usize) -> Self {
         Pages {
             pages: Guarded::holding(most),
             side: Side::Front,
@@ -52,14 +52,14 @@ impl Pages {
         }
     }
 
-    fn list(&mut self) -> &mut [u8] {
+    pub fn list(&mut self) -> &mut [u8] {
         let offset = self.pages.offset(self.side, self.len);
         let end = offset + self.len;
         &mut self.pages.bytes()[offset..end]
     }
 
     /// Puts a list there, against an end, and gives its address.
-    fn put(&mut self, call: &'static str, back: bool, list: &[u8], more: usize) -> *mut u8 {
+    pub fn put(&mut self, call: &'static str, back: bool, list: &[u8], more: usize) -> *mut u8 {
         self.side = if back { Side::Back } else { Side::Front };
         self.len = list.len();
         self.list().copy_from_slice(list);
@@ -67,7 +67,7 @@ impl Pages {
         self.pages.lend(call, self.side, self.len, more)
     }
 
-    fn beside_is_left(&mut self) -> bool {
+    pub fn beside_is_left(&mut self) -> bool {
         self.beside().iter().all(|&byte| byte == BESIDE_BYTE)
     }
 }

@@ -3,6 +3,7 @@
 
 use super::conditions::{year_results, OneHour, Series, Site};
 use super::shading::Judge;
+use super::strips::judge_strips;
 use crate::pilgartze::FactorAnswer;
 use crate::probes::{ProbeHour, YEAR};
 
@@ -198,4 +199,26 @@ pub unsafe extern "C" fn factor(
     let window = std::slice::from_raw_parts(window, window_len);
     let judged = Judge::new().answer(edition, &numbers, sectors, window);
     judged.answer
+}
+
+pub unsafe extern "C" fn strips(
+    edition: u64,
+    altitude: f64,
+    azimuth: f64,
+    tilt: f64,
+    orientation: f64,
+    base_height: f64,
+    width: f64,
+    heights: *const u8,
+    heights_len: usize,
+    sectors: *const u8,
+    sectors_len: usize,
+    window: *const u8,
+    window_len: usize,
+) -> FactorAnswer {
+    let numbers = [altitude, azimuth, tilt, orientation, base_height, width];
+    let heights = std::slice::from_raw_parts(heights, heights_len);
+    let sectors = std::slice::from_raw_parts(sectors, sectors_len);
+    let window = std::slice::from_raw_parts(window, window_len);
+    judge_strips(edition, &numbers, heights, sectors, window).answer
 }

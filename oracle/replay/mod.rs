@@ -8,4 +8,5 @@ pub mod leaves;
 pub mod listings;
 pub mod runs;
 pub mod seasons;
+pub mod strips;
 pub mod totals;

@@ -94,6 +94,15 @@ fn record_shown(name: &str, record: &[u8], words: usize) -> String {
     format!("  {name}{part}: {}", whole.join(" "))
 }
 
+/// The lines of both lists.
+pub fn lists_shown(sectors: &[u8], window: &[u8]) -> Vec<String> {
+    let sectors = sectors.chunks(8 * SECTOR_WORDS);
+    let sectors = sectors.map(|record| record_shown("sector", record, SECTOR_WORDS));
+    let window = window.chunks(8 * WINDOW_WORDS);
+    let window = window.map(|record| record_shown("window", record, WINDOW_WORDS));
+    sectors.chain(window).collect()
+}
+
 impl Call {
     pub fn shown(&self) -> String {
         const NAMES: [&str; 7] = [
@@ -109,10 +118,7 @@ impl Call {
         for (name, x) in NAMES.iter().zip(self.numbers) {
             lines.push(format!("  {name:<11} {}", crate::comparison::shown(x)));
         }
-        let sectors = self.sectors.chunks(8 * SECTOR_WORDS);
-        lines.extend(sectors.map(|record| record_shown("sector", record, SECTOR_WORDS)));
-        let window = self.window.chunks(8 * WINDOW_WORDS);
-        lines.extend(window.map(|record| record_shown("window", record, WINDOW_WORDS)));
+        lines.extend(lists_shown(&self.sectors, &self.window));
         lines.join("\n")
     }
 }

@@ -409,7 +409,7 @@ fn every_difference(calls: &mut Vec<Call>) {
 }
 
 /// The fault that leads to this number where there is no other.
-fn fault(call: &mut Call, number: u64) {
+pub fn fault(call: &mut Call, number: u64) {
     let sectors_of = |bounds: &[(f64, f64)]| {
         let sectors = bounds.iter().map(|&(start, end)| sector(start, end, &[]));
         let words = sectors.flatten().flat_map(u64::to_le_bytes);

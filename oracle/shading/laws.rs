@@ -59,6 +59,15 @@ impl Law {
         }
     }
 
+    /// Where the law lets the factors differ, those that do.
+    fn words_where_changed(self) -> Option<&'static str> {
+        match self {
+            Law::Enlarged => Some("law: objects added, smaller"),
+            Law::Emptied => Some("law: no objects, smaller with them"),
+            _ => None,
+        }
+    }
+
     /// Whether the law says something of calls with that sun and these objects.
     fn applies(self, call: &Call) -> bool {
         let alike = || editions_agree(&call.numbers) && has_left_fin(&call.window);
@@ -87,23 +96,32 @@ impl Law {
     }
 }
 
-/// How many pairs of calls were tried for each law; a pair of the same calls does not count.
+/// How many pairs of calls were tried for each law; a pair of the same calls does not count. How many
+/// of them had different factors.
 #[derive(Default)]
 pub struct Pairs {
     tried: [u64; LAWS.len()],
+    changed: [u64; LAWS.len()],
     skipped: u64,
 }
 
 impl Pairs {
-    pub fn report(&self, settings: &Settings, laws: &[Law]) -> Outcome {
+    /// Prints them, behind a name where there is one. None of a kind is an error.
+    pub fn report(&self, settings: &Settings, name: &str, laws: &[Law]) -> Outcome {
         for &law in laws {
-            let count = self.tried[law as usize];
-            if count == 0 {
-                return Err(format!("factor: no case of the {}", law.words()));
+            let tried = (law.words(), self.tried[law as usize]);
+            let changed = law
+                .words_where_changed()
+                .map(|words| (words, self.changed[law as usize]));
+            for (words, count) in [tried].into_iter().chain(changed) {
+                if count == 0 {
+                    return Err(format!("factor: no case of the {words}"));
+                }
+                settings.detail(&format!("{name}{words}"), count);
             }
-            settings.detail(law.words(), count);
         }
-        settings.detail("laws not tried: an extent might be NaN", self.skipped);
+        let skipped = format!("{name}laws not tried: an extent might be NaN");
+        settings.detail(&skipped, self.skipped);
         Ok(())
     }
 }
@@ -229,6 +247,7 @@ pub fn try_laws(
             ));
         }
         pairs.tried[law as usize] += 1;
+        pairs.changed[law as usize] += !same(factor, got.factor) as u64;
     }
     Ok(())
 }

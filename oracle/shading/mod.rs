@@ -82,7 +82,7 @@ impl Lent {
 }
 
 /// The lists are sectors and window.
-fn call_with(
+pub fn call_with(
     function: FactorCall,
     edition: u64,
     numbers: &Numbers,
@@ -299,7 +299,7 @@ pub fn run(settings: &Settings, function: FactorCall, plan: Plan) -> Outcome {
     if compared {
         met.report(settings)?;
     }
-    pairs.report(settings, laws)?;
+    pairs.report(settings, "", laws)?;
     sizes.report(settings)
 }
 

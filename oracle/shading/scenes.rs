@@ -123,7 +123,7 @@ impl Aim {
 }
 
 /// From the least double up to the most, every size as likely.
-fn any_length(random: &mut Random, most: f64) -> f64 {
+pub fn any_length(random: &mut Random, most: f64) -> f64 {
     match random.below(8) {
         0 => f64::from_bits(1),
         1 => most,
@@ -199,7 +199,7 @@ fn any_base_height(random: &mut Random) -> f64 {
 }
 
 /// The height or the width of a surface.
-fn any_side(random: &mut Random) -> f64 {
+pub fn any_side(random: &mut Random) -> f64 {
     match random.below(16) {
         0 => any_length(random, 1000.0).max(0.001),
         1 => 0.001,
@@ -304,7 +304,7 @@ fn any_scene(random: &mut Random) -> Scene {
 
 /// A surface that faces north, about, and the sun on the other side of it, so that the difference is
 /// beyond 180 before it is brought into −180..180.
-fn numbers_across_the_north(random: &mut Random) -> Numbers {
+pub fn numbers_across_the_north(random: &mut Random) -> Numbers {
     let mut numbers = any_numbers(random);
     let side = [1.0, -1.0][random.below(2)];
     // what a surface to the north lacks of it, and how far beyond the sun stands
@@ -550,7 +550,7 @@ pub fn any_call_of_any_edition(random: &mut Random) -> Call {
 }
 
 /// The scene as it is, or with something done to it.
-fn damaged(random: &mut Random, mut scene: Scene) -> Call {
+pub fn damaged(random: &mut Random, mut scene: Scene) -> Call {
     match random.below(32) {
         0 | 1 => number_at_an_edge(random, &mut scene),
         2 => azimuth_at_a_turn(random, &mut scene),

@@ -683,7 +683,7 @@ impl Plain {
         Ok(self.in_sector(edition, numbers, &scene.sectors[place], &scene.window))
     }
 
-    fn answer(&self, call: &Call) -> FactorAnswer {
+    pub fn answer(&self, call: &Call) -> FactorAnswer {
         match self.factor(call) {
             Ok(factor) => FactorAnswer { number: 0, factor },
             Err(number) => FactorAnswer {
