@@ -87,7 +87,7 @@ int main(void)
     printf("\n%-16s %10s %12s\n", "whole window", "in strips", "one surface");
     print_window("wall", &yard, NULL, 0);
     print_window("wall and trellis", &yard, &trellis, 1);
-    printf("\nOn one surface either the wall or the trellis counts, whichever leaves less: here the wall, as if\n");
-    printf("there were no trellis. In strips each strip has its own: the wall below, above it the trellis.\n");
+    printf("\nOn one surface either the wall or the trellis counts, whichever leaves less: the wall, as if there\n");
+    printf("were no trellis. Strips tell them apart: the wall darkens the lower ones, the trellis dims those above.\n");
     return EXIT_SUCCESS;
 }

@@ -156,7 +156,9 @@ static void check_factors(void)
             }
         }
     }
-    check(unequal > 0 && by_order > 0 && by_one > 0, "strips by which other rules are told apart", 0);
+    check(unequal > 0, "strips of other factors", 0);
+    check(by_order > 0, "strips whose sums are others from the top down", 0);
+    check(by_one > 0, "one strip that is not its factor", 0);
 }
 
 /* The sun at altitude 0, square before glazing 1 m wide that stands on the ground, in two strips. */
