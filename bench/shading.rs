@@ -4,7 +4,6 @@
 //! Each line is measured over calls that differ in the sun's altitude and divided by their number.
 //! Before that both sides' answers are compared, number and factor.
 
-use std::hint::black_box;
 use std::process::ExitCode;
 
 #[path = "../oracle/arguments.rs"]
@@ -36,91 +35,13 @@ mod support;
 #[path = "../oracle/published.rs"]
 #[allow(dead_code)]
 mod published;
+mod scenes;
 
-use call::{sector, Call, Scene, WindowObject, LEFT_FIN, OBSTACLE, OVERHANG, RIGHT_FIN};
+use call::Call;
 use comparison::same;
-use pilgartze::{factor_by, FactorAnswer, Surface, EDITION_1, FACTOR};
+use pilgartze::FactorAnswer;
 use published::shading::Judge;
-
-const CALLS: usize = 1000;
-
-/// Sectors of equal width all round, the sun in the last of them, with so many objects in each and
-/// at the window, by turns of every kind.
-fn scene(sectors: usize, objects: usize, near: usize, altitude: f64) -> Call {
-    let width = 360.0 / sectors as f64;
-    let triples: Vec<[u64; 3]> = (0..objects)
-        .map(|k| {
-            let height = 3.0 + k as f64 / 4.0;
-            [k as u64 % 2, height.to_bits(), (4.0 + k as f64).to_bits()]
-        })
-        .collect();
-    let window = |k: usize| -> WindowObject {
-        let kind = [OVERHANG, OBSTACLE, RIGHT_FIN, LEFT_FIN][k % 4];
-        let spare = if kind == OBSTACLE {
-            0.5f64.to_bits()
-        } else {
-            0
-        };
-        let size = 0.5 + k as f64 / 16.0;
-        [
-            kind,
-            size.to_bits(),
-            (0.25 + k as f64 / 32.0).to_bits(),
-            spare,
-        ]
-    };
-    let azimuth = -180.0 + width / 2.0;
-    let orientation = 180.0 - azimuth; // the surface faces the sun
-    Scene {
-        edition: EDITION_1,
-        numbers: [altitude, azimuth, 90.0, orientation, 1.0, 1.5, 1.2],
-        sectors: (0..sectors)
-            .map(|k| sector(k as f64 * width, (k + 1) as f64 * width, &triples))
-            .collect(),
-        window: (0..near).map(window).collect(),
-    }
-    .call()
-}
-
-fn rattle(call: &Call) -> FactorAnswer {
-    let &[altitude, azimuth, tilt, orientation, base_height, height, width] = &call.numbers;
-    let surface = Surface {
-        tilt,
-        orientation,
-        base_height,
-        height,
-        width,
-    };
-    let sun = [altitude, azimuth];
-    unsafe {
-        factor_by(
-            black_box(FACTOR),
-            call.edition,
-            sun,
-            &surface,
-            &call.sectors,
-            &call.window,
-        )
-    }
-}
-
-/// The calls of one line, with its name.
-fn calls_of(sectors: usize, objects: usize, near: usize) -> (String, Vec<Call>) {
-    let name = format!("{sectors} × {objects} in sectors, {near} at the window");
-    let altitude = |k: usize| 5.0 + 60.0 * k as f64 / CALLS as f64;
-    let calls = (0..CALLS).map(|k| scene(sectors, objects, near, altitude(k)));
-    (name, calls.collect())
-}
-
-/// Nanoseconds of one call by the library.
-fn nanoseconds(calls: &[Call]) -> f64 {
-    let all = measure::nanoseconds(|| {
-        calls.iter().for_each(|call| {
-            black_box(rattle(call));
-        })
-    });
-    all / CALLS as f64
-}
+use scenes::{calls_of, nanoseconds, rattle};
 
 /// The library alone.
 fn measure_alone(sectors: usize, objects: usize, near: usize) -> Result<(), String> {
@@ -133,7 +54,7 @@ fn measure_alone(sectors: usize, objects: usize, near: usize) -> Result<(), Stri
         }
     }
     let name = format!("a factor call, ns: {name}");
-    measure::alone(&name, sum, || nanoseconds(&calls));
+    measure::alone(&name, sum, || nanoseconds(&calls, rattle));
     Ok(())
 }
 
@@ -151,17 +72,10 @@ fn measure_calls(sectors: usize, objects: usize, near: usize) -> Result<(), Stri
             return Err(format!("{name}: the answers differ\n{}", call.shown()));
         }
     }
-    let each = |time: f64| time / CALLS as f64;
     measure::line(
         &name,
-        || nanoseconds(&calls),
-        || {
-            each(measure::nanoseconds(|| {
-                calls.iter().for_each(|call| {
-                    black_box(rust(call));
-                })
-            }))
-        },
+        || nanoseconds(&calls, rattle),
+        || nanoseconds(&calls, &mut rust),
     );
     Ok(())
 }

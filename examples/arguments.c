@@ -1,4 +1,4 @@
-/* A test of include/pilgartze.h without the library: the four calls stand here as recorders, and each field of each
+/* A test of include/pilgartze.h without the library: the five calls stand here as recorders, and each field of each
  * struct must come to them in its place. Good C99 and good C++11. */
 #include "pilgartze.h"
 
@@ -163,10 +163,29 @@ pilgartze_factor_answer pilgartze_factor(uint64_t edition, double altitude, doub
     return answer;
 }
 
+pilgartze_factor_answer pilgartze_strips(uint64_t edition, double altitude, double azimuth, double tilt,
+                                         double orientation, double base_height, double width,
+                                         const uint8_t *heights, size_t heights_length, const uint8_t *sectors,
+                                         size_t sectors_length, const uint8_t *window, size_t window_length)
+{
+    const pilgartze_factor_answer answer = {109, 110.5};
+    record_edition(edition);
+    number(altitude);
+    number(azimuth);
+    number(tilt);
+    number(orientation);
+    number(base_height);
+    number(width);
+    list(heights, heights_length);
+    list(sectors, sectors_length);
+    list(window, window_length);
+    return answer;
+}
+
 /* ---- The checks ----------------------------------------------------------------------------------------------- */
 
-/* Every field its own number: the site 1 to 9, the surface 21 to 25, the edition 10. Both lists of sectors have their
- * own place and length. */
+/* Every field its own number: the site 1 to 9, the surface 21 to 25, the edition 10, the tall glazing 26 to 29. Both
+ * lists of sectors have their own place and length. */
 static const pilgartze_site site = {1.5, 2.5, -3, 4, 5.5, 6, 7, 8, 9};
 static const pilgartze_run_times run = {11.5, 12.5, 13.5};
 static const pilgartze_surface surface = {21.5, 22.5, 23.5, 24.5, 25.5};
@@ -178,6 +197,8 @@ static pilgartze_sector summer[3];
 static pilgartze_sector winter[2];
 static pilgartze_sector sectors[5];
 static pilgartze_window_object objects[2];
+static const double heights[7] = {0, 0, 0, 0, 0, 0, 0};
+static const pilgartze_tall_glazing glazing = {26.5, 27.5, 28.5, 29.5, heights, 7};
 static pilgartze_day_table days;
 static pilgartze_year_totals totals;
 static pilgartze_row rows[4];
@@ -246,6 +267,20 @@ static void check_factor(void)
     check(answer.number == 107 && answer.factor == 108.5, "factor's answer", 0);
 }
 
+/* It has no height of its own, but a list of them, before the sectors. */
+static void check_strips(void)
+{
+    static const double expected[7] = {10, 51.5, 52.5, 26.5, 27.5, 28.5, 29.5};
+    const pilgartze_factor_answer answer = pilgartze_strips_at(10, 51.5, 52.5, &glazing, sectors, 5, objects, 2);
+    check_numbers("strips", expected, 7);
+    check_list("strips", 0, heights, 56);
+    check_list("strips", 1, sectors, 1080);
+    check_list("strips", 2, objects, 64);
+    check(call.list_count == 3, "strips' lists", 0);
+    check(answer.number == 109 && answer.factor == 110.5, "strips' answer", 0);
+    check(PILGARTZE_MOST_STRIPS == 12, "strips, number", 0);
+}
+
 static void check_empty(const char *what, int first, int end)
 {
     int i;
@@ -272,6 +307,32 @@ static void check_empty_lists(void)
     pilgartze_factor_at(PILGARTZE_EDITION_1, 51.5, 52.5, &surface, NULL, 0, NULL, 0);
     check_empty("empty factor", 0, 2);
     check(call.list_count == 2, "empty factor", -1);
+}
+
+/* One list of the strips at a time with nothing in it, NULL as it may be, and all three. */
+static void check_empty_lists_of_strips(void)
+{
+    const void *const lists[3] = {heights, sectors, objects};
+    const size_t lengths[3] = {56, 1080, 64};
+    int empty, i;
+    for (empty = 0; empty <= 3; empty++) {
+        const int no_heights = empty == 0 || empty == 3;
+        const int no_sectors = empty == 1 || empty == 3;
+        const int no_objects = empty == 2 || empty == 3;
+        pilgartze_tall_glazing cut = glazing;
+        cut.heights = no_heights ? NULL : heights;
+        cut.strip_count = no_heights ? 0 : 7;
+        pilgartze_strips_at(PILGARTZE_EDITION_1, 51.5, 52.5, &cut, no_sectors ? NULL : sectors, no_sectors ? 0 : 5,
+                            no_objects ? NULL : objects, no_objects ? 0 : 2);
+        for (i = 0; i < 3; i++) {
+            if (empty == i || empty == 3) {
+                check_empty("an empty list of strips", i, i + 1);
+            } else {
+                check_list("beside an empty list of strips", i, lists[i], lengths[i]);
+            }
+        }
+        check(call.list_count == 3, "lists of strips", empty);
+    }
 }
 
 /* One list with nothing in it leaves the others as they are: summer and winter from that place on, then the window. */
@@ -327,6 +388,21 @@ static void check_wrong_counts(void)
     }
     pilgartze_factor_at(PILGARTZE_EDITION_1, 51.5, 52.5, &surface, sectors, far, objects, (size_t)-1);
     check(call.lengths[0] > 36 * 216 && call.lengths[1] > 36 * 216, "wrong counts of a factor", 0);
+}
+
+/* So it is of strips: times eight, some of these counts come to 0, to 8 and to 96 in as many bits. */
+static void check_wrong_counts_of_strips(void)
+{
+    const size_t far = (size_t)1 << 61;
+    const size_t counts[4] = {(size_t)-1, far, far + 1, far + 12};
+    int i;
+    for (i = 0; i < 4; i++) {
+        pilgartze_tall_glazing cut = glazing;
+        cut.strip_count = counts[i];
+        pilgartze_strips_at(PILGARTZE_EDITION_1, 51.5, 52.5, &cut, sectors, counts[i], objects, counts[i]);
+        check(call.lists[0] == heights && call.lengths[0] > 8 * 12, "a wrong count of strips", i);
+        check(call.lengths[1] > 36 * 216 && call.lengths[2] > 16 * 32, "wrong counts of lists of strips", i);
+    }
 }
 
 /* Records as the library reads them: word by word. */
@@ -543,6 +619,8 @@ static void check_bits(void)
     check(call.numbers[8] == as_double && call.numbers[9] == as_double + 8589934592.0, "leaf days", 0);
     pilgartze_factor_at(many, 51.5, 52.5, &surface, NULL, 0, NULL, 0);
     check(call.numbers[0] == as_double, "edition", 1);
+    pilgartze_strips_at(many, 51.5, 52.5, &glazing, NULL, 0, NULL, 0);
+    check(call.numbers[0] == as_double, "edition", 2);
 }
 
 int main(void)
@@ -552,9 +630,12 @@ int main(void)
     check_run(&weather, &shading);
     check_single_steps(&shading);
     check_factor();
+    check_strips();
     check_empty_lists();
+    check_empty_lists_of_strips();
     check_one_empty_list();
     check_wrong_counts();
+    check_wrong_counts_of_strips();
     check_sector();
     check_objects();
     check_results();

@@ -1,6 +1,7 @@
-/* A test of the library through include/pilgartze.h: that it is of the header's version; that the four calls agree with
- * each other, bit for bit, in both editions; some factors that are known; the table of days; the totals of days and
- * months; which list of sectors each day has; and each refusal, with what is then stored. Good C99 and good C++11.
+/* A test of the library through include/pilgartze.h: that it is of the header's version; that run, step, irradiance and
+ * factor agree with each other, bit for bit, in both editions; some factors that are known; the table of days; the
+ * totals of days and months; which list of sectors each day has; and each refusal, with what is then stored. The call
+ * of the strips has a test of its own, strips.c. Good C99 and good C++11.
  *
  * With any argument it prints some results of its job in place of the test: what examples/from_python.py prints. */
 #include "pilgartze.h"
@@ -893,6 +894,22 @@ static void check_zeroed(void)
     check(spoilt_factor(zeroed.edition, 91.0, 0.0, &made.surface).number == 3, "factor with edition", 0);
 }
 
+/* So it is of glazing that is zeroed: it names no strips, and that is tried after the edition, before the objects. */
+static void check_zeroed_glazing(void)
+{
+    job made = good_job();
+    pilgartze_tall_glazing zeroed;
+    pilgartze_factor_answer answer;
+    memset(&zeroed, 0, sizeof zeroed);
+    made.winter[0].count = 9;
+    answer = pilgartze_strips_at(0, 91.0, 0.0, &zeroed, made.winter, 2, made.window, 4);
+    check(answer.number == 14 && answer.factor == 0.0, "zeroed glazing", 0);
+    answer = pilgartze_strips_at(made.edition, 35.0, 20.0, &zeroed, made.winter, 2, made.window, 4);
+    check(answer.number == 3 && answer.factor == 0.0, "zeroed glazing with edition", 0);
+    answer = pilgartze_strips_at(made.edition, 35.0, 20.0, &zeroed, NULL, 0, NULL, 0);
+    check(answer.number == 3 && answer.factor == 0.0, "zeroed glazing, no lists", 0);
+}
+
 /* ---- The job's results ---------------------------------------------------------------------------------------- */
 
 static void print_totals(const char *name, const pilgartze_totals *of)
@@ -925,6 +942,18 @@ static void print_factor(const job *of, uint64_t edition, double altitude)
            (unsigned)answer.number, answer.factor);
 }
 
+/* The same window in strips, from the lowest up, without the overhang: that would count from the top of each. */
+static void print_strips(const job *of, uint64_t edition, size_t count)
+{
+    static const double heights[3] = {0.4, 0.5, 0.3};
+    const pilgartze_tall_glazing glazing = {of->surface.tilt,  of->surface.orientation, of->surface.base_height,
+                                            of->surface.width, heights,                 count};
+    const pilgartze_factor_answer answer =
+        pilgartze_strips_at(edition, 15.0, 20.0, &glazing, of->winter, 2, of->window + 1, 3);
+    printf("edition %u, %u strips: number %u, factor %.17g\n", (unsigned)edition, (unsigned)count,
+           (unsigned)answer.number, answer.factor);
+}
+
 static void print_results(void)
 {
     job made = good_job();
@@ -935,6 +964,10 @@ static void print_results(void)
     print_factor(&made, PILGARTZE_EDITION_2, 35.0);
     print_factor(&made, PILGARTZE_EDITION_2, -1.0);
     print_factor(&made, 3, -1.0);
+    print_strips(&made, PILGARTZE_EDITION_1, 3);
+    print_strips(&made, PILGARTZE_EDITION_2, 3);
+    print_strips(&made, PILGARTZE_EDITION_2, 0);
+    print_strips(&made, 3, 0);
 }
 
 int main(int argc, char **argv)
@@ -972,6 +1005,7 @@ int main(int argc, char **argv)
     check_single_refusals();
     check_single_leaf_days();
     check_zeroed();
+    check_zeroed_glazing();
     printf("calls: %d of %d checks held\n", checks - failures, checks);
     return failures == 0 ? 0 : 1;
 }

@@ -373,6 +373,65 @@ static void shaded_light(void)
     check(with.factor == 0.0 && with.diffuse == without.diffuse && with.total == without.total, 30, "diffuse light");
 }
 
+/* The factor of upright glazing to the south on the ground, 1 m wide, in strips; no edition changes it. */
+static double in_strips(const double *heights, size_t count, double altitude, const pilgartze_sector *horizon,
+                        const pilgartze_window_object *objects, size_t object_count)
+{
+    const pilgartze_tall_glazing glazing = {90.0, 180.0, 0.0, 1.0, heights, count};
+    const pilgartze_factor_answer answer =
+        pilgartze_strips_at(PILGARTZE_EDITION_2, altitude, 0.0, &glazing, horizon, 1, objects, object_count);
+    check(answer.number == 0, 41, "strips are refused");
+    return answer.factor;
+}
+
+/* An overhang over the top of a window 4 m high whose shade is half a metre deep: in strips it hangs over each of them.
+ * As a distant one it has its height above the ground, and shades the uppermost alone. */
+static void overhang_over_strips(void)
+{
+    static const double metres[4] = {1.0, 1.0, 1.0, 1.0};
+    const pilgartze_surface whole = facing(90.0, 180.0, 0.0, 4.0);
+    const pilgartze_window_object overhang = pilgartze_overhang(0.5, 0.0);
+    pilgartze_sector above = free_sector;
+    int i;
+    pilgartze_add_object(&above, pilgartze_distant_overhang(4.0, 0.5));
+    check(behind(&overhang, 1, 45.0, 0.0, whole).factor == 0.875, 41, "an overhang over one surface");
+    check(in_strips(metres, 4, 45.0, &free_sector, &overhang, 1) == 0.5, 41, "an overhang over strips");
+    for (i = 0; i < 4; i++) {
+        const pilgartze_surface strip = facing(90.0, 180.0, i, 1.0);
+        check(behind(&overhang, 1, 45.0, 0.0, strip).factor == 0.5, 41, "an overhang over each strip");
+    }
+    check(among(&above, 1, 45.0, 0.0, whole).factor == 0.875, 41, "a distant overhang over one surface");
+    check(in_strips(metres, 4, 45.0, &above, NULL, 0) == 0.875, 41, "a distant overhang over strips");
+}
+
+/* One strip is multiplied by its height and divided by it again. */
+static void one_strip(void)
+{
+    const double height = 0.05;
+    const pilgartze_tall_glazing glazing = {90.0, 180.0, 0.0, 0.7, &height, 1};
+    const pilgartze_surface surface = {90.0, 180.0, 0.0, 0.05, 0.7};
+    pilgartze_sector kerb = free_sector;
+    pilgartze_add_object(&kerb, pilgartze_distant_obstacle(0.01, 10.0));
+    check(among(&kerb, 1, 0.0, 0.0, surface).factor == 0.8, 41, "one surface");
+    check(pilgartze_strips_at(PILGARTZE_EDITION_2, 0.0, 0.0, &glazing, &kerb, 1, NULL, 0).factor == 0.8000000000000002,
+          41, "the same as one strip");
+}
+
+/* Two strips behind a hedge that lets a tenth through, of which each rounds for itself: the factor of both together is
+ * above either, or below either. */
+static void beyond_the_strips(void)
+{
+    static const double above[2] = {1.5, 1.8};
+    static const double below[2] = {0.4, 1.2};
+    const pilgartze_window_object hedge = pilgartze_obstacle(10.0, 1.0, 0.1);
+    check(behind(&hedge, 1, 0.0, 0.0, facing(90.0, 180.0, 0.0, 1.5)).factor == 0.10000000000000002, 41, "1.5 m");
+    check(behind(&hedge, 1, 0.0, 0.0, facing(90.0, 180.0, 1.5, 1.8)).factor == 0.1, 41, "1.8 m on top of it");
+    check(in_strips(above, 2, 0.0, &free_sector, &hedge, 1) == 0.10000000000000003, 41, "above either");
+    check(behind(&hedge, 1, 0.0, 0.0, facing(90.0, 180.0, 0.0, 0.4)).factor == 0.10000000000000002, 41, "0.4 m");
+    check(behind(&hedge, 1, 0.0, 0.0, facing(90.0, 180.0, 0.4, 1.2)).factor == 0.1, 41, "1.2 m on top of it");
+    check(in_strips(below, 2, 0.0, &free_sector, &hedge, 1) == 0.09999999999999999, 41, "below either");
+}
+
 int main(void)
 {
     int hour;
@@ -398,6 +457,9 @@ int main(void)
     sectors();
     seasons();
     shaded_light();
+    overhang_over_strips();
+    one_strip();
+    beyond_the_strips();
     printf("docs/DIFFERENCES.md: %d checks of its inputs, %d failed\n", checks, failures);
     return failures == 0 ? 0 : 1;
 }

@@ -1,7 +1,7 @@
 #!/usr/bin/env python3
 """Calls from Python, by ctypes: four days in June by half hours, with an overhang of two depths and a tree that is in
-leaf from the third day on, and some factors, in both editions. Of each run it also prints the totals of two days and of
-the month.
+leaf from the third day on, and some factors, in both editions, of the window whole and in strips. Of each run it also
+prints the totals of two days and of the month.
 
     examples/from_python.py LIBRARY
 
@@ -24,6 +24,8 @@ EDITION_1, EDITION_2 = 1, 2
 SITE = (51.06, -1.31, 0, 170, 1.0, 0, 0, 172, 300)  # the last two are the leaf days, from 0: 172 is 22 June
 RUN = (4080.0, 4176.0, 0.5)
 SURFACE = (90.0, 135.0, 0.9, 1.2, 1.8)
+GLAZING = (90.0, 135.0, 0.9, 1.8)  # the surface without its height: strips have their own
+STRIPS = (0.4, 0.5, 0.3)
 
 DISTANT_OBSTACLE, DISTANT_OVERHANG = 0, 1
 OBSTACLE, OVERHANG, RIGHT_FIN, LEFT_FIN = 0, 1, 2, 3
@@ -78,6 +80,8 @@ def load(path):
     library.pilgartze_run.restype = Answer
     library.pilgartze_factor.argtypes = [c_uint64] + [c_double] * 2 + surface + one_list * 2
     library.pilgartze_factor.restype = FactorAnswer
+    library.pilgartze_strips.argtypes = [c_uint64] + [c_double] * 6 + one_list * 3
+    library.pilgartze_strips.restype = FactorAnswer
     return library
 
 
@@ -144,6 +148,15 @@ def print_factor(library, edition, altitude):
     print("edition %d, altitude %.0f: number %d, factor %.17g" % (edition, altitude, answer.number, answer.factor))
 
 
+def print_strips(library, edition, *heights):
+    """The same window in strips, from the lowest up, without the overhang: that would count from the top of each."""
+    _, winter, window = make_shading(1.2)
+    strips = (c_double * len(heights))(*heights)
+    others = (WindowObject * 3)(*window[1:])
+    answer = library.pilgartze_strips(edition, 15.0, 20.0, *GLAZING, *lent(strips, winter, others))
+    print("edition %d, %d strips: number %d, factor %.17g" % (edition, len(heights), answer.number, answer.factor))
+
+
 def main():
     if len(sys.argv) != 2:
         sys.exit(f"{sys.argv[0]}: the path of the shared library is wanted (see the head of this script)")
@@ -155,6 +168,10 @@ def main():
     print_factor(library, EDITION_2, 35.0)
     print_factor(library, EDITION_2, -1.0)
     print_factor(library, 3, -1.0)
+    print_strips(library, EDITION_1, *STRIPS)
+    print_strips(library, EDITION_2, *STRIPS)
+    print_strips(library, EDITION_2)
+    print_strips(library, 3)
 
 
 main()

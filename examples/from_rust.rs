@@ -1,4 +1,5 @@
-//! A call from Rust: a day in June at a window to the south with an overhang, and a factor that is refused.
+//! Calls from Rust: a day in June at a window to the south with an overhang, a factor that is refused, and
+//! the window in strips, behind a hedge.
 
 #[path = "../oracle/pilgartze.rs"]
 #[allow(dead_code)]
@@ -66,4 +67,17 @@ fn main() {
         "a sun below the horizon: {}",
         below_the_horizon.unwrap_err()
     );
+
+    let hedge = window_object(0, 2.5, 1.0, 0.5);
+    let in_strips = TallGlazing {
+        tilt: WINDOW.tilt,
+        orientation: WINDOW.orientation,
+        base_height: WINDOW.base_height,
+        width: WINDOW.width,
+        heights: &bytes_of(&[0.5, 0.6, 0.4]),
+    };
+    match strips(EDITION_2, 20.0, 0.0, &in_strips, &sky, &hedge) {
+        Ok(factor) => println!("in three strips behind a hedge the factor is {factor:.3}"),
+        Err(refusal) => println!("the strips: {refusal}"),
+    }
 }
