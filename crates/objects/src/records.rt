@@ -99,6 +99,13 @@ pub fn sector_count(bytes: &[u8]) -> usize
     word_count(bytes) / 27
 }
 
+// What stands in a place that no sector has.
+pub fn no_segment() -> ShadingSegment
+    ensures { λ r. ⌜ r ≡ noSegment ⌝ }
+{
+    NO_SEGMENT
+}
+
 // A table without a sector. By a function, so that the compiler clears it in one go.
 pub fn no_sectors() -> [ShadingSegment; 36]
     ensures { λ r. ⌜ r ≡ replicate 36 noSegment ⌝ }

@@ -115,12 +115,19 @@ pub struct FoundSegment {
 }
 
 // The walk along the sectors of a checked list, for a single sun. The table is filled here, since one that comes from a function is
-// copied.
+// copied. A list without a sector is told before the walk: the compiler then sees that the table is always filled, and makes no copy of
+// it.
 pub fn find_segment(azimuth: f64, sectors: &[u8]) -> FoundSegment
     requires { ⌜ Readable (now sectors) ⌝ }
     ensures { λ r. ⌜ r ≡ segmentFound azimuth (sectorsOf (now (sectors .entry))) ⌝ }
 {
     let n = records::sector_count(sectors);
+    if n == 0 {
+        return FoundSegment {
+            place: Place::NoSector,
+            segment: records::no_segment(),
+        };
+    }
     let mut places = records::no_sectors();
     let mut i: usize = 0;
     while i < n {

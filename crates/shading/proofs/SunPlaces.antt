@@ -1,7 +1,7 @@
 -- The factor by the place where the sun stands and by the sector there is the factor. Assumes nothing.
 use mathlib.Core.Path.{_≡_, refl, sym, ap}
 use mathlib.Core.Bool.{Bool, true, false, cond}
-use mathlib.Core.List.{List, []}
+use mathlib.Core.List.{List}
 use Prim.Native.Nat.{ℕ, _≤_, _<_}
 use native.Mathlib.Omega.{arith}
 use lib.Ieee.{Float}
@@ -10,8 +10,7 @@ use Rattle.doubles.specs.Arithmetic.{whole}
 use Rattle.objects.specs.declared.surface.Surface.{Surface}
 use Rattle.objects.specs.declared.sectors.ShadingSegment.{ShadingSegment}
 use Rattle.objects.specs.declared.window.WindowShadingObject.{WindowShadingObject}
-use Rattle.objects.specs.declared.answers.FactorAnswer.the-variants.{Factor, Refused}
-use Rattle.objects.specs.declared.answers.Refusal.the-variants.{NoSector}
+use Rattle.objects.specs.declared.answers.FactorAnswer.the-variants.{Factor}
 use Rattle.beam.specs.Beam.{outsideSolarBeam}
 use Rattle.segments.specs.declared.Place.{Place}
 use Rattle.segments.specs.declared.Place.the-variants as place
@@ -69,7 +68,3 @@ module _ (edition : ℕ) (surface : Surface) (altitude azimuth : Float) where
     factor-by-found r e =
         factor-by-place sectors (λ (i : ℕ). getD sectors i noSegment) (λ i h. place-record azimuth sectors i noSegment h) window _ (r .segment)
         (rw (inside, e) refl) (rw e refl)
-
-    pub no-sector-at-all : sectors ≡ [] → Refused NoSector ≡ shadingFactor edition surface altitude azimuth sectors window
-    unfolding shadingFactor factorIn segmentOf segmentIn placeOf
-    no-sector-at-all e = rw (e, inside) refl

@@ -14,7 +14,6 @@ use crate::sun_on_surface;
 use beam::outside_solar_beam;
 use objects::answers::FactorAnswer;
 use objects::answers::Refusal;
-use objects::records::sector_count;
 use objects::records::window_of;
 use objects::sectors::ShadingSegment;
 use objects::surface::Surface;
@@ -79,8 +78,7 @@ pub fn factor_at(
     }
 }
 
-// The direct shading reduction factor of one sun, or why there is none, by lists that have passed their checks. A list without a
-// sector is turned down before the walk: the compiler then sees that the table is always filled, and makes no copy of it.
+// The direct shading reduction factor of one sun, or why there is none, by lists that have passed their checks.
 pub fn direct_shading_reduction_factor(
     edition: u64,
     surface: Surface,
@@ -95,9 +93,6 @@ pub fn direct_shading_reduction_factor(
 {
     if outside_solar_beam(surface.tilt, surface.orientation, altitude, azimuth) {
         return FactorAnswer::Factor(1.0);
-    }
-    if sector_count(sectors) == 0 {
-        return FactorAnswer::Refused(Refusal::NoSector);
     }
     let found = find_segment(azimuth, sectors);
     let place = found.place;

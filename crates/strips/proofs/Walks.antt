@@ -22,7 +22,7 @@ use Rattle.segments.specs.FoundSegment.{segmentFound}
 use Rattle.shading.specs.declared.sun_on_surface.SunOnSurface.{SunOnSurface}
 use Rattle.shading.specs.Factor.{sunOn, factorIn, shadingFactor}
 use Rattle.shading.specs.SunPlaces.{segmentThere, factorAt}
-use Rattle.shading.proofs.SunPlaces.{factor-by-found, no-sector-at-all}
+use Rattle.shading.proofs.SunPlaces.{factor-by-found}
 use Rattle.strips.specs.declared.glazing.TallGlazing.{TallGlazing}
 use Rattle.strips.specs.Strips.{stripOf, stripsFrom, heightsOf, stripsOf, stripsFine, meanFactor, stripsFactor}
 use Rattle.strips.proofs.Means.{Stacked, no-sums, mean-one, mean-refused, mean-same}
@@ -45,12 +45,6 @@ module _ (glazing : TallGlazing) (heights : List ℕ) (t : T (stripsFine glazing
         (strip-has glazing (λ s. shadingFactor edition s altitude azimuth sectors window ≡ Factor (whole 1)) (λ base height. rw e refl) (heightsOf heights) (glazing .«base_height»))
 
     module _ (inside : outsideSolarBeam (glazing .tilt) (glazing .orientation) altitude azimuth ≡ false) where
-      pub none-refused : sectors ≡ [] → Refused refusal.NoSector ≡ stripsFactor edition altitude azimuth (stripsOf glazing heights) sectors window
-      unfolding stripsFactor stripOf
-      none-refused e =
-          all-refused (λ strip. shadingFactor edition strip altitude azimuth sectors window) refusal.NoSector
-          (λ base height. sym (no-sector-at-all edition (stripOf glazing base height) altitude azimuth sectors window inside e))
-
       module _ (r : FoundSegment) (e : r ≡ segmentFound azimuth sectors) where
         strip-there : (base height : Float)
             → factorIn (stripOf glazing base height) (sunOn edition (stripOf glazing base height) altitude azimuth) window (segmentThere (r .place) (r .segment))

@@ -14,7 +14,6 @@ use crate::glazing::strips_fine;
 use beam::outside_solar_beam;
 use objects::answers::FactorAnswer;
 use objects::answers::Refusal;
-use objects::records::sector_count;
 use objects::records::window_of;
 use objects::sectors::ShadingSegment;
 use objects::window::WindowShading;
@@ -60,8 +59,7 @@ fn mean_in(
     FactorAnswer::Factor(weighted / total)
 }
 
-// The factor of strips and lists that have passed their checks. A list without a sector is turned down before the walk, as in the
-// factor call.
+// The factor of strips and lists that have passed their checks.
 pub fn strips_factor(
     edition: u64,
     altitude: f64,
@@ -78,9 +76,6 @@ pub fn strips_factor(
 {
     if outside_solar_beam(glazing.tilt, glazing.orientation, altitude, azimuth) {
         return FactorAnswer::Factor(1.0);
-    }
-    if sector_count(sectors) == 0 {
-        return FactorAnswer::Refused(Refusal::NoSector);
     }
     let found = find_segment(azimuth, sectors);
     let place = found.place;

@@ -1,5 +1,5 @@
 use mathlib.Core.Path.{_≡_, sym, ap, subst, _∙_}
-use mathlib.Core.List.{List, []}
+use mathlib.Core.List.{List}
 use lib.Dec.{T}
 use lib.Ieee.{ofBits}
 use denote.Ref.{now}
@@ -7,13 +7,13 @@ use Rattle.doubles.specs.Arithmetic.{whole}
 use Rattle.objects.specs.declared.surface.Surface.{Surface}
 use Rattle.objects.specs.declared.window.WindowShadingObject.{WindowShadingObject}
 use Rattle.objects.specs.Objects.{placed}
-use Rattle.objects.specs.Records.{recordsFrom, segmentAt, sectorsOf, windowObjectsOf}
+use Rattle.objects.specs.Records.{sectorsOf, windowObjectsOf}
 use Rattle.object_checks.proofs.ReadableSectors.{readable}
 use Rattle.object_checks.proofs.AcceptedWindow.{window-count, window-places}
 use Rattle.segments.specs.Segments.{found}
 use Rattle.shading.specs.Factor.{sunOn, factorIn}
 use Rattle.strips.specs.Strips.{stripsOf, meanFactor}
-use Rattle.strips.proofs.Walks.{outside-one, none-refused, gap-refused, turned-refused, no-sector-refused, found-mean}
+use Rattle.strips.proofs.Walks.{outside-one, gap-refused, turned-refused, no-sector-refused, found-mean}
 use borrow.Author.Needs.{needs}
 use Rattle.strips.proofs.factor.strips_factor.Statement.{statement}
 use Rattle.strips.proofs.factor.strips_factor.Tie as tie
@@ -29,20 +29,8 @@ returns c =
     sym (outside-one (a .glazing) (now (a .heights)) (subst T (sym (s .pre .0)) tt) (a .edition) (a .altitude) (a .azimuth) (sectorsOf (now (a .sectors))) (windowObjectsOf (now (a .window)))
     (sym (c .before .outside-solar-beam .ensures) ∙ c .if1 .taken))
 
-sector-count-requires : tie.Need-sector-count-requires
-sector-count-requires c κs = search needs
-
-returns-2 : tie.Need-returns-2
-unfolding sectorsOf recordsFrom
-returns-2 c =
-    let s = c .before .before .before .before .before .before .before in
-    let a = s .args in
-    let none : sectorsOf (now (a .sectors)) ≡ [] = ap (recordsFrom (segmentAt (now (a .sectors))) 0) (sym (c .before .sector-count .ensures) ∙ c .if2 .taken) in
-    none-refused (a .glazing) (now (a .heights)) (subst T (sym (s .pre .0)) tt) (a .edition) (a .altitude) (a .azimuth) (sectorsOf (now (a .sectors))) (windowObjectsOf (now (a .window)))
-    (sym (c .before .before .before .outside-solar-beam .ensures) ∙ c .before .before .if1 .left) none
-
 find-segment-requires : tie.Need-find-segment-requires
-find-segment-requires c κs = let s = c .before .before .before .before .before .before .before in readable (now (s .args .sectors)) (subst T (sym (s .pre .1 .0)) tt)
+find-segment-requires c κs = let s = c .before .before .before .before .before in readable (now (s .args .sectors)) (subst T (sym (s .pre .1 .0)) tt)
 
 enum-known-place : tie.Need-enum-known-place
 enum-known-place c = search needs
@@ -57,7 +45,7 @@ sun-on-requires : tie.Need-sun-on-requires
 sun-on-requires c κs = search needs
 
 window-of-requires : tie.Need-window-of-requires
-window-of-requires c κs = let s = c .before .before .before .before .before .before .before .before .before .before .before .before .before .before .before in window-count (now (s .args .window)) (subst T (sym (s .pre .1 .1)) tt)
+window-of-requires c κs = let s = c .before .before .before .before .before .before .before .before .before .before .before .before .before in window-count (now (s .args .window)) (subst T (sym (s .pre .1 .1)) tt)
 
 mean-in-requires : tie.Need-mean-in-requires
 mean-in-requires c κs = search needs
@@ -71,38 +59,38 @@ enum-told-2 c = search needs
 enum-told-3 : tie.Need-enum-told-3
 enum-told-3 c = search needs
 
-returns-3 : tie.Need-returns-3
+returns-2 : tie.Need-returns-2
 unfolding placed
-returns-3 c =
-    let s = c .before .before .before .before .before .before .before .before .before .before .before .before .before .before .before .before .before in
+returns-2 c =
+    let s = c .before .before .before .before .before .before .before .before .before .before .before .before .before .before .before in
     let a = s .args in
     let objects = ap placed (c .before .window-of .ensures) ∙ window-places (now (a .window)) (subst T (sym (s .pre .1 .1)) tt) in
     c .mean-in .ensures
     ∙ ap (λ (ws : List WindowShadingObject). meanFactor (λ strip. factorIn strip (c .before .before .sun-on .result) ws (found (c .before .before .before .before .before .before .before .before .before .find-segment .result .segment))) (stripsOf (a .glazing) (now (a .heights)))) objects
     ∙ found-mean (a .glazing) (now (a .heights)) (subst T (sym (s .pre .0)) tt) (a .edition) (a .altitude) (a .azimuth) (sectorsOf (now (a .sectors))) (windowObjectsOf (now (a .window)))
-    (sym (c .before .before .before .before .before .before .before .before .before .before .before .before .before .outside-solar-beam .ensures) ∙ c .before .before .before .before .before .before .before .before .before .before .before .before .if1 .left) _ (c .before .before .before .before .before .before .before .before .before .find-segment .ensures) _ (c .before .before .before .before .before .before .place .given .1) _ _ _
+    (sym (c .before .before .before .before .before .before .before .before .before .before .before .outside-solar-beam .ensures) ∙ c .before .before .before .before .before .before .before .before .before .before .if1 .left) _ (c .before .before .before .before .before .before .before .before .before .find-segment .ensures) _ (c .before .before .before .before .before .before .place .given .1) _ _ _
     (c .before .before .sun-on .ensures ∙ ap (λ (z : Surface). sunOn (a .edition) z (a .altitude) (a .azimuth)) (c .before .before .before .strip-of .ensures))
+
+returns-3 : tie.Need-returns-3
+returns-3 c =
+    let s = c .before .before .before .before .before .before .before .before .before in
+    let a = s .args in
+    gap-refused (a .glazing) (now (a .heights)) (subst T (sym (s .pre .0)) tt) (a .edition) (a .altitude) (a .azimuth) (sectorsOf (now (a .sectors))) (windowObjectsOf (now (a .window)))
+    (sym (c .before .before .before .before .before .outside-solar-beam .ensures) ∙ c .before .before .before .before .if1 .left) _ (c .before .before .before .find-segment .ensures) (c .enum-told .given .1)
 
 returns-4 : tie.Need-returns-4
 returns-4 c =
-    let s = c .before .before .before .before .before .before .before .before .before .before .before in
+    let s = c .before .before .before .before .before .before .before .before .before in
     let a = s .args in
-    gap-refused (a .glazing) (now (a .heights)) (subst T (sym (s .pre .0)) tt) (a .edition) (a .altitude) (a .azimuth) (sectorsOf (now (a .sectors))) (windowObjectsOf (now (a .window)))
-    (sym (c .before .before .before .before .before .before .before .outside-solar-beam .ensures) ∙ c .before .before .before .before .before .before .if1 .left) _ (c .before .before .before .find-segment .ensures) (c .enum-told .given .1)
+    turned-refused (a .glazing) (now (a .heights)) (subst T (sym (s .pre .0)) tt) (a .edition) (a .altitude) (a .azimuth) (sectorsOf (now (a .sectors))) (windowObjectsOf (now (a .window)))
+    (sym (c .before .before .before .before .before .outside-solar-beam .ensures) ∙ c .before .before .before .before .if1 .left) _ (c .before .before .before .find-segment .ensures) (c .enum-told2 .given .1)
 
 returns-5 : tie.Need-returns-5
 returns-5 c =
-    let s = c .before .before .before .before .before .before .before .before .before .before .before in
-    let a = s .args in
-    turned-refused (a .glazing) (now (a .heights)) (subst T (sym (s .pre .0)) tt) (a .edition) (a .altitude) (a .azimuth) (sectorsOf (now (a .sectors))) (windowObjectsOf (now (a .window)))
-    (sym (c .before .before .before .before .before .before .before .outside-solar-beam .ensures) ∙ c .before .before .before .before .before .before .if1 .left) _ (c .before .before .before .find-segment .ensures) (c .enum-told2 .given .1)
-
-returns-6 : tie.Need-returns-6
-returns-6 c =
-    let s = c .before .before .before .before .before .before .before .before .before .before .before in
+    let s = c .before .before .before .before .before .before .before .before .before in
     let a = s .args in
     no-sector-refused (a .glazing) (now (a .heights)) (subst T (sym (s .pre .0)) tt) (a .edition) (a .altitude) (a .azimuth) (sectorsOf (now (a .sectors))) (windowObjectsOf (now (a .window)))
-    (sym (c .before .before .before .before .before .before .before .outside-solar-beam .ensures) ∙ c .before .before .before .before .before .before .if1 .left) _ (c .before .before .before .find-segment .ensures) (c .enum-told3 .given .1)
+    (sym (c .before .before .before .before .before .outside-solar-beam .ensures) ∙ c .before .before .before .before .if1 .left) _ (c .before .before .before .find-segment .ensures) (c .enum-told3 .given .1)
 
 pub strips-factor-spec : {M : Type 1} → statement M
 strips-factor-spec =
@@ -110,8 +98,6 @@ strips-factor-spec =
     (tie.spec
     outside-solar-beam-requires
     returns
-    sector-count-requires
-    returns-2
     find-segment-requires
     enum-known-place
     double-at-requires
@@ -122,7 +108,7 @@ strips-factor-spec =
     enum-told
     enum-told-2
     enum-told-3
+    returns-2
     returns-3
     returns-4
-    returns-5
-    returns-6)
+    returns-5)
