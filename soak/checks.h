@@ -51,6 +51,7 @@ enum handle {
 /* What has been seen of calls for strips. */
 typedef struct strips_seen {
     uint64_t refused[NO_FAULT];                  /* 3, by what is out of range */
+    uint64_t thirteen;                           /* of these, by one strip too many */
     uint64_t before_lists;                       /* of these, with lists that are refused 4 otherwise */
     uint64_t in_beam[PILGARTZE_MOST_STRIPS + 1]; /* accepted calls inside the beam, by how many strips they have */
     uint64_t uneven;                             /* of these, with other factors for some strips than for others */
@@ -168,8 +169,7 @@ void try_twice(soak *in, enum call call, const job *of, int at_the_end, uint8_t 
 void try_calls(soak *in, source *from, const job *of);
 /* Some step of a run by itself. */
 void try_step_of_run(soak *in, source *from, const job *of);
-/* One step whose walk ends in the way and at the place of this turn, as a run, by itself and as calls for the factor and
- * for strips. */
+/* One step whose walk ends in the way and at the place of this turn, as a run, by itself, and for factor and strips. */
 void try_walk(soak *in, source *from);
 /* Counts the walk of a step with that sun, and says what is wrong with its number, or NULL. */
 const char *wrong_walk(soak *in, enum call call, const job *of, enum list season, double altitude, double azimuth,

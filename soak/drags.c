@@ -368,13 +368,15 @@ void tell_drags(const soak *in)
            (unsigned long long)in->dragged_refused[3]);
 }
 
-/* Each handle must have changed a factor, in either edition, also by a bit, and a sum; and it must have been dragged where others shade more. On the heap there are too few jobs for that. */
+/* Each handle must have changed a factor, in either edition, also by a bit, and a sum; and it must have been dragged
+ * where others shade more. On the heap there are too few jobs for that. */
 int too_few_drags(const soak *in)
 {
     int seldom = in->dragged_out == 0;
     size_t i;
     for (i = 0; i < HANDLES; i++) {
-        seldom = seldom || in->dragged_apart[i][0] == 0 || in->dragged_apart[i][1] == 0 || in->dragged_a_bit[i] == 0 || in->dragged_in_vain[i] == 0 || in->dragged_runs_apart[i] == 0;
+        seldom = seldom || in->dragged_apart[i][0] == 0 || in->dragged_apart[i][1] == 0 || in->dragged_a_bit[i] == 0 ||
+                 in->dragged_in_vain[i] == 0 || in->dragged_runs_apart[i] == 0;
     }
     for (i = 0; i < 4; i++) {
         seldom = seldom || in->dragged_refused[i] == 0;

@@ -86,6 +86,14 @@ static void try_drags(soak *in, source *from, const job *made)
     }
 }
 
+static void try_objects(soak *in, source *from, const job *made)
+{
+    if (one_in(from, 8)) {
+        try_other_objects(in, from, made);
+        try_objects_of_strips(in, from, made);
+    }
+}
+
 static void one_turn(soak *in, job *made)
 {
     source from = source_of(in->seed, in->turn);
@@ -112,10 +120,7 @@ static void one_turn(soak *in, job *made)
     if (one_in(&from, 16)) {
         try_one_series(in, &from, made);
     }
-    if (one_in(&from, 8)) {
-        try_other_objects(in, &from, made);
-        try_objects_of_strips(in, &from, made);
-    }
+    try_objects(in, &from, made);
     if (one_in(&from, in->on_the_heap ? 4 : 2)) {
         try_strips(in, &from, made);
     }

@@ -306,7 +306,8 @@ void tell_job(const job *of)
     for (i = 0; i < sizeof words / 8; i++) {
         printf(" %016llX", (unsigned long long)words[i]);
     }
-    printf("\n  results, bytes: run %zu, step %zu, irradiance %zu; days: %zu; totals: %zu; the list of factor and strips: %s\n",
+    printf("\n  results, bytes: run %zu, step %zu, irradiance %zu; days: %zu; totals: %zu; the list of factor and "
+           "strips: %s\n",
            of->results[RUN], of->results[STEP], of->results[IRRADIANCE], of->days, of->totals, names[of->sectors]);
     for (i = 0; i < LISTS; i++) {
         tell_list(names[i], of->lists[i], of->lengths[i]);

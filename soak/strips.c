@@ -127,6 +127,7 @@ static const char *wrong_at_fault(soak *in, const job *of, const lent *at, enum 
         return words[fault];
     }
     in->strips.refused[fault] += 1;
+    in->strips.thirteen += fault == MANY_STRIPS && of->lengths[HEIGHTS] == 13 * sizeof(double) ? 1 : 0;
     in->strips.before_lists += lists_refused(of, at) ? 1 : 0;
     return NULL;
 }
@@ -149,6 +150,9 @@ static const char *wrong_by_factors(soak *in, const job *of, const lent *at, con
     }
     if (answer->number != 0) {
         return NULL;
+    }
+    if (!inside_the_beam(&of->surface, of->altitude, of->azimuth) && answer->sum != 1.0) {
+        return "outside the beam, and the factor is not 1";
     }
     if (bits_of(answer->sum) != bits_of(quotient(cut, factors, 0))) {
         return "not the quotient of the strips' factors and heights";
@@ -314,9 +318,9 @@ static void tell_accepted_strips(const strips_seen *seen)
     for (count = 1; count <= PILGARTZE_MOST_STRIPS; count++) {
         printf("%s %llu", count == 1 ? "" : ",", (unsigned long long)seen->in_beam[count]);
     }
-    printf("; of these %llu with other factors for some strips, %llu with one strip and not its factor, %llu that would "
-           "be others from the top down, %llu below the least factor or above the largest; accepted with the last base "
-           "at 1000 %llu, with an upper edge above it %llu\n",
+    printf("; of these %llu with other factors for some strips, %llu with one strip and not its factor, %llu that "
+           "would be others from the top down, %llu below the least factor or above the largest; accepted with the "
+           "last base at 1000 %llu, with an upper edge above it %llu\n",
            (unsigned long long)seen->uneven, (unsigned long long)seen->one_apart,
            (unsigned long long)seen->top_down_apart, (unsigned long long)seen->outside,
            (unsigned long long)seen->at_1000, (unsigned long long)seen->above_1000);
@@ -326,13 +330,14 @@ void tell_strips(const soak *in)
 {
     const strips_seen *const seen = &in->strips;
     tell_accepted_strips(seen);
-    printf("strips, refused 3: the sun %llu, the surface %llu, no strip %llu, more than 12 %llu, a part of one %llu, the "
-           "lowest base %llu, a later base %llu, a height %llu; of these %llu with lists that are refused 4 otherwise\n",
+    printf("strips, refused 3: the sun %llu, the surface %llu, no strip %llu, more than 12 %llu (13 of them %llu), "
+           "a part of one %llu, the lowest base %llu, a later base %llu, a height %llu; of these %llu with lists that are "
+           "refused 4 otherwise\n",
            (unsigned long long)seen->refused[SUN], (unsigned long long)seen->refused[FACE],
            (unsigned long long)seen->refused[NO_STRIP], (unsigned long long)seen->refused[MANY_STRIPS],
-           (unsigned long long)seen->refused[PART_STRIP], (unsigned long long)seen->refused[FIRST_BASE],
-           (unsigned long long)seen->refused[LATER_BASE], (unsigned long long)seen->refused[HEIGHT],
-           (unsigned long long)seen->before_lists);
+           (unsigned long long)seen->thirteen, (unsigned long long)seen->refused[PART_STRIP],
+           (unsigned long long)seen->refused[FIRST_BASE], (unsigned long long)seen->refused[LATER_BASE],
+           (unsigned long long)seen->refused[HEIGHT], (unsigned long long)seen->before_lists);
     printf("strips: %llu calls with structs, %llu of them with neither sectors nor objects; %llu accepted calls with "
            "heights that are a part of another list; %llu pairs of calls with other objects, of them with another "
            "factor %llu in edition 1 and %llu in edition 2\n",
@@ -341,17 +346,18 @@ void tell_strips(const soak *in)
            (unsigned long long)seen->pairs_apart[0], (unsigned long long)seen->pairs_apart[1]);
 }
 
-/* What a wrong base, weight, order or refusal would not show in. On the heap there are too few jobs for each handle. */
+/* What a wrong base, weight, order or refusal would not show in. On the heap there are too few jobs for each handle
+ * and for what is seldom. */
 int too_few_strips(const soak *in)
 {
     const strips_seen *const seen = &in->strips;
-    int seldom = seen->before_lists == 0 || seen->uneven == 0 || seen->one_apart == 0 || seen->top_down_apart == 0 ||
+    int seldom = seen->thirteen == 0 || seen->before_lists == 0 || seen->uneven == 0 || seen->top_down_apart == 0 ||
                  seen->outside == 0 || seen->at_1000 == 0 || seen->above_1000 == 0 || seen->by_structs == 0 ||
                  seen->by_no_lists == 0 || seen->overlaps == 0 || seen->pairs_apart[0] == 0 ||
-                 seen->pairs_apart[1] == 0;
+                 seen->pairs_apart[1] == 0 || (seen->one_apart == 0 && !in->on_the_heap);
     size_t i;
     for (i = 0; i < NO_FAULT; i++) {
-        seldom = seldom || seen->refused[i] == 0;
+        seldom = seldom || (seen->refused[i] == 0 && (i != FIRST_BASE || !in->on_the_heap));
     }
     for (i = 1; i <= PILGARTZE_MOST_STRIPS; i++) {
         seldom = seldom || seen->in_beam[i] == 0;

@@ -706,12 +706,12 @@ uint64_t pilgartze_irradiance(SITE_NUMBERS, double time, SURFACE_NUMBERS, READIN
 
 /* From 20 to 100 m up there are some strips, and hardly any other surface: what a flaw makes of the factor there is in
  * both calls, and shows by the strips' laws alone. */
-static pilgartze_factor_answer factor_on_high(pilgartze_factor_answer answer)
+static pilgartze_factor_answer factor_on_high(pilgartze_factor_answer answer, int inside_the_beam)
 {
     if (flaw("high_strips_refused") && answer.number == 0) {
         return (pilgartze_factor_answer){PILGARTZE_REFUSED_NO_SECTOR, 0.0};
     }
-    if (flaw("high_strips_always_shaded")) {
+    if (flaw("high_strips_always_shaded") && inside_the_beam) {
         answer.factor = fmin(answer.factor, 0.5);
     }
     return answer;
@@ -733,11 +733,12 @@ pilgartze_factor_answer pilgartze_factor(FACTOR_ARGUMENTS)
     }
     if (known_edition(edition)) {
         const enum asker asker = base_height > 20.0 && base_height < 100.0 ? HIGH_UP : ANOTHER_CALL;
+        const double aside = fabs(remainder(azimuth - (180.0 - orientation), 360.0));
         edition = flaw("factor_has_edition_1") ? PILGARTZE_EDITION_1 : edition;
         sectors = sectors_taken(edition, asker, sectors, sectors_length, room);
         window = objects_by_size(edition, asker, 1, window, window_length, window_room);
         answer = factor_in_edition(edition, altitude, azimuth, SURFACE, FACTOR_OBJECTS);
-        return asker == HIGH_UP ? factor_on_high(answer) : answer;
+        return asker == HIGH_UP ? factor_on_high(answer, fabs(tilt - altitude) <= 90.0 && aside <= 90.0) : answer;
     }
     answer = sound_factor(PILGARTZE_EDITION_1, altitude, azimuth, SURFACE, &none, 0, &none, 0);
     if (flaw("factor_tries_the_surface_first") && answer.number == PILGARTZE_REFUSED_SURFACE) {

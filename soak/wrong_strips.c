@@ -1,5 +1,5 @@
-/* What the wrong engines of soak/wrong.c make of tall glazing in strips. The strips are worked out here from the factors
- * of the same engine: a flaw of the factor is then in both calls, and does not show as one of the strips. */
+/* What the wrong engines of soak/wrong.c make of tall glazing in strips. The strips are worked out here from the
+ * factors of the same engine: a flaw of the factor is then in both calls, and does not show as one of the strips. */
 #include "wrong.h"
 
 #include <fenv.h>
@@ -250,7 +250,8 @@ static double other_mean(const cut *of)
         largest = fmax(largest, of->factors[i]);
         sum += of->factors[i];
     }
-    if ((flaw("one_strip_is_its_factor") && of->count == 1) || (flaw("equal_factors_as_they_are") && least == largest)) {
+    if ((flaw("one_strip_is_its_factor") && of->count == 1) ||
+        (flaw("equal_factors_as_they_are") && least == largest)) {
         return of->factors[0];
     }
     if (flaw("least_strip_counts")) {
@@ -416,6 +417,9 @@ static pilgartze_factor_answer strips_in_edition(STRIPS_ARGUMENTS)
     if (flaw("strips_outside_the_beam_not_checked") && number == PILGARTZE_REFUSED_OBJECT && tilt - altitude > 90.0 &&
         sectors_length < FAR_TOO_MANY) {
         return (pilgartze_factor_answer){0, 1.0};
+    }
+    if (flaw("strips_half_shaded_outside_the_beam") && number == 0 && tilt - altitude > 90.0) {
+        return (pilgartze_factor_answer){0, 0.5};
     }
     return number != 0 ? refused(number) : (pilgartze_factor_answer){0, together(&of)};
 }
