@@ -86,11 +86,14 @@ static void try_drags(soak *in, source *from, const job *made)
     }
 }
 
-static void try_objects(soak *in, source *from, const job *made)
+static void try_objects_and_strips(soak *in, source *from, const job *made)
 {
     if (one_in(from, 8)) {
         try_other_objects(in, from, made);
         try_objects_of_strips(in, from, made);
+    }
+    if (one_in(from, in->on_the_heap ? 4 : 2)) {
+        try_strips(in, from, made);
     }
 }
 
@@ -120,10 +123,7 @@ static void one_turn(soak *in, job *made)
     if (one_in(&from, 16)) {
         try_one_series(in, &from, made);
     }
-    try_objects(in, &from, made);
-    if (one_in(&from, in->on_the_heap ? 4 : 2)) {
-        try_strips(in, &from, made);
-    }
+    try_objects_and_strips(in, &from, made);
     try_seasons(in, &from, made);
     if (one_in(&from, 4)) {
         try_editions(in, &from, made, RUN);

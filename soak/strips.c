@@ -331,8 +331,8 @@ void tell_strips(const soak *in)
     const strips_seen *const seen = &in->strips;
     tell_accepted_strips(seen);
     printf("strips, refused 3: the sun %llu, the surface %llu, no strip %llu, more than 12 %llu (13 of them %llu), "
-           "a part of one %llu, the lowest base %llu, a later base %llu, a height %llu; of these %llu with lists that are "
-           "refused 4 otherwise\n",
+           "a part of one %llu, the lowest base %llu, a later base %llu, a height %llu; of these %llu with lists that "
+           "are refused 4 otherwise\n",
            (unsigned long long)seen->refused[SUN], (unsigned long long)seen->refused[FACE],
            (unsigned long long)seen->refused[NO_STRIP], (unsigned long long)seen->refused[MANY_STRIPS],
            (unsigned long long)seen->thirteen, (unsigned long long)seen->refused[PART_STRIP],
