@@ -45,6 +45,14 @@ static pilgartze_factor_answer factor_of(const job *of, const lent *at)
                             of->lengths[of->sectors], at->lists[WINDOW], of->lengths[WINDOW]);
 }
 
+static pilgartze_factor_answer strips_of(const job *of, const lent *at)
+{
+    const pilgartze_surface *const surface = &of->surface;
+    return pilgartze_strips(of->edition, of->altitude, of->azimuth, surface->tilt, surface->orientation,
+                            surface->base_height, surface->width, at->lists[HEIGHTS], of->lengths[HEIGHTS],
+                            at->lists[of->sectors], of->lengths[of->sectors], at->lists[WINDOW], of->lengths[WINDOW]);
+}
+
 pilgartze_answer answer_to(enum call call, const job *of, const lent *lists)
 {
     pilgartze_answer answer = {0, 0, 0, 0.0};
@@ -59,7 +67,7 @@ pilgartze_answer answer_to(enum call call, const job *of, const lent *lists)
         answer.number = irradiance_of(of, lists);
         return answer;
     default:
-        factor = factor_of(of, lists);
+        factor = call == FACTOR ? factor_of(of, lists) : strips_of(of, lists);
         answer.number = factor.number;
         answer.sum = factor.factor;
         return answer;
@@ -68,14 +76,19 @@ pilgartze_answer answer_to(enum call call, const job *of, const lent *lists)
 
 const char *name_of(enum call call)
 {
-    static const char *const names[CALLS] = {"run", "step", "irradiance", "factor"};
+    static const char *const names[CALLS] = {"run", "step", "irradiance", "factor", "strips"};
     return names[call];
+}
+
+int given_the_sun(enum call call)
+{
+    return call == FACTOR || call == STRIPS;
 }
 
 int can_give(enum call call, uint64_t number)
 {
     static const char *const marks[CALLS] = {"xxxxxxxxxxxx..xx", "xxxxx.xxxxxx..xx", "xxxx..xx.......x",
-                                             "x..xx...xxxx..x."};
+                                             "x..xx...xxxx..x.", "x..xx...xxxx..x."};
     return number < NUMBERS && marks[call][number] == 'x';
 }
 
@@ -105,7 +118,7 @@ size_t stored_by(enum call call, const pilgartze_answer *answer)
         const uint64_t rows = answer->number == 0 ? answer->count : answer->step;
         return came_to_steps(answer->number) ? (size_t)rows * sizeof(pilgartze_row) : 0;
     }
-    if (answer->number != 0 || call == FACTOR) {
+    if (answer->number != 0 || given_the_sun(call)) {
         return 0;
     }
     return call == STEP ? sizeof(pilgartze_row) : sizeof(pilgartze_breakdown);

@@ -1,4 +1,4 @@
-/* The four calls on one job. */
+/* The five calls on one job. */
 #ifndef SOAK_CALLS_H
 #define SOAK_CALLS_H
 
@@ -12,13 +12,15 @@ typedef struct lent {
     uint8_t *results;
 } lent;
 
-/* Of the single calls an answer has the number alone, of the factor the factor as its sum too. */
+/* Of the single calls an answer has the number alone, of factor and strips the factor as its sum too. */
 pilgartze_answer answer_to(enum call call, const job *of, const lent *lists);
 const char *name_of(enum call call);
 
 /* No number that a call gives is as large. */
 #define NUMBERS (PILGARTZE_REFUSED_LEAF_DAY + 1)
 
+/* Whether a call is given the sun itself, and so has no day, one list of sectors, and a factor for its answer. */
+int given_the_sun(enum call call);
 /* Whether a call can give that number at all. */
 int can_give(enum call call, uint64_t number);
 /* Whether it is one by which a run is refused at a step: 8 to 11. */

@@ -41,11 +41,11 @@ static int too_many_sectors(const job *of, enum list list)
     return of->lengths[list] > PILGARTZE_MOST_SECTORS * sizeof(pilgartze_sector);
 }
 
-/* Both seasons' lists count, whatever the steps; the factor has one. */
+/* Both seasons' lists count, whatever the steps; factor and strips have one. */
 static int too_many_objects(enum call call, const job *of)
 {
-    const int sectors = call == FACTOR ? too_many_sectors(of, of->sectors)
-                                       : too_many_sectors(of, SUMMER) || too_many_sectors(of, WINTER);
+    const int sectors = given_the_sun(call) ? too_many_sectors(of, of->sectors)
+                                            : too_many_sectors(of, SUMMER) || too_many_sectors(of, WINTER);
     return sectors || of->lengths[WINDOW] > PILGARTZE_MOST_WINDOW_OBJECTS * sizeof(pilgartze_window_object);
 }
 
@@ -55,7 +55,7 @@ static const char *wrong_answer(enum call call, const job *of, const pilgartze_a
     if (!can_give(call, answer->number)) {
         return "a number that this call does not give";
     }
-    if (wrong == NULL && call != FACTOR) {
+    if (wrong == NULL && !given_the_sun(call)) {
         wrong = wrong_leaf_days(&of->site, answer->number);
     }
     if (wrong == NULL && call == RUN) {
@@ -76,7 +76,7 @@ static const char *wrong_answer(enum call call, const job *of, const pilgartze_a
     if (call == RUN && answer->count != step_count(&of->run)) {
         return "accepted, and the count is not that of the steps";
     }
-    return call != FACTOR || (answer->sum >= 0.0 && answer->sum <= 1.0) ? NULL : "a factor not from 0 to 1";
+    return !given_the_sun(call) || (answer->sum >= 0.0 && answer->sum <= 1.0) ? NULL : "a factor not from 0 to 1";
 }
 
 /* ---- What is stored ------------------------------------------------------------------------------------------- */
@@ -193,8 +193,11 @@ static const char *wrong_results(soak *in, const desk *on, enum call call, const
     if (wrong == NULL && call == RUN) {
         wrong = wrong_totals(on, of, answer);
     }
-    if (wrong == NULL && call == FACTOR && came_to_steps(answer->number)) {
-        wrong = wrong_walk(in, FACTOR, of, of->sectors, of->altitude, of->azimuth, answer->number);
+    if (wrong == NULL && call == STRIPS && answer->number != PILGARTZE_REFUSED_EDITION) {
+        wrong = wrong_strips(in, on, of, answer);
+    }
+    if (wrong == NULL && given_the_sun(call) && came_to_steps(answer->number)) {
+        wrong = wrong_walk(in, call, of, of->sectors, of->altitude, of->azimuth, answer->number);
     }
     return wrong;
 }
@@ -227,8 +230,7 @@ pilgartze_answer tried(soak *in, desk *on, enum call call, const job *of, int at
     return answer;
 }
 
-/* Once on each desk, with all lists against other ends, and with other bytes in results, days and totals. */
-static void try_twice(soak *in, enum call call, const job *of, int at_the_end, uint8_t fill)
+void try_twice(soak *in, enum call call, const job *of, int at_the_end, uint8_t fill)
 {
     const pilgartze_answer first = tried(in, &in->first, call, of, at_the_end, fill);
     const pilgartze_answer second = tried(in, &in->second, call, of, !at_the_end, (uint8_t)~fill);
@@ -241,16 +243,22 @@ static void try_twice(soak *in, enum call call, const job *of, int at_the_end, u
     in->late += call == RUN && first.step > 0 ? 1 : 0;
 }
 
+void lay_out_twice(soak *in, source *from, const job *of)
+{
+    const unsigned sides = (unsigned)random_word(from);
+    const size_t shift = one_in(from, 4) ? random_below(from, 8) : 0;
+    lay_out(&in->first, of, sides, shift, one_in(from, 2));
+    lay_out(&in->second, of, ~sides, shift, !in->first.locked);
+}
+
 void try_calls(soak *in, source *from, const job *of)
 {
     const unsigned sides = (unsigned)random_word(from);
     const uint8_t fill = (uint8_t)random_word(from);
-    const size_t shift = one_in(from, 4) ? random_below(from, 8) : 0;
     int call;
-    lay_out(&in->first, of, sides, shift, one_in(from, 2));
-    lay_out(&in->second, of, ~sides, shift, !in->first.locked);
+    lay_out_twice(in, from, of);
     for (call = 0; call < CALLS; call++) {
-        try_twice(in, (enum call)call, of, (sides >> (LISTS + call) & 1) != 0, fill);
+        try_twice(in, (enum call)call, of, (sides >> call & 1) != 0, fill);
     }
 }
 

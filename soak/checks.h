@@ -4,6 +4,10 @@
 
 #include "desk.h"
 
+/* What becomes of a job's objects: all reordered, some of them gone, or gone from the list of one season alone, or all
+ * gone. */
+enum other { REORDERED, FEWER, FEWER_IN_SUMMER, FEWER_IN_WINTER, NO_OBJECTS };
+
 /* How a walk along the sectors ends, and at which of them. */
 enum end { GAP, TURNED, MATCH, NO_SECTOR };
 
@@ -20,6 +24,10 @@ enum otherwise { REFUSED_FIRST, REFUSED_LATER, NOT_REFUSED, OTHERWISE };
 
 /* The first and the last leaf day, the days before the first and behind the last. */
 enum edge { FIRST, LAST, BEFORE, BEHIND, EDGES };
+
+/* What is refused 3 in a call for strips: the sun's angles; the surface's angles or its width; no strip, more than 12,
+ * or a part of one; the lowest strip's base, a later one's, or a height. */
+enum fault { SUN, FACE, NO_STRIP, MANY_STRIPS, PART_STRIP, FIRST_BASE, LATER_BASE, HEIGHT, NO_FAULT };
 
 /* What of an object can be dragged: one word of it, in the way that is named. The first four are of distant objects,
  * the others of those at the window. */
@@ -39,6 +47,27 @@ enum handle {
     CLEARER,
     HANDLES
 };
+
+/* What has been seen of calls for strips. */
+typedef struct strips_seen {
+    uint64_t refused[NO_FAULT];                  /* 3, by what is out of range */
+    uint64_t thirteen;                           /* of these, by one strip too many */
+    uint64_t before_lists;                       /* of these, with lists that are refused 4 otherwise */
+    uint64_t in_beam[PILGARTZE_MOST_STRIPS + 1]; /* accepted calls inside the beam, by how many strips they have */
+    uint64_t uneven;                             /* of these, with other factors for some strips than for others */
+    uint64_t one_apart;                          /* of these, with one strip and another double than its factor */
+    uint64_t top_down_apart;                     /* of these, with another double where it is added from the top */
+    uint64_t outside;                            /* of these, below the least factor of a strip or above the largest */
+    uint64_t at_1000;                            /* accepted, with the last base exactly 1000 */
+    uint64_t above_1000;                         /* accepted, with an upper edge above 1000 */
+    uint64_t by_structs;                         /* calls that were made with structs too, with whole records */
+    uint64_t by_no_lists;                        /* of these, with neither sectors nor objects at the window */
+    uint64_t overlaps;                           /* accepted calls whose heights are a part of another list */
+    uint64_t pairs;                              /* pairs of accepted calls with other objects */
+    uint64_t pairs_apart[2];                     /* of these, with another factor, by edition */
+    uint64_t dragged[HANDLES];                   /* pairs of accepted positions of a handle */
+    uint64_t dragged_apart[HANDLES][2];          /* of these, with another factor, by edition */
+} strips_seen;
 
 /* Where a run of the program stands. */
 typedef struct soak {
@@ -98,7 +127,7 @@ typedef struct soak {
     uint64_t complements;                    /* accepted runs in both seasons, with the seasons exchanged */
     uint64_t overlaps;                       /* accepted runs with lists that overlap, but are not equal */
     uint64_t thinned_apart[SEASONS];         /* rows with another factor by fewer objects in one season's list */
-    uint64_t dragged[HANDLES][2];            /* pairs of accepted positions of a handle, by edition */
+    uint64_t dragged[HANDLES][2];            /* pairs of accepted positions of a handle, by edition, of the factor */
     uint64_t dragged_apart[HANDLES][2];      /* of these, with another factor */
     uint64_t dragged_a_bit[HANDLES];         /* of these, with positions that are neighbours */
     uint64_t dragged_in_vain[HANDLES];       /* pairs with the same factor, not 0 nor 1: other objects shade more */
@@ -106,6 +135,7 @@ typedef struct soak {
     uint64_t dragged_runs_apart[HANDLES];    /* of these, with another sum */
     uint64_t dragged_refused[4];             /* pairs that are refused alike, 8 to 11 */
     uint64_t dragged_out;                    /* positions out of range, of calls that come to their steps otherwise */
+    strips_seen strips;
 } soak;
 
 /* Ends the program, after it has told what does not hold of which call of which job. */
@@ -131,11 +161,15 @@ const char *wrong_length(const job *of, uint64_t number);
 /* Counts what became of the table, and of the totals. */
 void count_days(soak *in, const job *of, const pilgartze_answer *answer);
 void count_totals(soak *in, const desk *on, const job *of, const pilgartze_answer *answer);
-/* All four calls, each twice. */
+/* Lays the job out on both desks, with all lists against other ends. */
+void lay_out_twice(soak *in, source *from, const job *of);
+/* Makes the call once on each desk, with other bytes in results, days and totals. */
+void try_twice(soak *in, enum call call, const job *of, int at_the_end, uint8_t fill);
+/* All five calls, each twice. */
 void try_calls(soak *in, source *from, const job *of);
 /* Some step of a run by itself. */
 void try_step_of_run(soak *in, source *from, const job *of);
-/* One step whose walk ends in the way and at the place of this turn, as a run, by itself and as a factor call. */
+/* One step whose walk ends in the way and at the place of this turn, as a run, by itself, and for factor and strips. */
 void try_walk(soak *in, source *from);
 /* Counts the walk of a step with that sun, and says what is wrong with its number, or NULL. */
 const char *wrong_walk(soak *in, enum call call, const job *of, enum list season, double altitude, double azimuth,
@@ -151,6 +185,8 @@ int tell_walks(const soak *in);
 void sun_of_step(soak *in, job *of);
 /* A table of days and totals that are too short. */
 void try_short_tables(soak *in, source *from, const job *of);
+/* The job with other objects; its lists of both seasons have whole records, and not too many. */
+job with_other_objects(source *from, const job *of, enum other how);
 /* The same job with its objects in another order, and with fewer of them. */
 void try_other_objects(soak *in, source *from, const job *of);
 /* What is wrong with a number by the edition alone, or NULL. */
@@ -178,13 +214,22 @@ void try_equal_lists(soak *in, source *from, const job *of);
 void try_overlap(soak *in, source *from, const job *of);
 /* The job with lists exchanged, and with the leaf days of the other season. */
 void try_complement(soak *in, source *from, const job *of);
-/* The job with a handle of some object, there or put there, through some positions, by its run or by its factor. */
+/* The job with a handle of some object, there or put there, through some positions, by its run, factor or strips. */
 void try_drag(soak *in, source *from, const job *of, enum call call);
 /* A drag that has no law. */
 void try_drag_without_law(soak *in);
 /* Prints what was dragged, and whether some of it too seldom. */
 void tell_drags(const soak *in);
 int too_few_drags(const soak *in);
+/* What is wrong with the answer to a call for strips, in an edition that there is, or NULL; counts it. */
+const char *wrong_strips(soak *in, const desk *on, const job *of, const pilgartze_answer *answer);
+/* The job's glazing with other heights, by structs, and with heights in the memory of another list. */
+void try_strips(soak *in, source *from, const job *of);
+/* With its objects in another order, with fewer of them, and with none. */
+void try_objects_of_strips(soak *in, source *from, const job *of);
+/* Prints what was seen of strips, and whether some of it too seldom. */
+void tell_strips(const soak *in);
+int too_few_strips(const soak *in);
 /* Two threads at once, with the same lists. */
 void try_threads(soak *in, source *from, const job *of);
 /* One list lent for all three series. */

@@ -196,9 +196,9 @@ static const char *wrong_pair(const drag *of, size_t more, size_t less)
     const pilgartze_answer *const one = &of->positions[more].answer;
     const char *wrong;
     if (!(one->sum <= of->positions[less].answer.sum)) {
-        return goes_the_wrong_way(of, of->call == FACTOR ? OF_A_STEP : OF_A_RUN);
+        return goes_the_wrong_way(of, of->call == RUN ? OF_A_RUN : OF_A_STEP);
     }
-    if (of->call == FACTOR) {
+    if (of->call != RUN) {
         return NULL;
     }
     wrong = wrong_totals_of(of, more, less);
@@ -216,6 +216,9 @@ static void count_pair(soak *in, const drag *of, const position *one, const posi
     } else if (of->call == RUN) {
         in->dragged_runs[of->handle] += 1;
         in->dragged_runs_apart[of->handle] += apart ? 1 : 0;
+    } else if (of->call == STRIPS) {
+        in->strips.dragged[of->handle] += 1;
+        in->strips.dragged_apart[of->handle][edition] += apart ? 1 : 0;
     } else {
         in->dragged[of->handle][edition] += 1;
         in->dragged_apart[of->handle][edition] += apart ? 1 : 0;
@@ -348,14 +351,16 @@ void try_drag_without_law(soak *in)
 void tell_drags(const soak *in)
 {
     size_t i;
-    printf("%-27s%10s%10s%10s%10s%10s%10s%10s%10s\n", "dragged, pairs", "edition 1", "apart", "edition 2", "apart",
-           "by a bit", "in vain", "runs", "apart");
+    printf("%-27s%10s%10s%10s%10s%10s%10s%10s%10s%10s%10s%10s\n", "dragged, pairs", "edition 1", "apart", "edition 2",
+           "apart", "by a bit", "in vain", "runs", "apart", "strips", "apart 1", "apart 2");
     for (i = 0; i < HANDLES; i++) {
-        printf("%-27s%10llu%10llu%10llu%10llu%10llu%10llu%10llu%10llu\n", words_of((enum handle)i),
+        printf("%-27s%10llu%10llu%10llu%10llu%10llu%10llu%10llu%10llu%10llu%10llu%10llu\n", words_of((enum handle)i),
                (unsigned long long)in->dragged[i][0], (unsigned long long)in->dragged_apart[i][0],
                (unsigned long long)in->dragged[i][1], (unsigned long long)in->dragged_apart[i][1],
                (unsigned long long)in->dragged_a_bit[i], (unsigned long long)in->dragged_in_vain[i],
-               (unsigned long long)in->dragged_runs[i], (unsigned long long)in->dragged_runs_apart[i]);
+               (unsigned long long)in->dragged_runs[i], (unsigned long long)in->dragged_runs_apart[i],
+               (unsigned long long)in->strips.dragged[i], (unsigned long long)in->strips.dragged_apart[i][0],
+               (unsigned long long)in->strips.dragged_apart[i][1]);
     }
     printf("dragged: %llu positions out of range; pairs refused 8 to 11: %llu, %llu, %llu, %llu\n",
            (unsigned long long)in->dragged_out, (unsigned long long)in->dragged_refused[0],
@@ -363,13 +368,15 @@ void tell_drags(const soak *in)
            (unsigned long long)in->dragged_refused[3]);
 }
 
-/* Each handle must have changed a factor, in either edition, also by a bit, and a sum; and it must have been dragged where others shade more. On the heap there are too few jobs for that. */
+/* Each handle must have changed a factor, in either edition, also by a bit, and a sum; and it must have been dragged
+ * where others shade more. On the heap there are too few jobs for that. */
 int too_few_drags(const soak *in)
 {
     int seldom = in->dragged_out == 0;
     size_t i;
     for (i = 0; i < HANDLES; i++) {
-        seldom = seldom || in->dragged_apart[i][0] == 0 || in->dragged_apart[i][1] == 0 || in->dragged_a_bit[i] == 0 || in->dragged_in_vain[i] == 0 || in->dragged_runs_apart[i] == 0;
+        seldom = seldom || in->dragged_apart[i][0] == 0 || in->dragged_apart[i][1] == 0 || in->dragged_a_bit[i] == 0 ||
+                 in->dragged_in_vain[i] == 0 || in->dragged_runs_apart[i] == 0;
     }
     for (i = 0; i < 4; i++) {
         seldom = seldom || in->dragged_refused[i] == 0;

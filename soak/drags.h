@@ -23,13 +23,13 @@ typedef struct handle_kind {
 
 typedef struct position {
     double value;
-    pilgartze_answer answer; /* of the factor the factor as its sum */
+    pilgartze_answer answer; /* of factor and strips the factor as its sum */
 } position;
 
 typedef struct drag {
     enum handle handle;
     const handle_kind *by;
-    enum call call; /* RUN or FACTOR */
+    enum call call; /* RUN, FACTOR or STRIPS */
     job of;         /* with lists of its own */
     size_t places;
     uint8_t *words[MOST_PLACES]; /* that are moved, in these lists */
@@ -41,7 +41,7 @@ typedef struct drag {
 
 const char *words_of(enum handle handle);
 int in_range(const handle_kind *by, double value);
-/* Takes some handle of an object in a copy of the job, for the run or for the factor; the object is there or is put
+/* Takes some handle of an object in a copy of the job, for that call; the object is there or is put
  * there. Whether there is any. */
 int take_up(source *from, const job *of, enum call call, drag *made);
 /* About where it begins to shade under the factor's sun, where it shades all, or between; it may be out of range. */

@@ -24,7 +24,7 @@ const char *wrong_edition(uint64_t edition, uint64_t number)
 /* Whatever else is wrong with the job. Its lists stand on the first desk already. */
 void try_no_edition(soak *in, source *from, const job *of)
 {
-    static const enum call calls[] = {RUN, STEP, FACTOR};
+    static const enum call calls[] = {RUN, STEP, FACTOR, STRIPS};
     const uint8_t fill = (uint8_t)random_word(from);
     job changed = *of;
     size_t i;

@@ -1,5 +1,6 @@
 /* Handles of a job's objects, and the sun under which they shade. */
 #include "drags.h"
+#include "strips.h"
 
 #include <math.h>
 
@@ -122,7 +123,7 @@ static void drag_in_list(source *from, drag *made, enum list list)
     if (count == 0) {
         return;
     }
-    if (made->call == FACTOR && !one_in(from, 4)) {
+    if (made->call != RUN && !one_in(from, 4)) {
         const walk met = walk_along(&made->of, list, made->of.azimuth);
         place = met.end == MATCH && met.place < count ? met.place : random_below(from, count);
         drag_in_sector(from, made, list, place);
@@ -251,10 +252,10 @@ static void take_job(source *from, const job *of, drag *made)
     for (list = SUMMER; list <= WINDOW; list++) {
         made->of.lists[list] = memcpy(own.lists[list], of->lists[list], of->lengths[list]);
     }
-    for (list = DIFFUSE; list <= REFLECTIVITY && made->call == FACTOR; list++) {
-        made->of.lengths[list] = 0; /* the factor has none */
+    for (list = DIFFUSE; list <= REFLECTIVITY && made->call != RUN; list++) {
+        made->of.lengths[list] = 0; /* factor and strips have none */
     }
-    if (made->call == FACTOR && !one_in(from, 4)) {
+    if (made->call != RUN && !one_in(from, 4)) {
         face_the_factors_sun(from, made->by->kind == PILGARTZE_RIGHT_FIN, &made->of);
     }
     if (!one_in(from, 4)) {
@@ -273,7 +274,7 @@ int take_up(source *from, const job *of, enum call call, drag *made)
     take_job(from, of, made);
     if (made->by->at_the_window) {
         drag_at_the_window(from, made);
-    } else if (call == FACTOR) {
+    } else if (call != RUN) {
         drag_in_list(from, made, made->of.sectors);
     } else {
         if (seasons != 0) {
@@ -294,9 +295,8 @@ typedef struct line {
 } line;
 
 /* By the C library's sines and the object's other word; a is the sun's altitude, b how far it stands aside. */
-static line shade_of(const drag *of, double a, double b)
+static line shade_of(const drag *of, const pilgartze_surface *on, double a, double b)
 {
-    const pilgartze_surface *const on = &of->of.surface;
     const uint8_t *const object = of->words[0] - of->by->word;
     double size, distance;
     memcpy(&size, object + offsetof(pilgartze_window_object, size), sizeof size);
@@ -324,15 +324,26 @@ static line shade_of(const drag *of, double a, double b)
     }
 }
 
+/* What it shades: the surface, or some strip of it. */
+static pilgartze_surface some_surface(source *from, const drag *of)
+{
+    glazing cut;
+    if (of->call != STRIPS || cut_glazing(&of->of, of->of.lists[HEIGHTS], &cut) != NO_FAULT) {
+        return of->of.surface;
+    }
+    return cut.strips[random_below(from, cut.count)];
+}
+
 double where_it_shades(source *from, const drag *of)
 {
     static const double radians = 3.14159265358979323846 / 180.0;
-    const pilgartze_surface *const on = &of->of.surface;
+    const pilgartze_surface on = some_surface(from, of);
     const int fin = of->by->kind == PILGARTZE_RIGHT_FIN || of->by->kind == PILGARTZE_LEFT_FIN;
     const double part = one_in(from, 2) ? uniform(from, 0.0, 1.0) : (double)random_below(from, 2);
-    const line shade = shade_of(of, of->of.altitude * radians, (of->of.azimuth - 180.0 + on->orientation) * radians);
+    const line shade =
+        shade_of(of, &on, of->of.altitude * radians, (of->of.azimuth - 180.0 + on.orientation) * radians);
     if (of->handle == CLEARER) {
         return uniform(from, 0.0, 1.0);
     }
-    return (part * (fin ? on->width : on->height) - shade.rest) / shade.gain;
+    return (part * (fin ? on.width : on.height) - shade.rest) / shade.gain;
 }

@@ -1,4 +1,4 @@
-/* What the four calls take, all in one: a job, and the further numbers of the single calls. */
+/* What the five calls take, all in one: a job, and the further numbers of the single calls. */
 #ifndef SOAK_JOB_H
 #define SOAK_JOB_H
 
@@ -6,14 +6,15 @@
 #include "random.h"
 
 /* The lists that are only read. */
-enum list { DIFFUSE, DIRECT, REFLECTIVITY, SUMMER, WINTER, WINDOW, LISTS };
+enum list { DIFFUSE, DIRECT, REFLECTIVITY, SUMMER, WINTER, WINDOW, HEIGHTS, LISTS };
 
-enum call { RUN, STEP, IRRADIANCE, FACTOR, CALLS };
+enum call { RUN, STEP, IRRADIANCE, FACTOR, STRIPS, CALLS };
 
 /* No list is longer. A whole year of quarter hours fits, and sectors and window objects in far too great a number. */
 #define MOST_SERIES ((size_t)8 * 35200)
 #define MOST_SECTORS ((size_t)30 * 1000)
 #define MOST_WINDOW ((size_t)4 * 1000)
+#define MOST_HEIGHTS ((size_t)8 * 150)
 #define MOST_RESULTS (sizeof(pilgartze_row) * PILGARTZE_MOST_STEPS + 1000)
 #define MOST_DAYS ((size_t)2 * PILGARTZE_DAYS_LENGTH)
 #define MOST_TOTALS ((size_t)2 * PILGARTZE_TOTALS_LENGTH(1))
@@ -25,11 +26,11 @@ typedef struct job {
     pilgartze_surface surface;
     double time;               /* of the single step */
     pilgartze_reading reading; /* its values of the series */
-    double altitude;           /* of the factor's sun */
+    double altitude;           /* of the factor's sun, and of the strips' */
     double azimuth;
     uint8_t *lists[LISTS];
     size_t lengths[LISTS];
-    enum list sectors;     /* the list that the factor takes: SUMMER or WINTER */
+    enum list sectors;     /* the list that factor and strips take: SUMMER or WINTER */
     size_t results[CALLS]; /* the lengths of the results lists */
     size_t days;           /* the length of the run's table of days */
     size_t totals;         /* and of its totals */
@@ -46,6 +47,10 @@ void some_leaf_days(source *from, job *made);
 void no_leaf_days(source *from, job *made);
 /* The other season. */
 enum list other_season(enum list season);
+/* Heights of 1 to 12 strips on the surface's base, all in range. */
+void some_heights(source *from, job *made);
+/* Most of them out of range: none, too many, a part of one, one that is no height, or a base above the range. */
+void odd_heights(source *from, job *made);
 /* Takes the room for the lists. */
 job job_with_room(void);
 /* The numbers of a day on a surface that faces the ground, so that no step needs a sector; no lists. */

@@ -39,9 +39,6 @@ static void reorder_sector(pilgartze_sector *sector)
                               sizeof sector->objects[0]);
 }
 
-/* What becomes of the objects: all reordered, some of them gone, or gone from the list of one season alone. */
-enum other { REORDERED, FEWER, FEWER_IN_SUMMER, FEWER_IN_WINTER };
-
 /* A season's list in the room. */
 static void other_sectors(source *from, const job *of, enum list season, enum other how, uint8_t *room, job *made)
 {
@@ -53,6 +50,8 @@ static void other_sectors(source *from, const job *of, enum list season, enum ot
         memcpy(&sector, room + at, sizeof sector);
         if (how == REORDERED) {
             reorder_sector(&sector);
+        } else if (how == NO_OBJECTS) {
+            sector = pilgartze_free_sector(sector.start, sector.end);
         } else {
             thin_sector(from, &sector);
         }
@@ -60,7 +59,7 @@ static void other_sectors(source *from, const job *of, enum list season, enum ot
     }
 }
 
-static job with_other_objects(source *from, const job *of, enum other how)
+job with_other_objects(source *from, const job *of, enum other how)
 {
     static uint8_t sectors[SEASONS][PILGARTZE_MOST_SECTORS * sizeof(pilgartze_sector)];
     static uint8_t window[PILGARTZE_MOST_WINDOW_OBJECTS * sizeof(pilgartze_window_object)];
@@ -73,6 +72,8 @@ static job with_other_objects(source *from, const job *of, enum other how)
         left = reordered(window, left, PILGARTZE_MOST_WINDOW_OBJECTS, sizeof(pilgartze_window_object));
     } else if (how == FEWER) {
         left = random_below(from, left + 1);
+    } else if (how == NO_OBJECTS) {
+        left = 0;
     }
     made.lengths[WINDOW] = left * sizeof(pilgartze_window_object);
     return made;

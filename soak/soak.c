@@ -75,11 +75,25 @@ static void try_drags(soak *in, source *from, const job *made)
     if (one_in(from, in->on_the_heap ? 8 : 1)) {
         try_drag(in, from, made, FACTOR);
     }
+    if (one_in(from, in->on_the_heap ? 32 : 2)) {
+        try_drag(in, from, made, STRIPS);
+    }
     if (one_in(from, 8)) {
         try_drag(in, from, made, RUN);
     }
     if (one_in(from, 256)) {
         try_drag_without_law(in);
+    }
+}
+
+static void try_objects_and_strips(soak *in, source *from, const job *made)
+{
+    if (one_in(from, 8)) {
+        try_other_objects(in, from, made);
+        try_objects_of_strips(in, from, made);
+    }
+    if (one_in(from, in->on_the_heap ? 4 : 2)) {
+        try_strips(in, from, made);
     }
 }
 
@@ -109,9 +123,7 @@ static void one_turn(soak *in, job *made)
     if (one_in(&from, 16)) {
         try_one_series(in, &from, made);
     }
-    if (one_in(&from, 8)) {
-        try_other_objects(in, &from, made);
-    }
+    try_objects_and_strips(in, &from, made);
     try_seasons(in, &from, made);
     if (one_in(&from, 4)) {
         try_editions(in, &from, made, RUN);
@@ -364,6 +376,7 @@ static int told(const soak *in, const options *by)
     tell_editions(in);
     tell_seasons(in);
     tell_leaf_days(in);
+    tell_strips(in);
     tell_drags(in);
     if (by->jobs == 1) {
         return 0;
@@ -373,7 +386,7 @@ static int told(const soak *in, const options *by)
         return 1;
     }
     return (too_seldom_aimed(in) + too_few_days(in) + too_few_totals(in) + too_few_sums(in) + too_few_fins(in) +
-            too_few_seasons(in) + too_few_drags(in)) > 0;
+            too_few_seasons(in) + too_few_strips(in) + too_few_drags(in)) > 0;
 }
 
 int main(int count, char **words)

@@ -16,7 +16,8 @@ static uint8_t *room_for(size_t length)
 
 size_t most_of(enum list list)
 {
-    static const size_t most[LISTS] = {MOST_SERIES, MOST_SERIES, MOST_SERIES, MOST_SECTORS, MOST_SECTORS, MOST_WINDOW};
+    static const size_t most[LISTS] = {MOST_SERIES,  MOST_SERIES, MOST_SERIES, MOST_SECTORS,
+                                       MOST_SECTORS, MOST_WINDOW, MOST_HEIGHTS};
     return most[list];
 }
 
@@ -440,10 +441,12 @@ void sound_job(source *from, job *made, int years)
     sound_window(from, made);
     sound_single(from, made, steps);
     sound_seasons(from, made);
+    some_heights(from, made);
     made->results[RUN] = steps * sizeof(pilgartze_row) + (one_in(from, 2) ? random_below(from, 100) : 0);
     made->results[STEP] = sizeof(pilgartze_row) + (one_in(from, 2) ? random_below(from, 100) : 0);
     made->results[IRRADIANCE] = sizeof(pilgartze_breakdown) + (one_in(from, 2) ? random_below(from, 100) : 0);
     made->results[FACTOR] = 0;
+    made->results[STRIPS] = 0;
     made->days = PILGARTZE_DAYS_LENGTH + (one_in(from, 2) ? random_below(from, 100) : 0);
     made->totals = PILGARTZE_TOTALS_LENGTH(made->site.leap_year) + (one_in(from, 2) ? random_below(from, 100) : 0);
     if (made->lengths[WINDOW] > 0 && one_in(from, 2)) {

@@ -224,6 +224,7 @@ void spoil(source *from, job *made)
         spoil_double, spoil_double, spoil_double, spoil_double,  spoil_whole_number, spoil_edition,
         spoil_times,  aim,          spoil_length, spoil_results, spoil_days,         spoil_totals,
         spoil_bytes,  spoil_word,   spoil_bound,  reveal_put_in, spoil_season,       no_leaf_days,
+        odd_heights,
     };
     ways[random_below(from, COUNT(ways))](from, made);
 }
@@ -296,7 +297,8 @@ static void tell_list(const char *name, const uint8_t *list, size_t length)
 
 void tell_job(const job *of)
 {
-    static const char *const names[] = {"diffuse", "direct", "reflectivity", "summer", "winter", "window"};
+    static const char *const names[] = {"diffuse", "direct", "reflectivity", "summer",
+                                        "winter",  "window", "heights"};
     uint64_t words[offsetof(job, lists) / 8];
     size_t i;
     memcpy(words, of, sizeof words);
@@ -304,7 +306,8 @@ void tell_job(const job *of)
     for (i = 0; i < sizeof words / 8; i++) {
         printf(" %016llX", (unsigned long long)words[i]);
     }
-    printf("\n  results, bytes: run %zu, step %zu, irradiance %zu; days: %zu; totals: %zu; the factor's list: %s\n",
+    printf("\n  results, bytes: run %zu, step %zu, irradiance %zu; days: %zu; totals: %zu; the list of factor and "
+           "strips: %s\n",
            of->results[RUN], of->results[STEP], of->results[IRRADIANCE], of->days, of->totals, names[of->sectors]);
     for (i = 0; i < LISTS; i++) {
         tell_list(names[i], of->lists[i], of->lengths[i]);

@@ -112,7 +112,8 @@ void try_threads(soak *in, source *from, const job *of)
     calls[1].of = *of;
     other_numbers(from, &calls[1].of);
     for (call = 0; call < CALLS; call++) {
-        const size_t times = call == RUN ? 2 + random_below(from, 6) : 100 + random_below(from, 200);
+        const size_t few = call == RUN ? 2 : call == STRIPS ? 20 : 100; /* each strip takes as long as a factor */
+        const size_t times = few + random_below(from, call == RUN ? 6 : 2 * few);
         try_call(in, (enum call)call, calls, in->on_the_heap ? 2 : times);
     }
 }

@@ -83,10 +83,10 @@ static void tell_places(const soak *in, enum call call, enum end end, size_t fir
 
 int tell_walks(const soak *in)
 {
-    static const enum call calls[] = {RUN, STEP, FACTOR};
+    static const enum call calls[] = {RUN, STEP, FACTOR, STRIPS};
     int unmet = 0;
     size_t i, place;
-    for (i = 0; i < 9; i++) {
+    for (i = 0; i < 3 * sizeof calls / sizeof calls[0]; i++) {
         const enum call call = calls[i / 3];
         const enum end end = (enum end)(i % 3);
         for (place = 0; place < PILGARTZE_MOST_SECTORS; place++) {
@@ -181,6 +181,7 @@ void one_step(source *from, uint64_t leap_year, double time, job *made)
     made->run = (pilgartze_run_times){time, time < 8783.0 ? time + 0.5 : 8784.0, 1.0};
     made->surface = (pilgartze_surface){90.0, 180.0, uniform(from, 0.0, 5.0), 1.5, 1.2};
     made->reading = (pilgartze_reading){half, half, half};
+    some_heights(from, made);
     for (list = DIFFUSE; list <= REFLECTIVITY; list++) {
         made->lengths[list] = 8 * 24;
         for (i = 0; i < 24; i++) {
@@ -209,7 +210,7 @@ void sun_of_step(soak *in, job *of)
 void try_walk(soak *in, source *from)
 {
     static const uint64_t numbers[] = {PILGARTZE_REFUSED_GAP, PILGARTZE_REFUSED_TURNED, 0};
-    static const enum call calls[] = {RUN, STEP, FACTOR};
+    static const enum call calls[] = {RUN, STEP, FACTOR, STRIPS};
     static job made;
     const walk by = walk_of_turn(in->turn);
     const enum list season = in->turn / WALKS % SEASONS == 0 ? SUMMER : WINTER;
@@ -226,7 +227,7 @@ void try_walk(soak *in, source *from)
     for (i = 0; i < sizeof calls / sizeof calls[0]; i++) {
         const pilgartze_answer answer = tried(in, &in->first, calls[i], &made, one_in(from, 2), 0);
         /* rows and factors have been looked at */
-        const int unknown = answer.number != 0 && calls[i] != FACTOR;
+        const int unknown = answer.number != 0 && !given_the_sun(calls[i]);
         const char *wrong =
             unknown ? wrong_walk(in, calls[i], &made, season, made.altitude, made.azimuth, answer.number) : NULL;
         wrong = wrong == NULL && answer.number != numbers[by.end] ? "not the walk that was meant" : wrong;

@@ -13,8 +13,26 @@ static void expect(const soak *in, const job *of, const lent *at, enum call call
     }
 }
 
-/* Series, table of days, totals and results may be as long as they like; sectors and window objects are too many then.
- */
+/* Of heights that are wide the first is one, so that a length of 32 bits would be that of one strip. */
+static void try_wide_heights(const soak *in, job of, lent at)
+{
+    const pages heights = wide_pages(WIDE, 0);
+    const double one = 1.0;
+    memcpy(heights.writable, &one, sizeof one);
+    at.lists[HEIGHTS] = heights.readable;
+    of.lists[HEIGHTS] = heights.writable;
+    of.lengths[HEIGHTS] = sizeof one;
+    expect(in, &of, &at, STRIPS, 0);
+    of.lengths[SUMMER] = WIDE - 216;
+    expect(in, &of, &at, STRIPS, PILGARTZE_REFUSED_OBJECT);
+    of.lengths[HEIGHTS] = WIDE - 216 + sizeof one;
+    expect(in, &of, &at, STRIPS, PILGARTZE_REFUSED_SURFACE);
+    of.lengths[SUMMER] = 0;
+    expect(in, &of, &at, STRIPS, PILGARTZE_REFUSED_SURFACE);
+}
+
+/* Series, table of days, totals and results may be as long as they like; sectors, window objects and strips are too
+ * many then. */
 void try_wide_lists(soak *in)
 {
     const pages zeros = wide_pages(WIDE, 1);
@@ -41,6 +59,7 @@ void try_wide_lists(soak *in)
     expect(in, &of, &at, STEP, 0);
     expect(in, &of, &at, IRRADIANCE, 0);
     expect(in, &of, &at, FACTOR, 0);
+    try_wide_heights(in, of, at);
     for (list = SUMMER; list <= WINDOW; list++) {
         of.sectors = list == WINTER ? WINTER : SUMMER;
         of.lengths[list] = WIDE - 216;

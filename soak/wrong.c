@@ -1,7 +1,8 @@
 /* Engines that are wrong in one way each, which the soak has to find: the sound library under other names, and around
  * it what the flaw does that the environment variable SOAK_FLAW names. soak/flaws says by what each must be found. What
  * flaws do to the totals of days and months stands in soak/wrong_totals.c, what they do to editions and fins in
- * soak/wrong_editions.c, to leaf days and seasons in soak/wrong_seasons.c, and to sizes in soak/wrong_sizes.c. */
+ * soak/wrong_editions.c, to leaf days and seasons in soak/wrong_seasons.c, to sizes in soak/wrong_sizes.c, and to tall
+ * glazing in strips in soak/wrong_strips.c. */
 #define _POSIX_C_SOURCE 200809L
 #include "wrong.h"
 
@@ -34,7 +35,7 @@ int steps_tried(uint64_t number)
 
 /* ---- What a flaw does before the run -------------------------------------------------------------------------- */
 
-static void change(const uint8_t *list, size_t length)
+void change(const uint8_t *list, size_t length)
 {
     if (length > 0) {
         *(volatile uint8_t *)(uintptr_t)list ^= 1;
@@ -47,7 +48,7 @@ uint8_t read_at(const uint8_t *place)
 }
 
 /* Its stack is taken only where it is called. */
-__attribute__((noinline)) static void go_deep(void)
+__attribute__((noinline)) void go_deep(void)
 {
     volatile uint8_t deep[2 * PILGARTZE_STACK_BYTES];
     size_t i;
@@ -382,11 +383,19 @@ static int is_in_range(const pilgartze_object *object)
            object->distance > 0.0 && object->distance <= 1.0e4;
 }
 
+/* Whether all behind a sector's objects is 0, as it must be. */
+static int rest_is_0(const pilgartze_sector *sector)
+{
+    const pilgartze_sector none = pilgartze_free_sector(0.0, 0.0);
+    const size_t left = PILGARTZE_MOST_OBJECTS - (size_t)sector->count;
+    return memcmp(&sector->objects[sector->count], none.objects, left * sizeof none.objects[0]) == 0;
+}
+
 /* All objects of a sector but the first, or the overhangs beside an obstacle; what is to be refused stays. */
 static void forget_objects(pilgartze_sector *sector)
 {
     const pilgartze_sector all = *sector;
-    const int later = flaw("later_objects_forgotten");
+    const int later = flaw("later_objects_forgotten") || flaw("high_strips_forget_later_objects");
     size_t i;
     *sector = pilgartze_free_sector(all.start, all.end);
     for (i = 0; i < all.count; i++) {
@@ -401,17 +410,19 @@ static void forget_objects(pilgartze_sector *sector)
 #define WINDOW_ROOM (sizeof(pilgartze_window_object) * PILGARTZE_MOST_WINDOW_OBJECTS)
 
 /* The sectors as a flaw goes by them, in the room if it forgets objects or takes other sizes. */
-static const uint8_t *sectors_taken(uint64_t edition, int in_a_run, LIST(sectors), uint8_t *room)
+static const uint8_t *sectors_taken(uint64_t edition, enum asker asker, LIST(sectors), uint8_t *room)
 {
-    const int forgets = flaw("later_objects_forgotten") || flaw("overhangs_forgotten");
+    const int on_high = flaw("high_strips_forget_later_objects") || flaw("high_strips_forget_overhangs");
+    const int forgets =
+        flaw("later_objects_forgotten") || flaw("overhangs_forgotten") || (on_high && asker == HIGH_UP);
     size_t at;
     if (!forgets || sectors_length > SECTORS_ROOM || sectors_length % SECTOR != 0) {
-        return objects_by_size(edition, in_a_run, 0, sectors, sectors_length, room);
+        return objects_by_size(edition, asker, 0, sectors, sectors_length, room);
     }
     for (at = 0; at < sectors_length; at += SECTOR) {
         pilgartze_sector sector;
         memcpy(&sector, sectors + at, SECTOR);
-        if (sector.count <= PILGARTZE_MOST_OBJECTS) {
+        if (sector.count <= PILGARTZE_MOST_OBJECTS && rest_is_0(&sector)) {
             forget_objects(&sector);
         }
         memcpy(room + at, &sector, SECTOR);
@@ -639,9 +650,9 @@ pilgartze_answer pilgartze_run(RUN_ARGUMENTS, DAYS_LIST, TOTALS_LIST, RESULTS_LI
     static __thread uint8_t window_room[WINDOW_ROOM];
     edition = edition_taken(edition);
     if (known_edition(edition)) {
-        summer = sectors_taken(edition, 1, summer, summer_length, room[0]);
-        winter = sectors_taken(edition, 1, winter, winter_length, room[1]);
-        window = objects_by_size(edition, 1, 1, window, window_length, window_room);
+        summer = sectors_taken(edition, A_RUN, summer, summer_length, room[0]);
+        winter = sectors_taken(edition, A_RUN, winter, winter_length, room[1]);
+        window = objects_by_size(edition, A_RUN, 1, window, window_length, window_room);
         return run_in_edition(edition, SITE, start, end, step, SURFACE, SERIES, OBJECTS, DAYS, TOTALS, RESULTS);
     }
     if (flaw("run_tries_the_site_first") && site_refused(SITE)) {
@@ -664,9 +675,9 @@ uint64_t pilgartze_step(STEP_ARGUMENTS, RESULTS_LIST)
     edition = flaw("step_takes_any_edition") && !known_edition(edition) ? PILGARTZE_EDITION_2 : edition_taken(edition);
     if (known_edition(edition)) {
         edition = flaw("step_has_edition_1") ? PILGARTZE_EDITION_1 : edition;
-        summer = sectors_taken(edition, 0, summer, summer_length, room[0]);
-        winter = sectors_taken(edition, 0, winter, winter_length, room[1]);
-        window = objects_by_size(edition, 0, 1, window, window_length, window_room);
+        summer = sectors_taken(edition, ANOTHER_CALL, summer, summer_length, room[0]);
+        winter = sectors_taken(edition, ANOTHER_CALL, winter, winter_length, room[1]);
+        window = objects_by_size(edition, ANOTHER_CALL, 1, window, window_length, window_room);
         return step_in_edition(edition, SITE, time, SURFACE, READING, OBJECTS, RESULTS);
     }
     if (flaw("step_tries_the_site_first") && site_refused(SITE)) {
@@ -693,6 +704,19 @@ uint64_t pilgartze_irradiance(SITE_NUMBERS, double time, SURFACE_NUMBERS, READIN
     return flaw("irradiance_gives_number_4") && number == PILGARTZE_REFUSED_SURFACE ? 4 : number;
 }
 
+/* From 20 to 100 m up there are some strips, and hardly any other surface: what a flaw makes of the factor there is in
+ * both calls, and shows by the strips' laws alone. */
+static pilgartze_factor_answer factor_on_high(pilgartze_factor_answer answer, int inside_the_beam)
+{
+    if (flaw("high_strips_refused") && answer.number == 0) {
+        return (pilgartze_factor_answer){PILGARTZE_REFUSED_NO_SECTOR, 0.0};
+    }
+    if (flaw("high_strips_always_shaded") && inside_the_beam) {
+        answer.factor = fmin(answer.factor, 0.5);
+    }
+    return answer;
+}
+
 pilgartze_factor_answer pilgartze_factor(FACTOR_ARGUMENTS)
 {
     static uint64_t kept;
@@ -708,10 +732,13 @@ pilgartze_factor_answer pilgartze_factor(FACTOR_ARGUMENTS)
         edition = kept;
     }
     if (known_edition(edition)) {
+        const enum asker asker = base_height > 20.0 && base_height < 100.0 ? HIGH_UP : ANOTHER_CALL;
+        const double aside = fabs(remainder(azimuth - (180.0 - orientation), 360.0));
         edition = flaw("factor_has_edition_1") ? PILGARTZE_EDITION_1 : edition;
-        sectors = sectors_taken(edition, 0, sectors, sectors_length, room);
-        window = objects_by_size(edition, 0, 1, window, window_length, window_room);
-        return factor_in_edition(edition, altitude, azimuth, SURFACE, FACTOR_OBJECTS);
+        sectors = sectors_taken(edition, asker, sectors, sectors_length, room);
+        window = objects_by_size(edition, asker, 1, window, window_length, window_room);
+        answer = factor_in_edition(edition, altitude, azimuth, SURFACE, FACTOR_OBJECTS);
+        return asker == HIGH_UP ? factor_on_high(answer, fabs(tilt - altitude) <= 90.0 && aside <= 90.0) : answer;
     }
     answer = sound_factor(PILGARTZE_EDITION_1, altitude, azimuth, SURFACE, &none, 0, &none, 0);
     if (flaw("factor_tries_the_surface_first") && answer.number == PILGARTZE_REFUSED_SURFACE) {

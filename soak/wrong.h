@@ -33,6 +33,9 @@
     uint64_t edition, SITE_NUMBERS, double start, double end, double step, SURFACE_NUMBERS, SERIES_LISTS, OBJECT_LISTS
 #define STEP_ARGUMENTS uint64_t edition, SITE_NUMBERS, double time, SURFACE_NUMBERS, READINGS, OBJECT_LISTS
 #define FACTOR_ARGUMENTS uint64_t edition, double altitude, double azimuth, SURFACE_NUMBERS, FACTOR_LISTS
+#define STRIPS_ARGUMENTS                                                                                             \
+    uint64_t edition, double altitude, double azimuth, double tilt, double orientation, double base_height,          \
+        double width, LIST(heights), FACTOR_LISTS
 
 /* The library's calls. */
 pilgartze_answer sound_run(RUN_ARGUMENTS, DAYS_LIST, TOTALS_LIST, RESULTS_LIST);
@@ -50,6 +53,10 @@ typedef struct run_hours {
 /* Whether that is the flaw of this run; "none" where it has none. */
 int flaw(const char *name);
 uint8_t read_at(const uint8_t *place);
+/* Changes a byte of a list, if it has any. */
+void change(const uint8_t *list, size_t length);
+/* Takes more of the stack than a call may. */
+void go_deep(void);
 
 /* Whether a run with that number came as far as its steps; whether it was refused at one of them. */
 int steps_tried(uint64_t number);
@@ -80,8 +87,10 @@ pilgartze_factor_answer factor_by_other_fins(FACTOR_ARGUMENTS);
 /* The same in a row of a step with that list. */
 void change_factor(uint64_t edition, SURFACE_NUMBERS, FACTOR_LISTS, uint8_t *row);
 
+/* Who asks for a factor: a run, another call, or one for a surface so high up as hardly any but a strip is. */
+enum asker { A_RUN, ANOTHER_CALL, HIGH_UP };
 /* The objects of a list with the sizes that a flaw takes, in the room if it is one of these. */
-const uint8_t *objects_by_size(uint64_t edition, int in_a_run, int at_the_window, LIST(objects), uint8_t *room);
+const uint8_t *objects_by_size(uint64_t edition, enum asker asker, int at_the_window, LIST(objects), uint8_t *room);
 /* Whether the flaw is one by which a run with a large object has other factors; what it makes of its rows. */
 int takes_other_rows(void);
 void change_rows_by_size(double start, double step, LIST(window), uint8_t *results, size_t rows);

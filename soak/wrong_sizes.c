@@ -47,8 +47,8 @@ enum taken {
     REVEAL       /* the object for a reveal, beyond some value */
 };
 
-/* In which calls, and in which edition, or both. */
-enum where { EVERYWHERE, IN_EDITION_1, IN_EDITION_2, IN_RUNS };
+/* In which calls, and in which edition, or both; or with surfaces that are high up. */
+enum where { EVERYWHERE, IN_EDITION_1, IN_EDITION_2, IN_RUNS, ON_HIGH };
 
 typedef struct size_flaw {
     const char *name;
@@ -117,6 +117,19 @@ static const size_flaw size_flaws[] = {
     {"run_takes_a_deep_fin_for_a_reveal", &left_fin_depth, REVEAL, 100.0, IN_RUNS},
     {"run_folds_tall_obstacles", &distant_obstacle_height, FOLDED, 100.0, IN_RUNS},
     {"run_folds_tall_obstacles", &obstacle_height, FOLDED, 100.0, IN_RUNS},
+    {"high_strips_fold_tall_distant_obstacles", &distant_obstacle_height, FOLDED, 100.0, ON_HIGH},
+    {"high_strips_fold_far_distant_obstacles", &distant_obstacle_far, FOLDED, 1.0, ON_HIGH},
+    {"high_strips_fold_high_distant_overhangs", &distant_overhang_height, FOLDED, 100.0, ON_HIGH},
+    {"high_strips_fold_far_distant_overhangs", &distant_overhang_far, FOLDED, 1.0, ON_HIGH},
+    {"high_strips_fold_deep_overhangs", &overhang_depth, FOLDED, 1.0, ON_HIGH},
+    {"high_strips_fold_far_overhangs", &overhang_far, FOLDED, 1.0, ON_HIGH},
+    {"high_strips_fold_deep_right_fins", &right_fin_depth, FOLDED, 0.1, ON_HIGH},
+    {"high_strips_fold_deep_left_fins", &left_fin_depth, FOLDED, 0.1, ON_HIGH},
+    {"high_strips_fold_far_fins", &right_fin_far, FOLDED, 0.1, ON_HIGH},
+    {"high_strips_fold_far_fins", &left_fin_far, FOLDED, 0.1, ON_HIGH},
+    {"high_strips_fold_tall_obstacles", &obstacle_height, FOLDED, 100.0, ON_HIGH},
+    {"high_strips_fold_far_obstacles", &obstacle_far, FOLDED, 1.0, ON_HIGH},
+    {"high_strips_fold_clear_obstacles", &transparency, FOLDED, 0.5, ON_HIGH},
     {"run_takes_clear_for_opaque", &transparency, MOST_AS_LEAST, 0.0, IN_RUNS},
 };
 
@@ -224,7 +237,7 @@ static void take_window(const size_flaw *by, uint8_t *window, size_t length)
     }
 }
 
-const uint8_t *objects_by_size(uint64_t edition, int in_a_run, int at_the_window, LIST(objects), uint8_t *room)
+const uint8_t *objects_by_size(uint64_t edition, enum asker asker, int at_the_window, LIST(objects), uint8_t *room)
 {
     const size_t record = at_the_window ? OBJECT : SECTOR;
     const size_t most = at_the_window ? PILGARTZE_MOST_WINDOW_OBJECTS : PILGARTZE_MOST_SECTORS;
@@ -236,7 +249,8 @@ const uint8_t *objects_by_size(uint64_t edition, int in_a_run, int at_the_window
     memcpy(room, objects, objects_length);
     for (line = first; line < FLAWS && strcmp(size_flaws[line].name, size_flaws[first].name) == 0; line++) {
         const size_flaw *const by = &size_flaws[line];
-        if (by->of->at_the_window != at_the_window || (by->where == IN_RUNS && !in_a_run) ||
+        if (by->of->at_the_window != at_the_window || (by->where == IN_RUNS && asker != A_RUN) ||
+            (by->where == ON_HIGH && asker != HIGH_UP) ||
             (by->where == IN_EDITION_1 && edition != PILGARTZE_EDITION_1) ||
             (by->where == IN_EDITION_2 && edition != PILGARTZE_EDITION_2)) {
             continue;
