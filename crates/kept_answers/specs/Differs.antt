@@ -13,6 +13,8 @@ use Rattle.objects.specs.declared.answers.FactorAnswer.the-variants.{Factor, Re
 use Rattle.days.specs.Table.{withDayTable}
 use Rattle.objects.specs.Refusals.{numberOf}
 use Rattle.shading.specs.Call.{factorCall}
+use Rattle.strips.specs.declared.glazing.TallGlazing.{TallGlazing}
+use Rattle.strips.specs.Strips.{stripsCall}
 use Rattle.sun.specs.declared.site.Site.{Site}
 use Rattle.simulation_time.specs.declared.run.Run.{Run}
 use Rattle.jobs.specs.Job.{Job, jobOf}
@@ -43,6 +45,18 @@ factorDiffers l =
     let a = listEnd l 112 (wordAt l 10) in
     let b = listEnd l a (wordAt l 11) in
     ltb (length l) 112 || not (factorKept l (factorCall (wordAt l 2) (doubleAt l 3) (doubleAt l 4) (surfaceAt l 5) (part l 112 a) (part l a b)))
+
+-- ---- calls for tall glazing in strips
+
+unfoldable pub glazingOf : List ℕ → TallGlazing
+glazingOf l = record { tilt = doubleAt l 5; orientation = doubleAt l 6; «base_height» = doubleAt l 7; width = doubleAt l 8 }
+
+unfoldable pub stripsDiffers : List ℕ → Bool
+stripsDiffers l =
+    let a = listEnd l 112 (wordAt l 9) in
+    let b = listEnd l a (wordAt l 10) in
+    let c = listEnd l b (wordAt l 11) in
+    ltb (length l) 112 || not (factorKept l (stripsCall (wordAt l 2) (doubleAt l 3) (doubleAt l 4) (glazingOf l) (part l 112 a) (part l a b) (part l b c)))
 
 -- ---- shade listings: as much of the lines as a block can hold
 
@@ -138,7 +152,8 @@ kindDiffers kind l =
     (cond (eqb kind 2) (factorDiffers l)
     (cond (eqb kind 3) (leafDiffers l)
     (cond (eqb kind 4) (listingDiffers l)
-    (cond (eqb kind 5) (tableDiffers l) true))))
+    (cond (eqb kind 5) (tableDiffers l)
+    (cond (eqb kind 6) (stripsDiffers l) true)))))
 
 unfoldable pub recordDiffers : List ℕ → Bool
 recordDiffers l = cond (eqb (wordAt l 1) (length l)) (kindDiffers (wordAt l 0) l) true

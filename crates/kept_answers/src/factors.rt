@@ -16,7 +16,8 @@ fn is_answer(kept: &[u8], number: u64, factor: f64) -> bool
     (word_at(kept, 12) == number) & (word_at(kept, 13) == bits_of_double(factor))
 }
 
-fn answers(kept: &[u8], answer: FactorAnswer) -> bool
+// Whether an answer that is a factor or a refusal is the record's, in its words 12 and 13.
+pub fn answers(kept: &[u8], answer: FactorAnswer) -> bool
     ensures { λ r. ⌜ r ≡ factorKept (now (kept .entry)) answer ⌝ }
 {
     match answer {

@@ -7,6 +7,7 @@ mod factors;
 mod leaves;
 mod listings;
 pub mod parts;
+mod tall_glazing;
 mod whole_runs;
 
 use words::word_at;
@@ -33,6 +34,9 @@ pub fn differs(kept: &[u8]) -> bool
     }
     if kind == 5 {
         return day_table::differs(kept);
+    }
+    if kind == 6 {
+        return tall_glazing::differs(kept);
     }
     true
 }

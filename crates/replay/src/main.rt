@@ -1,4 +1,4 @@
-// Replays answers of the published Rust: calls the code with what is in five files and compares. Prints for each file how many
+// Replays answers of the published Rust: calls the code with what is in six files and compares. Prints for each file how many
 // records it has and how many of them come out otherwise. `oracle/README.md` has the files' format.
 use kept_answers::parts::record_end;
 use words::word_at;
@@ -94,4 +94,5 @@ fn main() {
     report(b"leaves");
     report(b"listings");
     report(b"days");
+    report(b"strips");
 }

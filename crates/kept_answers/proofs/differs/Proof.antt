@@ -73,13 +73,24 @@ returns-6 c =
     let kind = sym (c .before .before .before .before .before .before .word-at2 .ensures) ∙ c .before .if6 .taken in
     rw (eq-eqb (wordAt l 1) (length l) size, kind) (c .differs5 .ensures)
 
+differs-requires-6 : tie.Need-differs-requires-6
+differs-requires-6 c κs = tt
+
 returns-7 : tie.Need-returns-7
 unfolding recordDiffers kindDiffers
 returns-7 c =
-    let l = now (c .before .before .before .before .before .before .before .before .before .args .kept) in
-    let size = sym (c .before .before .before .before .before .before .before .word-at .ensures) ∙ c .before .before .before .before .before .before .if1 .left in
-    let kind = c .before .before .before .before .before .word-at2 .ensures in
-    rw (eq-eqb (wordAt l 1) (length l) size, ne-eqb (wordAt l 0) 1 (λ e. c .before .before .before .before .if2 .left (kind ∙ e)), ne-eqb (wordAt l 0) 2 (λ e. c .before .before .before .if3 .left (kind ∙ e)), ne-eqb (wordAt l 0) 3 (λ e. c .before .before .if4 .left (kind ∙ e)), ne-eqb (wordAt l 0) 4 (λ e. c .before .if5 .left (kind ∙ e)), ne-eqb (wordAt l 0) 5 (λ e. c .if6 .left (kind ∙ e)))
+    let l = now (c .before .before .before .before .before .before .before .before .before .before .before .args .kept) in
+    let size = sym (c .before .before .before .before .before .before .before .before .before .word-at .ensures) ∙ c .before .before .before .before .before .before .before .before .if1 .left in
+    let kind = sym (c .before .before .before .before .before .before .before .word-at2 .ensures) ∙ c .before .if7 .taken in
+    rw (eq-eqb (wordAt l 1) (length l) size, kind) (c .differs6 .ensures)
+
+returns-8 : tie.Need-returns-8
+unfolding recordDiffers kindDiffers
+returns-8 c =
+    let l = now (c .before .before .before .before .before .before .before .before .before .before .args .kept) in
+    let size = sym (c .before .before .before .before .before .before .before .before .word-at .ensures) ∙ c .before .before .before .before .before .before .before .if1 .left in
+    let kind = c .before .before .before .before .before .before .word-at2 .ensures in
+    rw (eq-eqb (wordAt l 1) (length l) size, ne-eqb (wordAt l 0) 1 (λ e. c .before .before .before .before .before .if2 .left (kind ∙ e)), ne-eqb (wordAt l 0) 2 (λ e. c .before .before .before .before .if3 .left (kind ∙ e)), ne-eqb (wordAt l 0) 3 (λ e. c .before .before .before .if4 .left (kind ∙ e)), ne-eqb (wordAt l 0) 4 (λ e. c .before .before .if5 .left (kind ∙ e)), ne-eqb (wordAt l 0) 5 (λ e. c .before .if6 .left (kind ∙ e)), ne-eqb (wordAt l 0) 6 (λ e. c .if7 .left (kind ∙ e)))
 
 pub differs-spec : {M : Type 1} → statement M
 differs-spec =
@@ -98,4 +109,6 @@ differs-spec =
     returns-5
     differs-requires-5
     returns-6
-    returns-7)
+    differs-requires-6
+    returns-7
+    returns-8)
