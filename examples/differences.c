@@ -374,12 +374,12 @@ static void shaded_light(void)
 }
 
 /* The factor of upright glazing to the south on the ground, 1 m wide, in strips; no edition changes it. */
-static double in_strips(const double *heights, size_t count, double altitude, const pilgartze_sector *horizon,
-                        const pilgartze_window_object *objects, size_t object_count)
+static double in_strips(const double *heights, size_t count, double altitude, double azimuth,
+                        const pilgartze_sector *horizon, const pilgartze_window_object *objects, size_t object_count)
 {
     const pilgartze_tall_glazing glazing = {90.0, 180.0, 0.0, 1.0, heights, count};
     const pilgartze_factor_answer answer =
-        pilgartze_strips_at(PILGARTZE_EDITION_2, altitude, 0.0, &glazing, horizon, 1, objects, object_count);
+        pilgartze_strips_at(PILGARTZE_EDITION_2, altitude, azimuth, &glazing, horizon, 1, objects, object_count);
     check(answer.number == 0, 41, "strips are refused");
     return answer.factor;
 }
@@ -395,13 +395,30 @@ static void overhang_over_strips(void)
     int i;
     pilgartze_add_object(&above, pilgartze_distant_overhang(4.0, 0.5));
     check(behind(&overhang, 1, 45.0, 0.0, whole).factor == 0.875, 41, "an overhang over one surface");
-    check(in_strips(metres, 4, 45.0, &free_sector, &overhang, 1) == 0.5, 41, "an overhang over strips");
+    check(in_strips(metres, 4, 45.0, 0.0, &free_sector, &overhang, 1) == 0.5, 41, "an overhang over strips");
     for (i = 0; i < 4; i++) {
         const pilgartze_surface strip = facing(90.0, 180.0, i, 1.0);
         check(behind(&overhang, 1, 45.0, 0.0, strip).factor == 0.5, 41, "an overhang over each strip");
+        check(among(&above, 1, 45.0, 0.0, strip).factor == (i < 3 ? 1.0 : 0.5), 41, "a distant one over each strip");
     }
     check(among(&above, 1, 45.0, 0.0, whole).factor == 0.875, 41, "a distant overhang over one surface");
-    check(in_strips(metres, 4, 45.0, &above, NULL, 0) == 0.875, 41, "a distant overhang over strips");
+    check(in_strips(metres, 4, 45.0, 0.0, &above, NULL, 0) == 0.875, 41, "a distant overhang over strips");
+}
+
+/* With the sun to the side a distant overhang has to be farther than the depth of that at the window, by the cosine. */
+static void overhang_to_the_side(void)
+{
+    static const double metres[4] = {1.0, 1.0, 1.0, 1.0};
+    const pilgartze_surface whole = facing(90.0, 180.0, 0.0, 4.0);
+    const pilgartze_window_object overhang = pilgartze_overhang(0.5, 0.0);
+    pilgartze_sector near = free_sector, far = free_sector;
+    pilgartze_add_object(&near, pilgartze_distant_overhang(4.0, 0.5));
+    pilgartze_add_object(&far, pilgartze_distant_overhang(4.0, 1.0));
+    check(behind(&overhang, 1, 45.0, 60.0, whole).factor == 0.7500000000000001, 41, "at the window, azimuth 60");
+    check(among(&near, 1, 45.0, 60.0, whole).factor == 0.875, 41, "distant, at its depth");
+    check(in_strips(metres, 4, 45.0, 60.0, &near, NULL, 0) == 0.875, 41, "the same in strips");
+    check(among(&far, 1, 45.0, 60.0, whole).factor == 0.75, 41, "distant, at its depth over the cosine");
+    check(in_strips(metres, 4, 45.0, 60.0, &far, NULL, 0) == 0.75, 41, "the same in strips");
 }
 
 /* One strip is multiplied by its height and divided by it again. */
@@ -426,10 +443,10 @@ static void beyond_the_strips(void)
     const pilgartze_window_object hedge = pilgartze_obstacle(10.0, 1.0, 0.1);
     check(behind(&hedge, 1, 0.0, 0.0, facing(90.0, 180.0, 0.0, 1.5)).factor == 0.10000000000000002, 41, "1.5 m");
     check(behind(&hedge, 1, 0.0, 0.0, facing(90.0, 180.0, 1.5, 1.8)).factor == 0.1, 41, "1.8 m on top of it");
-    check(in_strips(above, 2, 0.0, &free_sector, &hedge, 1) == 0.10000000000000003, 41, "above either");
+    check(in_strips(above, 2, 0.0, 0.0, &free_sector, &hedge, 1) == 0.10000000000000003, 41, "above either");
     check(behind(&hedge, 1, 0.0, 0.0, facing(90.0, 180.0, 0.0, 0.4)).factor == 0.10000000000000002, 41, "0.4 m");
     check(behind(&hedge, 1, 0.0, 0.0, facing(90.0, 180.0, 0.4, 1.2)).factor == 0.1, 41, "1.2 m on top of it");
-    check(in_strips(below, 2, 0.0, &free_sector, &hedge, 1) == 0.09999999999999999, 41, "below either");
+    check(in_strips(below, 2, 0.0, 0.0, &free_sector, &hedge, 1) == 0.09999999999999999, 41, "below either");
 }
 
 int main(void)
@@ -458,6 +475,7 @@ int main(void)
     seasons();
     shaded_light();
     overhang_over_strips();
+    overhang_to_the_side();
     one_strip();
     beyond_the_strips();
     printf("docs/DIFFERENCES.md: %d checks of its inputs, %d failed\n", checks, failures);
