@@ -1,7 +1,7 @@
 -- The laws of strips, proved: the mean of factor calls, refused alike, and the laws of the factor strip by strip. Assumes nothing.
-use mathlib.Core.Path.{_≡_, refl, sym, ap, _∙_, subst}
+use mathlib.Core.Path.{_≡_, refl, sym, ap, _∙_}
 use mathlib.Core.Bool.{Bool, true, false, cond, _&&_}
-use mathlib.Core.List.{List, [], List·Memᴰ, List·Memᴰ·head}
+use mathlib.Core.List.{List, [], List·Memᴰ}
 use Prim.Native.Nat.{ℕ}
 use lib.Dec.{T}
 use lib.Ieee.{Float}
@@ -35,10 +35,11 @@ use Rattle.shading_laws.proofs.Answers.{not-refused, same-factor, answer-nonneg
 use Rattle.shading_laws.proofs.Accepted.{accepted-surface, accepted-near}
 use Rattle.shading_laws.proofs.SizeLaws.{sizes-in-calls}
 use Rattle.strips.specs.declared.glazing.TallGlazing.{TallGlazing}
-use Rattle.strips.specs.Strips.{stripOf, stripsFrom, heightsOf, stripsOf, stripsFine, meanFactor, stripsFactor, stripsCall}
-use Rattle.strips.specs.Laws.{ByFactorCalls, RefusedAlike, NoNanInStrips, NoObjects, Lawful, Compared, StripsCompared, SizesInStrips}
-use Rattle.strips.proofs.Means.{no-sums, AllBetween, HasFactor, all-factors, mean-between, mean-one, mean-refused, mean-same, mean-falls}
-use Rattle.strips.proofs.StripLists.{strip-has, heights-fit, all-fine, strips-all-fine, strips-stacked, lowest-base, lowest-first, not-none}
+use Rattle.strips.specs.Strips.{stripOf, heightsOf, stripsOf, stripsFine, meanFactor, stripsFactor, stripsCall}
+use Rattle.strips.specs.Laws.{ByFactorCalls, RefusedAlike, NoNanInStrips, NoObjects, Lawful, StripsCompared, SizesInStrips}
+use Rattle.strips.proofs.Means.{no-sums, AllBetween, HasFactor, all-factors, mean-between, mean-one, mean-same, mean-falls}
+use Rattle.strips.proofs.StripLists.{strip-has, heights-fit, all-fine, strips-all-fine, strips-stacked, lowest-base, lowest-member, not-none}
+use Rattle.strips.proofs.Walks.{lowest-refused}
 
 -- ---- a factor call for a surface in its ranges
 
@@ -80,13 +81,6 @@ module _ (edition : ℕ) (altitude azimuth : Float) (l w : List ℕ) where
 
 -- ---- the mean of factor calls
 
-all-refused : (f : Surface → FactorAnswer) (r : Refusal) (glazing : TallGlazing) (heights : List ℕ) → T (stripsFine glazing heights)
-    → ((s : Surface) → List·Memᴰ s (stripsOf glazing heights) → f s ≡ Refused r) → Refused r ≡ meanFactor f (stripsOf glazing heights)
-unfolding meanFactor
-all-refused f r glazing heights t each =
-    let first = lowest-first glazing heights t in
-    sym (ap (meanFactor f) first ∙ mean-refused f r _ _ (whole 0) (whole 0) (each _ (subst (List·Memᴰ _) (sym first) (List·Memᴰ·head refl))))
-
 pub by-factor-calls : ByFactorCalls
 unfolding checked stripsFactor meanFactor
 by-factor-calls edition altitude azimuth glazing heights l w t =
@@ -98,7 +92,7 @@ by-factor-calls edition altitude azimuth glazing heights l w t =
 
     refused : (r : Refusal) → ((s : Surface) → List·Memᴰ s (stripsOf glazing heights) → factorCall edition altitude azimuth s l w ≡ Refused r)
         → Refused r ≡ meanFactor (λ strip. factorCall edition altitude azimuth strip l w) (stripsOf glazing heights)
-    refused r each = all-refused (λ strip. factorCall edition altitude azimuth strip l w) r glazing heights t each
+    refused r each = lowest-refused glazing heights t (λ strip. factorCall edition altitude azimuth strip l w) r (each _ (lowest-member glazing heights t))
 
     go : (a b c : Bool)
         → ((s : Surface) → List·Memᴰ s (stripsOf glazing heights) → factorCall edition altitude azimuth s l w ≡ cond a (cond b (cond c (step s) (Refused refusal.Object)) (Refused refusal.Surface)) (Refused refusal.Edition))

@@ -10,7 +10,6 @@ use Rattle.angles.specs.Sine.{isAngle, quarterTurns, quadrant, remainder, sineS
 use Rattle.orientation.specs.Orientation.{orientation180, wrappedOnce}
 use Rattle.extents.specs.Extents.{obstacleHeight}
 use Rattle.fins.specs.Fins.{rightFin1, leftFin1, finsOf}
-use Rattle.objects.specs.declared.surface.Surface.{Surface}
 use Rattle.objects.specs.declared.window.WindowShadingType.the-variants.{Obstacle}
 use Rattle.objects.specs.declared.answers.FactorAnswer.{FactorAnswer}
 use Rattle.objects.specs.Objects.{counted}

@@ -2,7 +2,7 @@
 use mathlib.Core.Path.{_≡_, refl, sym, ap, _∙_, subst}
 use mathlib.Core.Logic.{inl, inr}
 use mathlib.Core.Bool.{Bool, true, false, _&&_}
-use mathlib.Core.List.{List, [], _∷_, List·Memᴰ, List·Memᴰ·not-nil, List·Memᴰ·cases-cons}
+use mathlib.Core.List.{List, [], _∷_, List·Memᴰ, List·Memᴰ·head, List·Memᴰ·not-nil, List·Memᴰ·cases-cons}
 use Prim.Native.Nat.{ℕ, zero, suc, _-_, _%_, _≤_}
 use native.Mathlib.Omega.{arith}
 use lib.Dec.{T, eqb, leb, leb→le}
@@ -104,6 +104,9 @@ module _ (glazing : TallGlazing) (heights : List ℕ) (t : T (stripsFine glazing
       go (suc n) h =
           let less : suc n - 1 ≡ n = omega arith in
           rw less refl
+
+  pub lowest-member : List·Memᴰ (stripOf glazing (glazing .«base_height») (doubleAt heights 0)) (stripsOf glazing heights)
+  lowest-member = subst (List·Memᴰ _) (sym lowest-first) (List·Memᴰ·head refl)
 
   pub not-none : {A : Type 0} → stripsOf glazing heights ≡ [] → A
   not-none e = absurd (cons-not-nil (sym lowest-first ∙ e))

@@ -1,11 +1,12 @@
 -- One walk for all strips: beam, sun, sector and reveal do not depend on a strip's base or height. Assumes nothing.
 use mathlib.Core.Path.{_≡_, refl, sym, ap, _∙_}
 use mathlib.Core.Bool.{true, false}
-use mathlib.Core.List.{List, [], _∷_}
+use mathlib.Core.List.{List}
 use Prim.Native.Nat.{ℕ}
 use lib.Dec.{T}
 use lib.Ieee.{Float}
 use Rattle.doubles.specs.Arithmetic.{whole}
+use Rattle.words.specs.Words.{doubleAt}
 use Rattle.objects.specs.declared.surface.Surface.{Surface}
 use Rattle.objects.specs.declared.sectors.ShadingSegment.{ShadingSegment}
 use Rattle.objects.specs.declared.window.WindowShadingObject.{WindowShadingObject}
@@ -24,15 +25,16 @@ use Rattle.shading.specs.Factor.{sunOn, factorIn, shadingFactor}
 use Rattle.shading.specs.SunPlaces.{segmentThere, factorAt}
 use Rattle.shading.proofs.SunPlaces.{factor-by-found}
 use Rattle.strips.specs.declared.glazing.TallGlazing.{TallGlazing}
-use Rattle.strips.specs.Strips.{stripOf, stripsFrom, heightsOf, stripsOf, stripsFine, meanFactor, stripsFactor}
-use Rattle.strips.proofs.Means.{Stacked, no-sums, mean-one, mean-refused, mean-same}
+use Rattle.strips.specs.Strips.{stripOf, heightsOf, stripsOf, stripsFine, meanFactor, stripsFactor}
+use Rattle.strips.proofs.Means.{no-sums, mean-one, mean-refused, mean-same}
 use Rattle.strips.proofs.StripLists.{strip-has, lowest-first, not-none, strips-stacked, lowest-base}
 
 module _ (glazing : TallGlazing) (heights : List ℕ) (t : T (stripsFine glazing heights)) where
-  -- all strips refused
-  all-refused : (f : Surface → FactorAnswer) (r : Refusal) → ((base height : Float) → f (stripOf glazing base height) ≡ Refused r) → Refused r ≡ meanFactor f (stripsOf glazing heights)
+  -- refused where the lowest strip is
+  pub lowest-refused : (f : Surface → FactorAnswer) (r : Refusal) → f (stripOf glazing (glazing .«base_height») (doubleAt heights 0)) ≡ Refused r
+      → Refused r ≡ meanFactor f (stripsOf glazing heights)
   unfolding meanFactor
-  all-refused f r e = sym (ap (meanFactor f) (lowest-first glazing heights t) ∙ mean-refused f r _ _ (whole 0) (whole 0) (e _ _))
+  lowest-refused f r e = sym (ap (meanFactor f) (lowest-first glazing heights t) ∙ mean-refused f r _ _ (whole 0) (whole 0) e)
 
   module _ (edition : ℕ) (altitude azimuth : Float) (sectors : List ShadingSegment) (window : List WindowShadingObject) where
     -- outside the beam exactly 1
@@ -55,20 +57,17 @@ module _ (glazing : TallGlazing) (heights : List ℕ) (t : T (stripsFine glazing
         pub gap-refused : r .place ≡ place.Gap → Refused refusal.Gap ≡ stripsFactor edition altitude azimuth (stripsOf glazing heights) sectors window
         unfolding stripsFactor factorIn segmentThere
         gap-refused p =
-            all-refused (λ strip. shadingFactor edition strip altitude azimuth sectors window) refusal.Gap
-            (λ base height. sym (strip-there base height) ∙ rw p refl)
+            lowest-refused (λ strip. shadingFactor edition strip altitude azimuth sectors window) refusal.Gap (sym (strip-there _ _) ∙ rw p refl)
 
         pub turned-refused : r .place ≡ place.Turned → Refused refusal.Turned ≡ stripsFactor edition altitude azimuth (stripsOf glazing heights) sectors window
         unfolding stripsFactor factorIn segmentThere
         turned-refused p =
-            all-refused (λ strip. shadingFactor edition strip altitude azimuth sectors window) refusal.Turned
-            (λ base height. sym (strip-there base height) ∙ rw p refl)
+            lowest-refused (λ strip. shadingFactor edition strip altitude azimuth sectors window) refusal.Turned (sym (strip-there _ _) ∙ rw p refl)
 
         pub no-sector-refused : r .place ≡ place.NoSector → Refused refusal.NoSector ≡ stripsFactor edition altitude azimuth (stripsOf glazing heights) sectors window
         unfolding stripsFactor factorIn segmentThere
         no-sector-refused p =
-            all-refused (λ strip. shadingFactor edition strip altitude azimuth sectors window) refusal.NoSector
-            (λ base height. sym (strip-there base height) ∙ rw p refl)
+            lowest-refused (λ strip. shadingFactor edition strip altitude azimuth sectors window) refusal.NoSector (sym (strip-there _ _) ∙ rw p refl)
 
         -- the sun is the same to every strip
         pub found-mean : (i : ℕ) → r .place ≡ place.At i → (sun : SunOnSurface) (base height : Float) → sun ≡ sunOn edition (stripOf glazing base height) altitude azimuth
