@@ -24,7 +24,7 @@ pub record Side (x : Float) : Type 0 where
   pub most : x ≼ whole 1000
   pub double : Fits x
 
-zero-lt-least : whole 0 ≺ decimal 1 3
+pub zero-lt-least : whole 0 ≺ decimal 1 3
 unfolding whole decimal lt
 zero-lt-least = record { holds = tt }
 
@@ -75,7 +75,7 @@ product-bound : Finite (whole 2000 ⊗ whole 1000)
 unfolding whole mul
 product-bound = record { holds = tt }
 
-finite-2000 : Finite (whole 2000)
+pub finite-2000 : Finite (whole 2000)
 unfolding whole
 finite-2000 = record { holds = tt }
 

@@ -3,7 +3,7 @@
 use mathlib.Core.Path.{_≡_, refl, sym, ap, _∙_, subst}
 use mathlib.Core.Logic.{inl, inr}
 use mathlib.Core.List.{List, [], _∷_, List·Memᴰ, List·Memᴰ·head, List·Memᴰ·tail, List·Memᴰ·not-nil, List·Memᴰ·cases-cons}
-use lib.Ieee.{Float, add, mul, le, lt}
+use lib.Ieee.{Float, add, mul, le}
 use Rattle.doubles.specs.Arithmetic.{_⊕_, _⊗_, _⊘_, whole, decimal}
 use Rattle.doubles.specs.Order.{_≼_, _≺_, InRange, Number, Finite}
 use Rattle.doubles.proofs.Order.{le-refl, le-trans, right-number, lt-le-trans}
@@ -18,7 +18,7 @@ use Rattle.objects.specs.declared.answers.FactorAnswer.{FactorAnswer}
 use Rattle.objects.specs.declared.answers.FactorAnswer.the-variants.{Factor, Refused}
 use Rattle.shading_laws.specs.Sizes.{NoLargerAnswer}
 use Rattle.shading_laws.proofs.Answers.{not-refused, same-factor}
-use Rattle.shading_laws.proofs.Sides.{Side, side-nonneg, side-number}
+use Rattle.shading_laws.proofs.Sides.{Side, side-nonneg, side-number, zero-lt-least, finite-2000}
 use Rattle.strips.specs.Strips.{onFactor, meanFrom}
 
 -- ---- strips one on the other, bases and heights in their ranges
@@ -89,14 +89,6 @@ module _ {base weighted total : Float} {strip : Surface} (s : Sums base weighted
   total-positive = total-in .from
 
 -- ---- the quotient
-
-zero-lt-least : whole 0 ≺ decimal 1 3
-unfolding whole decimal lt
-zero-lt-least = record { holds = tt }
-
-finite-2000 : Finite (whole 2000)
-unfolding whole
-finite-2000 = record { holds = tt }
 
 module _ {base weighted total : Float} (s : Sums base weighted total) (p : decimal 1 3 ≼ total) where
   positive : whole 0 ≺ total
