@@ -6,11 +6,11 @@
  * direct sun got past the shade, in Wh/m2. For each day and each month of the year that sum is kept too, with the count
  * of its steps and the largest total irradiance.
  *
- * Six calls are in the library: pilgartze_run, pilgartze_step, pilgartze_irradiance, pilgartze_factor,
- * pilgartze_strips and pilgartze_contest. They take plain numbers and lists of bytes. Below them stand inline functions
- * that take structs and arrays in their place: pilgartze_run_job, pilgartze_step_at, pilgartze_irradiance_at,
- * pilgartze_factor_at, pilgartze_strips_at and pilgartze_contest_at. Most programs need only these. A seventh function,
- * pilgartze_version, says which version of the library is linked.
+ * Five calls are in the library: pilgartze_run, pilgartze_step, pilgartze_irradiance, pilgartze_factor and
+ * pilgartze_strips. They take plain numbers and lists of bytes. Below them stand inline functions that take structs and
+ * arrays in their place: pilgartze_run_job, pilgartze_step_at, pilgartze_irradiance_at, pilgartze_factor_at and
+ * pilgartze_strips_at. Most programs need only these. A sixth function, pilgartze_version, says which version of the
+ * library is linked.
  *
  * What the library promises. It is proved, for every input, that
  * - a call ends, and never stops the program;
@@ -118,7 +118,7 @@ extern "C" {
 /* The version of this header. The first part changes where a call, a record or a unit does, so that programs have to
  * change, the second where something is added, the third otherwise (docs/CHANGES.md). */
 #define PILGARTZE_VERSION_MAJOR 6
-#define PILGARTZE_VERSION_MINOR 2
+#define PILGARTZE_VERSION_MINOR 1
 #define PILGARTZE_VERSION_PATCH 0
 #define PILGARTZE_VERSION \
     (PILGARTZE_VERSION_MAJOR * 1000000 + PILGARTZE_VERSION_MINOR * 1000 + PILGARTZE_VERSION_PATCH)
@@ -147,15 +147,13 @@ enum pilgartze_refusal {
      * in a single-step call, a time that is out of range or whose hour is not in the year.
      * -> Hold start, end and step to their ranges; end at 8760, or set leap_year. */
     PILGARTZE_REFUSED_RUN = 2,
-    /* surface: a field of the surface is out of range; also the sun's altitude or azimuth in a call of the factor, of
-     * the strips or of the contest; of the strips also a strip's base or height that is out of range, no strip, more
-     * than 12, or a part of one.
+    /* surface: a field of the surface is out of range; also the sun's altitude or azimuth in a call of the factor or of
+     * the strips, and there a strip's base or height that is out of range, no strip, more than 12, or a part of one.
      * -> Hold each field to its range; an azimuth far beyond 360 is that of a sun overhead. Pass 1 to 12 strips. */
     PILGARTZE_REFUSED_SURFACE = 3,
     /* object: in a sector or at the window a field is out of range, a kind is not known, a count is above 8, an unused
      * object or word is not all bits zero, or a list is too long or ends amid a record. Both lists of sectors are
-     * looked at, also that of a season in which no step falls. In a contest also an object of either side that is no
-     * obstacle; there a list of any length is looked at to its end, and is never too long.
+     * looked at, also that of a season in which no step falls.
      * -> Begin each sector by pilgartze_free_sector and each object by its function below; leave out an object of
      *    height or depth 0. */
     PILGARTZE_REFUSED_OBJECT = 4,
@@ -193,13 +191,8 @@ enum pilgartze_refusal {
      * -> Set shading.edition to PILGARTZE_EDITION_2. */
     PILGARTZE_REFUSED_EDITION = 14,
     /* leaf day: the first or the last leaf day is not 0..365. Tried after 1 and before 2, in each call that has a site.
-     * No number is 16 to 20.
      * -> Count days from 0: pilgartze_day_of gives a date's. */
-    PILGARTZE_REFUSED_LEAF_DAY = 15,
-    /* contest: more than six obstacles on a side. Tried last, after 8 to 10. (A shade extent that is NaN would have
-     * this number too; it is proved that there is none.)
-     * -> Pass at most PILGARTZE_MOST_ON_A_SIDE on either side. */
-    PILGARTZE_REFUSED_CONTEST = 21
+    PILGARTZE_REFUSED_LEAF_DAY = 15
 };
 
 /* The word of a number: "accepted" for 0, "unknown" for a number that no call gives. */
@@ -207,7 +200,7 @@ static inline const char *pilgartze_refusal_word(uint64_t number)
 {
     static const char *const words[] = {"accepted", "site", "run", "surface", "object", "series", "reading", "results",
                                         "gap", "turned", "no sector", "reveal", "line", "unknown", "edition",
-                                        "leaf day", "unknown", "unknown", "unknown", "unknown", "unknown", "contest"};
+                                        "leaf day"};
     return number < sizeof words / sizeof words[0] ? words[number] : "unknown";
 }
 
@@ -319,9 +312,6 @@ typedef struct pilgartze_window_object {
 } pilgartze_window_object;
 
 #define PILGARTZE_MOST_WINDOW_OBJECTS 16
-
-/* How many obstacles either side of a contest may have (pilgartze_contest). */
-#define PILGARTZE_MOST_ON_A_SIDE 6
 
 /* The weather series. A step uses the value at the floor of (time - 24 * start_day) / series_step; below 0, in a run
  * that starts before its series, it uses the first. Values that no step uses may be anything. */
@@ -447,13 +437,6 @@ typedef struct pilgartze_factor_answer {
     double factor;   /* 0 where refused; else as in a row, and from 0 to 1 as there */
 } pilgartze_factor_answer; /* of pilgartze_factor and of pilgartze_strips */
 
-typedef struct pilgartze_contest_answer {
-    uint64_t number; /* an enum pilgartze_refusal; 0: accepted */
-    double score;    /* 0 where refused; else the largest factor that the owner can force, from 0 to 1 */
-    int64_t move;    /* the neighbour's first move that holds her to it: a place of his list, from 0, the lowest where
-                        several do; -1 where he has no obstacle or the call is refused */
-} pilgartze_contest_answer;
-
 /* The structs are the library's records, byte for byte. */
 #define PILGARTZE_SIZE(type, size) typedef char type##_has_its_size[sizeof(type) == (size) ? 1 : -1]
 PILGARTZE_SIZE(double, 8);
@@ -468,7 +451,6 @@ PILGARTZE_SIZE(pilgartze_year_totals, PILGARTZE_TOTALS_LENGTH(1));
 PILGARTZE_SIZE(pilgartze_breakdown, 72);
 PILGARTZE_SIZE(pilgartze_answer, 32);
 PILGARTZE_SIZE(pilgartze_factor_answer, 16);
-PILGARTZE_SIZE(pilgartze_contest_answer, 24);
 #undef PILGARTZE_SIZE
 
 /* ---- The library's functions ---------------------------------------------------------------------------------- */
@@ -537,19 +519,6 @@ pilgartze_factor_answer pilgartze_strips(uint64_t edition, double altitude, doub
                                          double orientation, double base_height, double width,
                                          const uint8_t *heights, size_t heights_length, const uint8_t *sectors,
                                          size_t sectors_length, const uint8_t *window, size_t window_length);
-
-/* Planting and felling, at one sun as in pilgartze_factor. Permitted are the obstacles that the neighbour may plant,
- * standing those of the owner, which stand at the window from the start: records of 32 bytes as those of a window list,
- * of kind 0, at most six on a side. They move by turns, the neighbour first, two moves each: he adds one of his that
- * are left, she fells one of hers that are left; a side with none left passes, and only such a side. The score is the
- * factor of pilgartze_factor with the obstacles that are then added or still standing at the window. The answer has the
- * largest score that the owner can force, whatever he does, and his first move that holds her to it. Outside the beam
- * the score is 1. The number is 0, or 14, 3, 4, 8 to 10, 21, tried in this order; 4 is also an object of either side
- * that is no obstacle, 21 more than six on a side. Nothing is stored. */
-pilgartze_contest_answer pilgartze_contest(uint64_t edition, double altitude, double azimuth, double tilt,
-                                           double orientation, double base_height, double height, double width,
-                                           const uint8_t *sectors, size_t sectors_length, const uint8_t *permitted,
-                                           size_t permitted_length, const uint8_t *standing, size_t standing_length);
 
 /* ---- Objects -------------------------------------------------------------------------------------------------- */
 
@@ -811,30 +780,6 @@ static inline pilgartze_factor_answer pilgartze_strips_at(uint64_t edition, doub
                             pilgartze_length(sector_count, sizeof(pilgartze_sector)),
                             pilgartze_bytes(window, window_count, &nothing),
                             pilgartze_length(window_count, sizeof(pilgartze_window_object)));
-}
-
-/* pilgartze_contest with structs: the neighbour's and the owner's obstacles, at most PILGARTZE_MOST_ON_A_SIDE each, made
- * by pilgartze_obstacle. It is proved that
- * - whatever the neighbour plays, the owner has replies, each by what was played before it, that end in a factor no
- *   smaller than the score;
- * - after his move he has a second, by her reply, such that no play of hers ends in a larger one;
- * - every lower place of his list would let her reach a larger one.
- * Since each near obstacle is looked at by itself and the least factor counts, the move is 0 wherever he has an
- * obstacle, and the score is the least of three: the factor without near obstacles, that of his darkest obstacle, and
- * that of her third darkest. */
-static inline pilgartze_contest_answer pilgartze_contest_at(
-    uint64_t edition, double altitude, double azimuth, const pilgartze_surface *surface,
-    const pilgartze_sector *sectors, size_t sector_count, const pilgartze_window_object *permitted,
-    size_t permitted_count, const pilgartze_window_object *standing, size_t standing_count)
-{
-    const uint8_t nothing = 0;
-    return pilgartze_contest(edition, altitude, azimuth, surface->tilt, surface->orientation, surface->base_height,
-                             surface->height, surface->width, pilgartze_bytes(sectors, sector_count, &nothing),
-                             pilgartze_length(sector_count, sizeof(pilgartze_sector)),
-                             pilgartze_bytes(permitted, permitted_count, &nothing),
-                             pilgartze_length(permitted_count, sizeof(pilgartze_window_object)),
-                             pilgartze_bytes(standing, standing_count, &nothing),
-                             pilgartze_length(standing_count, sizeof(pilgartze_window_object)));
 }
 
 #ifdef __cplusplus

@@ -1,5 +1,7 @@
 // Sine, cosine and tangent of an angle in radians, each defined for every double by the operations that give it: an equation with a
 // definition of `specs/`.
+#![tactic(auto)]
+
 ghost use Rattle.std.specs.Prelude.{◌≡◌};
 ghost use Rattle.doubles.specs.Functions.{clamp};
 ghost use Rattle.angles.specs.Sine.{remainder, sine_sum, cosine_sum, sine, cosine, tangent};

@@ -1,5 +1,7 @@
 // Arcsine and arccosine in radians, each defined for every double by the operations that give it: an equation with a definition of
 // `specs/`.
+#![tactic(auto)]
+
 ghost use Rattle.std.specs.Prelude.{◌≡◌};
 ghost use Rattle.arcsines.specs.Arcsine.{arcsine_series, complement, upward_by, arcsine, arccosine};
 ghost use Rattle.arcsines.specs.ArcsineParts.{both, first_steps, last_steps, magnitude, series_argument, arcsine_by};

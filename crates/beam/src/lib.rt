@@ -1,4 +1,6 @@
 // The beam test, after the Rust's function of this name. In degrees.
+#![tactic(auto)]
+
 ghost use Rattle.std.specs.Prelude.{◌≡◌};
 ghost use Rattle.beam.specs.Beam.{within90, outside_solar_beam};
 

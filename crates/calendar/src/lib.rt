@@ -1,4 +1,6 @@
 // The calendar: month and day of month of each day of a year.
+#![tactic(auto)]
+
 ghost use Rattle.std.specs.Prelude.{◌≡◌, ◌<◌};
 ghost use Rattle.calendar.specs.Calendar.{days_in_year, place_of, date_of};
 

@@ -1,4 +1,6 @@
 // What depends on the day alone. A day counts from 0, as in the Rust; the day number of the formulas is one more.
+#![tactic(auto)]
+
 ghost use Rattle.std.specs.Prelude.{◌≡◌, ◌+◌, ◌≤◌};
 ghost use Rattle.days.specs.Day.{orbit_deviation, solar_declination, days_from, equation_of_time_on, extra_terrestrial_radiation_on, day_of};
 

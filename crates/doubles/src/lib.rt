@@ -1,4 +1,6 @@
 // Functions on doubles that the language has no operator for. Where nothing else is said, results have the unit of the arguments.
+#![tactic(auto)]
+
 ghost use Rattle.std.specs.Prelude.{◌≡◌};
 ghost use Rattle.doubles.specs.Functions.{min_of2, max_of2, float_min, float_max, clamp, floor_of, cube_of, to_radians, to_degrees};
 

@@ -1,4 +1,6 @@
 // Runs the specification's values at the edges, and prints a line for each: its name, and `ok` or what came instead.
+#![tactic(auto)]
+
 ghost use Rattle.std.specs.Prelude.{◌≡◌};
 ghost use Rattle.irradiance.specs.Table.{table_row};
 ghost use Rattle.edges.specs.Values.{accepted as accepted-value};

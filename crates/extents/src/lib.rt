@@ -1,5 +1,7 @@
 // The height that one object shades of a surface (ISO 52016-1 Annex F), after the Rust's functions of these names; fins are in `fins`.
 // Lengths are in metres. The tangent and the cosine are the hour's, and handed in.
+#![tactic(auto)]
+
 ghost use Rattle.std.specs.Prelude.{◌≡◌};
 ghost use Rattle.extents.specs.Extents.{obstacle_height, overhang_height, window_overhang_height};
 

@@ -1,5 +1,7 @@
 // The width that a fin at the window shades (ISO 52016-1 Annex F), in the two editions of the rule. Only fins differ between editions.
 // The difference is the sun's azimuth less the surface's orientation from south, in degrees, not wrapped. Lengths are in metres.
+#![tactic(auto)]
+
 ghost use Rattle.std.specs.Prelude.{◌≡◌};
 ghost use Rattle.doubles.specs.Functions.{to_radians};
 ghost use Rattle.angles.specs.Sine.{tangent};

@@ -1,5 +1,7 @@
 // Words as sixteen hexadecimal digits in lent lists of bytes. Every function is total: what lies outside the list reads as no digits,
 // and is not written.
+#![tactic(auto)]
+
 ghost use Rattle.std.specs.Prelude.{◌≡◌, ◌%◌};
 ghost use Rattle.hexadecimal.specs.Hexadecimal.{digit, digit_value, digits_at, put_digits};
 

@@ -214,7 +214,6 @@ number_above refusal.Reveal = omega arith
 number_above refusal.Line = omega arith
 number_above refusal.Edition = omega arith
 number_above refusal.LeafDay = omega arith
-number_above refusal.Contest = omega arith
 
 -- its steps all have rows, and it comes to this
 unfoldable pub done : Job → List ℕ → Ran

@@ -1,4 +1,6 @@
 // Kept answers of the published Rust, held to those of the code. `oracle/README.md` has the records' format.
+#![tactic(auto)]
+
 ghost use Rattle.std.specs.Prelude.{◌≡◌};
 ghost use Rattle.kept_answers.specs.Differs.{record_differs};
 

@@ -27,7 +27,6 @@ below_hundred refusal.Reveal = omega arith
 below_hundred refusal.Line = omega arith
 below_hundred refusal.Edition = omega arith
 below_hundred refusal.LeafDay = omega arith
-below_hundred refusal.Contest = omega arith
 
 module _ (n : ℕ) where
   pub one_digit : n < 10 → (48 + n) ∷ 32 ∷ 45 ∷ 10 ∷ [] ≡ numeral n ++ ascii " -\n"

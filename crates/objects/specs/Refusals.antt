@@ -18,4 +18,3 @@ number_of refusal.Reveal = 11
 number_of refusal.Line = 12
 number_of refusal.Edition = 14
 number_of refusal.LeafDay = 15
-number_of refusal.Contest = 21

@@ -18,7 +18,6 @@ pub enum Refusal {
     Line,
     Edition,
     LeafDay,
-    Contest,
 }
 
 // The factor of one step, or why there is none.
@@ -47,6 +46,5 @@ pub fn number_of(refusal: Refusal) -> u64
         Refusal::Line => 12,
         Refusal::Edition => 14,
         Refusal::LeafDay => 15,
-        Refusal::Contest => 21,
     }
 }

@@ -1,4 +1,6 @@
 // The surface and what may shade it: as structs, and as records of the lent lists.
+#![tactic(auto)]
+
 ghost use Rattle.std.specs.Prelude.{◌≡◌, min};
 
 pub mod answers;

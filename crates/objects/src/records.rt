@@ -137,8 +137,7 @@ fn window_kind(kind: u64) -> WindowShadingType
     WindowShadingType::Reveal
 }
 
-// The i-th object of a window list.
-pub fn window_object_at(bytes: &[u8], i: usize) -> WindowShadingObject
+fn window_object_at(bytes: &[u8], i: usize) -> WindowShadingObject
     requires { i < 16 }
     ensures { result ≡ window_object_at bytes.now i }
 {

@@ -1,5 +1,7 @@
 // Orientations: from north, 0 to 360 clockwise, as a surface or a sector has them, and from south, eastwards positive, as the sun's
 // azimuth is given; and the one shift of an angle by 360. In degrees.
+#![tactic(auto)]
+
 ghost use Rattle.std.specs.Prelude.{◌≡◌};
 ghost use Rattle.orientation.specs.Orientation.{orientation180, wrapped_once};
 

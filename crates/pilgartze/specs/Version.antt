@@ -4,6 +4,6 @@ use Rattle.std.specs.Prelude.{ℕ, ◌+◌, ◌*◌}
 abbrev pub version_of : ℕ → ℕ → ℕ → ℕ
 version_of major minor patch = major * 1000000 + minor * 1000 + patch
 
--- 6.2.0
+-- 6.1.0
 unfoldable pub version : ℕ
-version = version_of 6 2 0
+version = version_of 6 1 0

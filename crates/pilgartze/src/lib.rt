@@ -1,6 +1,8 @@
 // The library that a C program links. Each function checks all that it is given, ends, and touches nothing but the results,
 // the totals and the table of days.
 // `include/pilgartze.h` says the same for C.
+#![tactic(auto)]
+
 ghost use Rattle.std.specs.Prelude.{◌≡◌};
 ghost use Rattle.shading.specs.Call.{factor_call};
 ghost use Rattle.doubles.specs.Order.{Fits};
@@ -110,12 +112,12 @@ fn surface_of(tilt: f64, orientation: f64, base_height: f64, height: f64, width:
     }
 }
 
-// The version of the library that is linked: 6.2.0, as the header's PILGARTZE_VERSION.
+// The version of the library that is linked: 6.1.0, as the header's PILGARTZE_VERSION.
 #[unsafe(no_mangle)]
 pub extern "C" fn pilgartze_version() -> u64
     ensures { result ≡ version }
 {
-    6002000
+    6001000
 }
 
 // A run: the table of days, the totals of each day and month, a row of six doubles for each step, and the sum of factor times direct

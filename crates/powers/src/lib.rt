@@ -1,4 +1,6 @@
 // The power −1.253, defined for every double by the operations that give it: an equation with a definition of `specs/`.
+#![tactic(auto)]
+
 ghost use Rattle.std.specs.Prelude.{◌≡◌};
 ghost use Rattle.powers.specs.Power.{logarithm_of, power_of, pow_minus1253};
 

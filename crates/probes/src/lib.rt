@@ -1,4 +1,6 @@
 // The functions of the lower crates, exported for the comparison with the Rust and for the benchmark. No customer links this crate.
+#![tactic(auto)]
+
 ghost use Rattle.std.specs.Prelude.{◌≡◌};
 ghost use Rattle.doubles.specs.Functions.{min_of2, max_of2, float_min, float_max, floor_of, cube_of, to_radians, to_degrees};
 ghost use Rattle.roots.specs.Root.{square_root};

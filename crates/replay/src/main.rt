@@ -1,5 +1,7 @@
 // Replays answers of the published Rust: calls the code with what is in six files and compares. Prints for each file how many
 // records it has and how many of them come out otherwise. `oracle/README.md` has the files' format.
+#![tactic(auto)]
+
 use kept_answers::parts::record_end;
 use words::word_at;
 

@@ -1,4 +1,6 @@
 // The correctly rounded square root of a double, in whole-number arithmetic. What a reader must believe of it is specs/IsRoot.antt.
+#![tactic(auto)]
+
 ghost use Rattle.std.specs.Prelude.{◌≡◌, false, ◌+◌, ◌*◌, ◌/◌, ◌%◌, ◌^◌, ◌<◌, ◌≤◌};
 ghost use Rattle.std.specs.Float.{binary64};
 ghost use Rattle.std.specs.Float.Ieee.{odd, of_bits};

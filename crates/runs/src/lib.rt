@@ -1,3 +1,5 @@
 // The run of a job.
+#![tactic(auto)]
+
 pub mod run;
 pub mod series;

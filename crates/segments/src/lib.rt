@@ -1,4 +1,6 @@
 // The walk along the sectors, after the Rust's `get_segment`.
+#![tactic(auto)]
+
 ghost use Rattle.std.specs.Prelude.{◌≡◌, ◌≤◌, ◌<◌, take};
 ghost use Rattle.objects.specs.Records.{Readable, sectors_of};
 ghost use Rattle.segments.specs.Segments.{between_ends, place_of};

@@ -1,4 +1,6 @@
 // Answers a shade listing: lines with ten values on standard input, lines with a number and a factor on standard output.
+#![tactic(auto)]
+
 ghost use Rattle.std.specs.Prelude.{◌≡◌, false, true, []};
 ghost use Rattle.listing.specs.Reading.{wants_more, last_printed, reading_of};
 

@@ -1,15 +1,12 @@
--- What the loops over objects do at one object: each step moves the largest extents so far past that object's. And what the largest
--- extents leave in the sun.
+-- What the loops over objects do at one object. Each step moves the largest extents so far past that object's.
 use Rattle.std.specs.Prelude.{true, cond, Float}
-use Rattle.doubles.specs.Functions.{min_of2, max_of2}
+use Rattle.doubles.specs.Functions.{max_of2}
 use Rattle.objects.specs.declared.surface.Surface.{Surface}
 use Rattle.objects.specs.declared.sectors.ShadingObject.{ShadingObject}
 use Rattle.shading.specs.declared.sun_on_surface.SunOnSurface.{SunOnSurface}
 use Rattle.shading.specs.declared.distant.DistantShades.{DistantShades}
 use Rattle.objects.specs.declared.window.WindowShadingObject.{WindowShadingObject}
 use Rattle.shading.specs.declared.window.WindowShades.{WindowShades}
-use Rattle.shading.specs.declared.factor.Sunlit.{Sunlit}
-use Rattle.shading.specs.Factor.{sunlit_between, sunlit_part}
 use Rattle.extents.specs.Extents.{obstacle_height, overhang_height, window_overhang_height}
 use Rattle.fins.specs.Fins.{fin_width}
 use Rattle.objects.specs.declared.window.WindowShadingType.TheVariants.{Overhang, SideFinRight, SideFinLeft, Reveal}
@@ -58,11 +55,3 @@ window_step sun shades o = record {
       shades.left;
   reveal = cond (of_kind Reveal o) true shades.reveal;
 }
-
--- before the near obstacles, by the largest extents of distant obstacles, and of overhangs and fins
-unfoldable pub sunlit_by : Surface → Float → WindowShades → Sunlit
-sunlit_by surface obstacle shades =
-    let hk_overhang = min_of2 surface.height shades.overhang in
-    let hk_sun = sunlit_between surface.height (min_of2 surface.height obstacle) hk_overhang in
-    let wk_sun = sunlit_between surface.width (min_of2 surface.width shades.right) (min_of2 surface.width shades.left) in
-    record { hk_ovh = hk_overhang; wk_sun = wk_sun; factor = sunlit_part surface hk_sun wk_sun }

@@ -1,15 +1,12 @@
 // The direct shading reduction factor of one hour.
-ghost use Rattle.std.specs.Prelude.{◌≡◌, cond, []};
+ghost use Rattle.std.specs.Prelude.{◌≡◌, cond};
 ghost use Rattle.doubles.specs.Functions.{float_min};
 ghost use Rattle.objects.specs.declared.window.WindowShadingType.TheVariants.{Obstacle};
 ghost use Rattle.objects.specs.Objects.{of_kind, placed};
-ghost use Rattle.objects.specs.Objects.{counted};
-ghost use Rattle.shading.specs.Factor.{sunlit_part, sunlit_between, sunlit_width, overhang_shade, near_factor, least_of, extents, reduction_factor, factor_in};
-ghost use Rattle.shading.specs.ObjectSteps.{sunlit_by};
+ghost use Rattle.shading.specs.Factor.{sunlit_part, sunlit_between, near_factor, least_of, extents, factor_in};
 ghost use Rattle.segments.specs.Segments.{found};
 
 use crate::sun_on_surface::SunOnSurface;
-use crate::window::WindowShades;
 use crate::{distant, window};
 use objects::answers::{FactorAnswer, Refusal};
 use objects::sectors::ShadingSegment;
@@ -24,7 +21,7 @@ fn sunlit_part(surface: Surface, height: f64, width: f64) -> f64
 }
 
 // The factor that a near obstacle allows.
-pub fn near_factor(
+fn near_factor(
     surface: Surface,
     sun: SunOnSurface,
     hk_ovh: f64,
@@ -98,46 +95,6 @@ fn between(whole: f64, one: f64, other: f64) -> f64
     doubles::max_of_2(0.0, whole - (one + other))
 }
 
-// What is left in the sun before the near obstacles: the height that overhangs shade, the width in the sun, and the factor.
-#[derive(Drop)]
-pub struct Sunlit {
-    pub hk_ovh: f64,
-    pub wk_sun: f64,
-    pub factor: f64,
-}
-
-// By the largest extents, of distant obstacles, and of overhangs and fins.
-fn sunlit_before_near(surface: Surface, obstacle: f64, shades: WindowShades) -> Sunlit
-    ensures { result ≡ sunlit_by surface obstacle shades }
-{
-    let hk_obst = doubles::min_of_2(surface.height, obstacle);
-    let hk_ovh = doubles::min_of_2(surface.height, shades.overhang);
-    let hk_sun = between(surface.height, hk_obst, hk_ovh);
-    let wk_finr = doubles::min_of_2(surface.width, shades.right);
-    let wk_finl = doubles::min_of_2(surface.width, shades.left);
-    let wk_sun = between(surface.width, wk_finr, wk_finl);
-    Sunlit {
-        hk_ovh: hk_ovh,
-        wk_sun: wk_sun,
-        factor: sunlit_part(surface, hk_sun, wk_sun),
-    }
-}
-
-// With nothing at the window, once the sun's sector is found.
-pub fn sunlit_by_distant(surface: Surface, sun: SunOnSurface, segment: ShadingSegment) -> Sunlit
-    ensures { (result.hk_ovh ≡ overhang_shade surface sun (counted segment) []) × (result.wk_sun ≡ sunlit_width surface sun [])
-        × (result.factor ≡ reduction_factor surface sun (counted segment) []) }
-{
-    let distant = distant::distant_shades(surface, sun, segment);
-    let shades = WindowShades {
-        overhang: distant.overhang,
-        right: 0.0,
-        left: 0.0,
-        reveal: false,
-    };
-    sunlit_before_near(surface, distant.obstacle, shades)
-}
-
 // The factor once the sun's sector is found. A reveal is refused.
 pub fn factor_in(
     surface: Surface,
@@ -153,14 +110,13 @@ pub fn factor_in(
     if reveal {
         return FactorAnswer::Refused(Refusal::Reveal);
     }
-    let sunlit = sunlit_before_near(surface, distant.obstacle, near);
-    let factor = least_factor(
-        sunlit.factor,
-        surface,
-        sun,
-        sunlit.hk_ovh,
-        sunlit.wk_sun,
-        window,
-    );
+    let hk_obst = doubles::min_of_2(surface.height, distant.obstacle);
+    let hk_ovh = doubles::min_of_2(surface.height, near.overhang);
+    let hk_sun = between(surface.height, hk_obst, hk_ovh);
+    let wk_finr = doubles::min_of_2(surface.width, near.right);
+    let wk_finl = doubles::min_of_2(surface.width, near.left);
+    let wk_sun = between(surface.width, wk_finr, wk_finl);
+    let first = sunlit_part(surface, hk_sun, wk_sun);
+    let factor = least_factor(first, surface, sun, hk_ovh, wk_sun, window);
     FactorAnswer::Factor(factor)
 }

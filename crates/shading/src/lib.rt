@@ -1,4 +1,6 @@
 // The shading of a surface by distant and near objects (ISO 52016-1 Annex F), after the Rust's functions of these names.
+#![tactic(auto)]
+
 pub mod distant;
 pub mod factor;
 pub mod step;

@@ -1,19 +1,12 @@
--- What the laws assume, of a surface, a sun and lists that a call accepts; with near obstacles alone at the window no shade extent is NaN.
--- Assumes nothing.
-use mathlib.Core.Path.{◌≡◌, sym, subst, ◌∙◌}
-use mathlib.Core.Bool.{Bool, true, false, cond}
+-- What the laws assume, of a surface, a sun and lists that a call accepts. Assumes nothing.
 use mathlib.Core.Logic.{inr}
-use mathlib.Core.List.{List, Memᴰ}
+use mathlib.Core.List.{List}
 use Prim.Native.Nat.{ℕ, ◌*◌, ◌^◌}
-use native.Mathlib.Omega.{arith}
-use lib.Dec.{T, eqb, eqb→eq}
+use lib.Dec.{T}
 use lib.Ieee.{Float, neg, add, sub, mul, lt, le}
 use Rattle.doubles.specs.Arithmetic.{◌⊕◌, ◌⊖◌, ◌⊗◌, whole, decimal}
 use Rattle.doubles.specs.Order.{InRange, Number}
-use Rattle.doubles.proofs.Order.{lt→le, right_number}
-use Rattle.doubles.proofs.Bounds.{zero_number}
-use Rattle.doubles.proofs.Folds.{max_left}
-use Rattle.doubles.proofs.MinMax.{float_max_is}
+use Rattle.doubles.proofs.Order.{lt→le}
 use Rattle.doubles.proofs.Intervals.{in_number, add_in, sub_in, mul_in}
 use Rattle.angles.proofs.FirstQuarter.{most_tangent, tangent_up}
 use Rattle.words.specs.Lists.{PlaceByPlace}
@@ -21,22 +14,17 @@ use Rattle.objects.specs.declared.surface.Surface.{Surface}
 use Rattle.objects.specs.declared.sectors.ShadingObject.{ShadingObject}
 use Rattle.objects.specs.declared.sectors.ShadingSegment.{ShadingSegment}
 use Rattle.objects.specs.declared.window.WindowShadingObject.{WindowShadingObject}
-use Rattle.objects.specs.declared.window.WindowShadingType.TheVariants.{Obstacle, Overhang, SideFinRight, SideFinLeft}
-use Rattle.objects.specs.Objects.{is_obstacle, is_overhang, kind_number, of_kind, counted}
 use Rattle.objects.specs.Records.{sectors_of, window_objects_of}
 use Rattle.objects.specs.Surface.{surface_fine}
 use Rattle.object_checks.specs.Checks.{sectors_fine, window_fine}
 use Rattle.object_checks.proofs.Accepted.{base_height_range, height_range, width_range}
 use Rattle.object_checks.proofs.AcceptedSectors.{DistantInRange, sectors_in_range}
-use Rattle.object_checks.proofs.AcceptedWindow.{WindowInRange, ObstacleInRange, window_in_range}
+use Rattle.object_checks.proofs.AcceptedWindow.{WindowInRange, window_in_range}
 use Rattle.shading.specs.declared.sun_on_surface.SunOnSurface.{SunOnSurface}
-use Rattle.extents.specs.Extents.{obstacle_height, overhang_height}
-use Rattle.segments.specs.Segments.{found, segment_of}
-use Rattle.segments.proofs.SameWalks.{found_has}
-use Rattle.shading.specs.Factor.{extents, sun_on, near_obstacle_height, obstacle_extents, overhang_extents, window_overhang_extents, right_fin_extents, left_fin_extents}
-use Rattle.shading_laws.specs.Premises.{AcceptedSurface, Doubles, AllNumbers, NoNanExtent, NoNanAt, AcceptedNear}
+use Rattle.shading.specs.Factor.{sun_on}
+use Rattle.shading_laws.specs.Premises.{AcceptedSurface, Doubles, AcceptedNear}
 use Rattle.shading_laws.specs.Sizes.{asked_at, nothing, NotNegative, ShadesNoLess, same, taller_obstacle, nearer_obstacle, lower_overhang, farther_overhang, ReachesNoLess, deeper, nearer, DarkensNoLess, taller, closer, darker, WindowShadesNoLess, unchanged, overhang, right_fin, left_fin, near_obstacle_lem, SectorShadesNoLess}
-use Rattle.shading_laws.proofs.Members.{Extent, extents_from, map_places}
+use Rattle.shading_laws.proofs.Members.{map_places}
 
 -- ---- surfaces and near obstacles
 
@@ -61,9 +49,6 @@ accepted_near l t = record {
 
 not_negative : {o : WindowShadingObject} → WindowInRange o → NotNegative o
 not_negative r = record { size_from = lt→le r.size_range.0; distance_from = r.distance_range.from }
-
-two_kinds : (m n k : ℕ) → T (eqb m k) → T (eqb n k) → (m ≡ n → ⊥) → ⊥
-two_kinds m n k a b f = f (eqb→eq m k a ∙ sym (eqb→eq n k b))
 
 module _ (edition : ℕ) (surface : Surface) (t : T (surface_fine surface)) (altitude azimuth : Float) (r : InRange (whole 0) (whole 90) altitude) where
   abbrev sun : SunOnSurface
@@ -123,63 +108,3 @@ module _ (edition : ℕ) (surface : Surface) (t : T (surface_fine surface)) (alt
   pub window_asked : (w : List ℕ) {vs : List WindowShadingObject} → T (window_fine w) → PlaceByPlace (WindowShadesNoLess nothing) (window_objects_of w) vs
       → PlaceByPlace (WindowShadesNoLess (asked_at surface sun)) (window_objects_of w) vs
   window_asked w f = map_places (λ o p i j. at_window_asked o p (not_negative (window_in_range w f o i)))
-
-  -- ---- with near obstacles alone at the window no shade extent is NaN
-
-  height_number : {base height distance tan : Float} → InRange (whole 0) (whole 1000) base → InRange (whole 0) (whole 1000) height
-      → InRange (whole 0) (whole 10000) distance → InRange (whole 0) most_tangent tan → Number (obstacle_height base height distance tan)
-  unfolding obstacle_height whole neg sub mul le
-  height_number {base} {height} {distance} {tan} b h d u =
-      let above : InRange (neg (whole 1000)) (whole 1000) (height ⊖ base) = sub_in h b tt in
-      let far : InRange (whole 0) (whole (6 * 10 ^ 20)) (distance ⊗ tan) = mul_in d u tt tt in
-      let all : InRange (neg (whole (7 * 10 ^ 20))) (whole 1000) (height ⊖ base ⊖ distance ⊗ tan) = sub_in above far tt in
-      cut (lt (height ⊖ base ⊖ distance ⊗ tan) (whole 0)) (in_number all)
-    where
-      cut : (b : Bool) {x : Float} → Number x → Number (cond b (whole 0) x)
-      cut true n = zero_number
-      cut false n = n
-
-  pub near_number : {o : WindowShadingObject} → WindowInRange o → Number (near_obstacle_height surface sun o)
-  unfolding near_obstacle_height
-  near_number d =
-      height_number (base_height_range surface t) (record { from = lt→le d.size_range.0; to = d.size_range.1 }) d.distance_range up
-
-  obstacle_number : {o : ShadingObject} → DistantInRange o → Number (obstacle_height surface.base_height o.height o.distance sun.tan_altitude)
-  obstacle_number d =
-      height_number (base_height_range surface t) (record { from = lt→le d.height_range.0; to = d.height_range.1 })
-      (record { from = lt→le d.distance_range.0; to = d.distance_range.1 }) up
-
-  overhang_number : {o : ShadingObject} → DistantInRange o → Number (overhang_height surface.height surface.base_height o.height o.distance sun.tan_altitude)
-  unfolding overhang_height
-  overhang_number d = rw (float_max_is zero_number (reach d)) (right_number (max_left zero_number (reach d)))
-
-  distant_numbers : (kind : ShadingObject → Bool) (extent : ShadingObject → Float) → ((o : ShadingObject) → DistantInRange o → Number (extent o))
-      → (os : List ShadingObject) → ((o : ShadingObject) → Memᴰ o os → DistantInRange o) → AllNumbers (extents kind extent os)
-  distant_numbers kind extent f os h x m =
-      let e : Extent kind extent os x = extents_from kind extent os x m in
-      subst Number (sym e.value) (f e.object (h e.object e.member))
-
-  -- an obstacle is of no other kind
-  other_numbers : (kind : WindowShadingObject → Bool) → ((o : WindowShadingObject) → T (of_kind Obstacle o) → T (kind o) → ⊥)
-      → (extent : WindowShadingObject → Float) (ws : List WindowShadingObject) → ((o : WindowShadingObject) → Memᴰ o ws → ObstacleInRange o) → AllNumbers (extents kind extent ws)
-  other_numbers kind none extent ws h x m =
-      let e : Extent kind extent ws x = extents_from kind extent ws x m in
-      absurd (none e.object (h e.object e.member).obstacle e.of_kind_lem)
-
-  module _ (l : List ℕ) (f : T (sectors_fine l)) (ws : List WindowShadingObject) (h : (o : WindowShadingObject) → Memᴰ o ws → ObstacleInRange o) where
-    no_nan_extent : (s : ShadingSegment) → ((o : ShadingObject) → Memᴰ o (counted s) → DistantInRange o) → NoNanExtent surface sun (counted s) ws
-    unfolding obstacle_extents overhang_extents window_overhang_extents right_fin_extents left_fin_extents of_kind kind_number
-    no_nan_extent s d = record {
-      obstacles = distant_numbers is_obstacle _ (λ o. obstacle_number) (counted s) d;
-      overhangs = distant_numbers is_overhang _ (λ o. overhang_number) (counted s) d;
-      window_overhangs = other_numbers (of_kind Overhang) (λ o a b. two_kinds 0 1 (kind_number o.object_type) a b (λ e. omega (arith, e))) _ ws h;
-      right_fins = other_numbers (of_kind SideFinRight) (λ o a b. two_kinds 0 2 (kind_number o.object_type) a b (λ e. omega (arith, e))) _ ws h;
-      left_fins = other_numbers (of_kind SideFinLeft) (λ o a b. two_kinds 0 3 (kind_number o.object_type) a b (λ e. omega (arith, e))) _ ws h;
-      near_obstacles = λ o m k. near_number (h o m).in_range;
-    }
-
-    pub no_nan_found : (s : ShadingSegment) → segment_of azimuth (sectors_of l) ≡ found s → NoNanExtent surface sun (counted s) ws
-    no_nan_found = found_has (λ s. NoNanExtent surface sun (counted s) ws) azimuth (sectors_of l) (λ s m. no_nan_extent s (sectors_in_range l f s m))
-
-    pub no_nan_at : NoNanAt edition surface altitude azimuth (sectors_of l) ws
-    no_nan_at = record { at_found = λ i s e. no_nan_found s e }

@@ -99,7 +99,7 @@ sizes_at_one_step edition surface altitude azimuth ss ts ws vs a b c n m p q = g
 -- ---- in two calls
 
 -- an accepted sun's altitude
-pub altitude_range : (altitude azimuth : Float) → T (sun_fine altitude azimuth) → InRange (whole 0) (whole 90) altitude
+altitude_range : (altitude azimuth : Float) → T (sun_fine altitude azimuth) → InRange (whole 0) (whole 90) altitude
 unfolding sun_fine
 altitude_range altitude azimuth t = within_range (whole 0) (whole 90) altitude (both_of (within (whole 0) (whole 90) altitude) _ t).0
 

@@ -1,4 +1,6 @@
 // The calls for one step.
+#![tactic(auto)]
+
 ghost use Rattle.std.specs.Prelude.{◌≡◌, true};
 ghost use Rattle.object_checks.specs.Checks.{sectors_fine, window_fine};
 ghost use Rattle.jobs.specs.JobChecks.{tried};

@@ -1,4 +1,6 @@
 // Pieces of text.
+#![tactic(auto)]
+
 ghost use Rattle.std.specs.Prelude.{◌≡◌, ◌-◌, min, length};
 ghost use Rattle.text.specs.Text.{same_text, filled, used_after, line_end};
 

@@ -1,4 +1,6 @@
 // Day and month totals: records in a lent list of bytes. Those of the day and the month that a run is in are kept by value.
+#![tactic(auto)]
+
 ghost use Rattle.std.specs.Prelude.{◌≡◌, ◌+◌, ◌*◌, ◌≤◌, ◌<◌, length};
 ghost use Rattle.calendar.specs.Calendar.{days_in_year};
 ghost use Rattle.jobs.specs.Totals.{with_step, totals_count, totals_at, put_totals};

@@ -1,4 +1,6 @@
 // The weather of a step: a value of each of the three series, which are lent as lists of words.
+#![tactic(auto)]
+
 ghost use Rattle.std.specs.Prelude.{◌≡◌};
 ghost use Rattle.weather.specs.Weather.{reading_fine, in_series, read_series};
 

@@ -1,5 +1,7 @@
 // Words of eight bytes and doubles in lent lists of bytes. Every function is total, but for those that end in `within`: what lies
 // outside the list reads as 0, and is not written.
+#![tactic(auto)]
+
 
 ghost use Rattle.std.specs.Prelude.{◌≡◌, not, [], ◌∷◌, ◌<◌, T};
 ghost use Rattle.std.specs.Float.{binary64};

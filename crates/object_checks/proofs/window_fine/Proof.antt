@@ -5,7 +5,6 @@ use mathlib.Core.Bool.{◌&&◌}
 use Prim.Native.Nat.{◌-◌, ◌≤◌}
 use borrow.Author.Rules.{rules}
 use Rattle.words.specs.Lists.{first_fine}
-use Rattle.words.specs.Words.{word_count}
 use Rattle.object_checks.specs.Checks.{window_fine, window_record_fine}
 use Rattle.words.proofs.Lists.{one_more}
 use Rattle.object_checks.proofs.RecordLists.{part_record, too_long, all_records}
@@ -31,7 +30,6 @@ unfolding first_fine
 loop-holds c = (omega arith, refl)
 
 window-record-fine-requires : tie.Need-window-record-fine-requires invariant-loop decreases-loop
-unfolding word_count
 window-record-fine-requires c κs = omega arith
 
 add-i : tie.Need-overflow-add-i invariant-loop decreases-loop

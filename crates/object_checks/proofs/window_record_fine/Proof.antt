@@ -1,41 +1,35 @@
 -- `window_record_fine` meets its contract: the words are those of the definition.
 use Rattle.object_checks.specs.Checks.{window_record_fine}
 use native.Mathlib.Omega.{arith}
-use Rattle.words.specs.Words.{word_count}
 use Rattle.object_checks.proofs.window_record_fine.Statement.{statement}
 use Rattle.object_checks.proofs.window_record_fine.Tie as tie
 
 mul-k : tie.Need-overflow-mul-k
-unfolding word_count
-mul-k c = omega (arith, c.before.requires)
+mul-k c = omega arith
 
 word-at-requires : tie.Need-word-at-requires
 word-at-requires c κs = tt
 
 add-double-at : tie.Need-overflow-add-double-at
-unfolding word_count
-add-double-at c = omega (arith, c.before.before.requires)
+add-double-at c = omega arith
 
 double-at-requires : tie.Need-double-at-requires
 double-at-requires c κs = tt
 
 add-double-at-2 : tie.Need-overflow-add-double-at-2
-unfolding word_count
-add-double-at-2 c = omega (arith, c.before.before.before.requires)
+add-double-at-2 c = omega arith
 
 double-at-requires-2 : tie.Need-double-at-requires-2
 double-at-requires-2 c κs = tt
 
 add-double-at-3 : tie.Need-overflow-add-double-at-3
-unfolding word_count
-add-double-at-3 c = omega (arith, c.before.before.before.before.requires)
+add-double-at-3 c = omega arith
 
 double-at-requires-3 : tie.Need-double-at-requires-3
 double-at-requires-3 c κs = tt
 
 add-word-at : tie.Need-overflow-add-word-at
-unfolding word_count
-add-word-at c = omega (arith, c.before.before.before.before.before.requires)
+add-word-at c = omega arith
 
 word-at-requires-2 : tie.Need-word-at-requires-2
 word-at-requires-2 c κs = tt

@@ -47,9 +47,6 @@ enum-told-13 c = search rules
 enum-told-14 : tie.Need-enum-told-14
 enum-told-14 c = search rules
 
-enum-told-15 : tie.Need-enum-told-15
-enum-told-15 c = search rules
-
 returns : tie.Need-returns
 unfolding number_of
 returns c = sym (ap number_of c.enum_told.given.1)
@@ -106,10 +103,6 @@ returns-14 : tie.Need-returns-14
 unfolding number_of
 returns-14 c = sym (ap number_of c.enum-told14.given.1)
 
-returns-15 : tie.Need-returns-15
-unfolding number_of
-returns-15 c = sym (ap number_of c.enum-told15.given.1)
-
 pub number-of-spec : {M : Type 1} → statement M
 number-of-spec =
     tie.close
@@ -128,7 +121,6 @@ number-of-spec =
     enum-told-12
     enum-told-13
     enum-told-14
-    enum-told-15
     returns
     returns-2
     returns-3
@@ -142,5 +134,4 @@ number-of-spec =
     returns-11
     returns-12
     returns-13
-    returns-14
-    returns-15)
+    returns-14)

@@ -1,0 +1,12 @@
+-- `words::double_within` meets its contract.
+use mathlib.Core.Path.{◌∙◌, ap}
+use lib.Ieee.{binary64, of_bits}
+use Rattle.words.specs.Words.{double_at}
+use Rattle.words.proofs.double_within.Goals as goal
+
+pub word_within-requires : goal.word_within-requires
+word_within-requires c = c.requires
+
+pub returns : goal.returns
+unfolding double_at
+returns c = c.double_of_bits.ensures ∙ ap (of_bits binary64) c.word_within.ensures
