@@ -26,8 +26,8 @@ fn whole_root(h: u64) -> u64
 // the bit pattern, mended by a step of Newton's method and one of the next order, less a margin. Nothing
 // rests on it: the caller tests it.
 fn guess(m: u64, p: u64) -> u64
-    requires fact_1 { m < 2 ^ 53 }
-    requires fact_2 { p < 2 }
+    requires m_bound { m < 2 ^ 53 }
+    requires p_bound { p < 2 }
     ensures { result < 2 ^ 32 }
 {
     let b = m + (1022 + p) * 0x10_0000_0000_0000;
@@ -62,8 +62,8 @@ fn lower_root(h: u64, g: u64) -> u64
 // The whole number nearest to the root of h * 2^42, with a guess g at h's root. With s below h's root
 // and near it, r = s * 2^21 + q is near the root of h * 2^42, which is r^2 + rest * 2^21 - q^2.
 fn nearest_root(h: u64, g: u64) -> u64
-    requires fact_1 { 2 ^ 62 ≤ h }
-    requires fact_2 { g < 2 ^ 32 }
+    requires h_bound { 2 ^ 62 ≤ h }
+    requires g_bound { g < 2 ^ 32 }
     ensures { result ≡ nearest_root 53 (h * 2 ^ 42) }
 {
     let s = lower_root(h, g);
@@ -80,9 +80,9 @@ fn nearest_root(h: u64, g: u64) -> u64
 
 // The root of m * 2^f / 2^54 units of 2^-1074, whose significand r has 53 digits: with k = f / 2 it is r * 2^k / 2^590.
 fn root_of(m: u64, f: u64) -> f64
-    requires fact_1 { 2 ^ 52 ≤ m }
-    requires fact_2 { m < 2 ^ 53 }
-    requires fact_3 { f ≤ 2099 }
+    requires from_digits { 2 ^ 52 ≤ m }
+    requires to_digits { m < 2 ^ 53 }
+    requires f_bound { f ≤ 2099 }
     ensures { result ≡ odd 53 false (nearest_root 53 (m * 2 ^ (f % 2) * 2 ^ 52)) (f / 2) 590 }
 {
     let p = f % 2;
@@ -92,8 +92,8 @@ fn root_of(m: u64, f: u64) -> f64
 
 // The root of the positive finite double with the pattern b.
 fn root_of_bits(b: u64) -> f64
-    requires fact_1 { 0 < b }
-    requires fact_2 { b < 0x7ff0_0000_0000_0000 }
+    requires positive { 0 < b }
+    requires finite { b < 0x7ff0_0000_0000_0000 }
     ensures { result ≡ square_root (of_bits binary64 b) }
 {
     let field = b / 0x10_0000_0000_0000;

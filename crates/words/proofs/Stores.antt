@@ -49,10 +49,10 @@ sets_comm l i j (v ∷ vs) ws h =
 -- the same where the run is made under a test alone
 module _ (b : Bool) (l : List ℕ) (i : ℕ) (vs : List ℕ) where
   pub length_tested : length (cond b (sets l i vs) l) ≡ length l
-  length_tested = elim b [ false ↦ refl | true ↦ length-sets l i vs ]
+  length_tested = elim b as (λ t. length (cond t (sets l i vs) l) ≡ length l) [ false ↦ refl | true ↦ length-sets l i vs ]
 
   pub before_tested : (j : ℕ) → j < i → get_or (cond b (sets l i vs) l) j 0 ≡ get_or l j 0
-  before_tested j h = elim b [ false ↦ refl | true ↦ get_d_sets_before l j i vs h ]
+  before_tested j h = elim b as (λ t. get_or (cond t (sets l i vs) l) j 0 ≡ get_or l j 0) [ false ↦ refl | true ↦ get_d_sets_before l j i vs h ]
 
   pub behind_tested : (j : ℕ) → i + length vs ≤ j → get_or (cond b (sets l i vs) l) j 0 ≡ get_or l j 0
-  behind_tested j h = elim b [ false ↦ refl | true ↦ get_d_sets_behind l j i vs h ]
+  behind_tested j h = elim b as (λ t. get_or (cond t (sets l i vs) l) j 0 ≡ get_or l j 0) [ false ↦ refl | true ↦ get_d_sets_behind l j i vs h ]

@@ -12,4 +12,4 @@ overflow_mul-g c = record { fits = square-fits c.args.g c.requires }
 pub returns : goal.returns
 returns c =
     let h = c.args.h in
-    subst (Lower h) (sym c.whole_root.ensures) (floor_lower h (whole_root 32 h) (whole_floor 32 h c.ranges.h))
+    subst (Lower h) (sym c.whole_root.ensures) (floor_lower h (whole_root 32 h) (whole_floor 32 h c.ranges.h.fits))

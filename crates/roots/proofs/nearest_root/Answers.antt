@@ -4,29 +4,28 @@ use native.Mathlib.Omega.{arith}
 use Rattle.roots.proofs.Remainder.{lower_ge, lower_lt, quotient_le, rest_lt, square_le, quotient, rest, stays_is, rises_is}
 use borrow.Author.Rules.{rules}
 use Rattle.roots.proofs.nearest_root.Goals as goal
-use Rattle.roots.proofs.nearest_root.Lts as lts
 
 -- the operand and the lower root, and the laws at them
-abbrev h : lts.After-lower_root-s → ℕ
+abbrev h : goal.After-lower_root-s → ℕ
 h c = c.args.h
 
-abbrev s : lts.After-lower_root-s → ℕ
+abbrev s : goal.After-lower_root-s → ℕ
 s c = c.lower_root-s.result
 
-ge : (c : lts.After-lower_root-s) → 2 ^ 30 ≤ s c
-ge c = lower_ge (h c) (s c) c.requires.0 c.ranges.h c.lower_root-s.ensures
+ge : (c : goal.After-lower_root-s) → 2 ^ 30 ≤ s c
+ge c = lower_ge (h c) (s c) c.requires.h_bound c.ranges.h.fits c.lower_root-s.ensures
 
-lt : (c : lts.After-lower_root-s) → s c < 2 ^ 32
-lt c = lower_lt (h c) (s c) c.requires.0 c.ranges.h c.lower_root-s.ensures
+lt : (c : goal.After-lower_root-s) → s c < 2 ^ 32
+lt c = lower_lt (h c) (s c) c.requires.h_bound c.ranges.h.fits c.lower_root-s.ensures
 
-quotient_in : (c : lts.After-lower_root-s) → quotient (h c) (s c) ≤ 2 ^ 25
-quotient_in c = quotient_le (h c) (s c) c.requires.0 c.ranges.h c.lower_root-s.ensures
+quotient_in : (c : goal.After-lower_root-s) → quotient (h c) (s c) ≤ 2 ^ 25
+quotient_in c = quotient_le (h c) (s c) c.requires.h_bound c.ranges.h.fits c.lower_root-s.ensures
 
-rest_in : (c : lts.After-lower_root-s) → rest (h c) (s c) < 2 * s c
-rest_in c = rest_lt (h c) (s c) c.requires.0 c.ranges.h c.lower_root-s.ensures
+rest_in : (c : goal.After-lower_root-s) → rest (h c) (s c) < 2 * s c
+rest_in c = rest_lt (h c) (s c) c.requires.h_bound c.ranges.h.fits c.lower_root-s.ensures
 
-square_in : (c : lts.After-lower_root-s) → quotient (h c) (s c) * quotient (h c) (s c) ≤ 2 ^ 50
-square_in c = square_le (h c) (s c) c.requires.0 c.ranges.h c.lower_root-s.ensures
+square_in : (c : goal.After-lower_root-s) → quotient (h c) (s c) * quotient (h c) (s c) ≤ 2 ^ 50
+square_in c = square_le (h c) (s c) c.requires.h_bound c.ranges.h.fits c.lower_root-s.ensures
 
 pub overflow_mul-d-2 : goal.overflow_mul-d-2
 overflow_mul-d-2 c = omega (arith, lt c)
@@ -59,10 +58,10 @@ pub overflow_add-q : goal.overflow_add-q
 overflow_add-q c = omega (arith, lt c, quotient_in c, square_in c)
 
 pub overflow_add-result : goal.overflow_add-result
-overflow_add-result c = omega (arith, lt c, quotient_in c)
+overflow_add-result c = omega (arith, lt c.before, quotient_in c.before)
 
 pub returns-then-rest-q : goal.returns-then-rest-q
-returns-then-rest-q c = rises_is (h c) (s c) c.requires.0 c.ranges.h c.lower_root-s.ensures c.if-rest-q.true
+returns-then-rest-q c = rises_is (h c.before) (s c.before) c.requires.h_bound c.ranges.h.fits c.lower_root-s.ensures c.if-rest-q.true
 
 pub returns-else-rest-q : goal.returns-else-rest-q
-returns-else-rest-q c = stays_is (h c) (s c) c.requires.0 c.ranges.h c.lower_root-s.ensures c.if-rest-q.false
+returns-else-rest-q c = stays_is (h c.before) (s c.before) c.requires.h_bound c.ranges.h.fits c.lower_root-s.ensures c.if-rest-q.false

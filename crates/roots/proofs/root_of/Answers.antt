@@ -10,7 +10,6 @@ use Rattle.roots.proofs.Scale.{scaled, radicand, scaled_in, root_digits}
 use Rattle.roots.proofs.Pattern.{finite_bits, pattern}
 use borrow.Author.Rules.{rules}
 use Rattle.roots.proofs.root_of.Goals as goal
-use Rattle.roots.proofs.root_of.Lts as lts
 
 -- what is handed over is n, and nothing is shifted out
 handed : (m f : ℕ) → 2 ^ 52 ≤ m → m < 2 ^ 53 → m * 2 ^ (f % 2) % 2 ^ 64 * 1024 * 2 ^ 42 ≡ radicand m f
@@ -19,19 +18,19 @@ handed m f lo hi = ap (λ (w : ℕ). w * 1024 * 2 ^ 42) (mod-eq_of_lt (few (scal
     few : (w : ℕ) → w + 2 ≤ 2 ^ 54 → w < 2 ^ 64
     few w h = omega arith
 
-is_root : (c : lts.After-nearest_root-r) → c.nearest_root-r.result ≡ nearest_root 53 (radicand c.args.m c.args.f)
-is_root c = c.nearest_root-r.ensures ∙ ap (nearest_root 53) (handed c.args.m c.args.f c.requires.0 c.requires.1.0)
+is_root : (c : goal.After-nearest_root-r) → c.nearest_root-r.result ≡ nearest_root 53 (radicand c.args.m c.args.f)
+is_root c = c.nearest_root-r.ensures ∙ ap (nearest_root 53) (handed c.args.m c.args.f c.requires.from_digits c.requires.to_digits)
 
-digits : (c : lts.After-nearest_root-r) → (2 ^ 52 ≤ c.nearest_root-r.result) × (c.nearest_root-r.result < 2 ^ 53)
+digits : (c : goal.After-nearest_root-r) → (2 ^ 52 ≤ c.nearest_root-r.result) × (c.nearest_root-r.result < 2 ^ 53)
 digits c =
     subst (λ (r : ℕ). (2 ^ 52 ≤ r) × (r < 2 ^ 53)) (sym (is_root c))
-    (root_digits c.args.m c.args.f c.requires.0 c.requires.1.0)
+    (root_digits c.args.m c.args.f c.requires.from_digits c.requires.to_digits)
 
 pub overflow_mul-m : goal.overflow_mul-m
-overflow_mul-m c = omega (arith, scaled_in c.args.m c.args.f c.requires.0 c.requires.1.0)
+overflow_mul-m c = omega (arith, scaled_in c.args.m c.args.f c.requires.from_digits c.requires.to_digits)
 
 pub nearest_root-r-requires : goal.nearest_root-r-requires
-nearest_root-r-requires c = (omega (arith, scaled_in c.args.m c.args.f c.requires.0 c.requires.1.0), c.guess.ensures)
+nearest_root-r-requires c = record { h_bound = omega (arith, scaled_in c.args.m c.args.f c.requires.from_digits c.requires.to_digits); g_bound = c.guess.ensures }
 
 pub overflow_add-result-2 : goal.overflow_add-result-2
 overflow_add-result-2 c = omega (arith, digits c)
@@ -41,7 +40,7 @@ float_from_bits-result c = finite_bits _ (omega (arith, digits c))
 
 pub returns : goal.returns
 returns c =
-    pattern c.nearest_root-r.result (c.args.f / 2) (digits c).0 (digits c).1 (half c.args.f c.requires.1.1)
+    pattern c.nearest_root-r.result (c.args.f / 2) (digits c).0 (digits c).1 (half c.args.f c.requires.f_bound)
     ∙ ap (λ (r : ℕ). odd 53 false r (c.args.f / 2) 590) (is_root c)
   where
     half : (f : ℕ) → f ≤ 2099 → f / 2 ≤ 1050

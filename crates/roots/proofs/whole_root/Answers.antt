@@ -11,7 +11,6 @@ use mir.Syntax.{w64}
 use Rattle.roots.specs.Root.{whole_root}
 use Rattle.roots.proofs.Whole.{part, next_digit, whole_lt}
 use Rattle.roots.proofs.whole_root.Goals as goal
-use Rattle.roots.proofs.whole_root.Lts as lts
 
 -- in a turn, r has at most 31 digits
 short : (h i r : ℕ) → i < 32 → r ≡ whole_root i (part h i) → r < 2 ^ 31
@@ -61,7 +60,7 @@ pub overflow_shr-h : goal.overflow_shr-h
 overflow_shr-h c = omega arith
 
 pub overflow_add-r-then-r-h : goal.overflow_add-r-then-r-h
-overflow_add-r-then-r-h c = omega (arith, in_turn c)
+overflow_add-r-then-r-h c = omega (arith, in_turn c.before)
 
 pub loop-i-smaller-then-r-h : goal.loop-i-smaller-then-r-h
 loop-i-smaller-then-r-h c = omega arith
@@ -76,13 +75,13 @@ digit c b e =
     sym (next_digit h i r c.loop-i-test.true c.loop-i.invariant.1 ∙ ap (λ (t : Bool). cond t (r * 2 + 1) (r * 2)) e)
 
 pub loop-i-preserved-then-r-h : goal.loop-i-preserved-then-r-h
-loop-i-preserved-then-r-h c = (omega arith, digit c true (le-leb _ _ c.if-r-h.true))
+loop-i-preserved-then-r-h c = (omega arith, digit c.before true (le-leb _ _ c.if-r-h.true))
 
 pub loop-i-smaller : goal.loop-i-smaller
 loop-i-smaller c = omega arith
 
 pub loop-i-preserved : goal.loop-i-preserved
-loop-i-preserved c = (omega arith, digit c false (lt-leb _ _ c.if-r-h.false))
+loop-i-preserved c = (omega arith, digit c.before false (lt-leb _ _ c.if-r-h.false))
 
 pub returns : goal.returns
 returns c = ended c.args.h c.loop-i.i c.loop-i.r c.loop-i.invariant.0 c.loop-i-test.false c.loop-i.invariant.1

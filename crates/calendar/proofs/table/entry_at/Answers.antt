@@ -6,21 +6,11 @@ use lib.ListN.{get_or}
 use borrow.Author.Rules.{rules}
 use Rattle.calendar.specs.Calendar.{entry_at}
 use Rattle.calendar.proofs.Entries.{values_from, value_at_lem}
-use Rattle.calendar.proofs.table.entry_at.Statement.{statement}
-use Rattle.calendar.proofs.table.entry_at.Tie as tie
-
-mul-result : tie.Need-overflow-mul-result
-mul-result c = search rules
-
-array-read-result : tie.Need-array-read-result
-array-read-result c = search rules
+use Rattle.calendar.proofs.table.entry_at.Goals as goal
 
 dates : (place : ℕ) → place < 366 → get_or (values_from entry_at 0 366) place 0 ≡ entry_at place
 dates place h = let e : 0 + place ≡ place = omega arith in value_at_lem entry_at 0 366 place h ∙ ap entry_at e
 
-returns : tie.Need-returns
+pub returns : goal.returns
 unfolding entry_at
 returns c = dates c.args.place c.requires
-
-pub entry-at-spec : {M : Type 1} → statement M
-entry-at-spec = tie.close (tie.spec mul-result array-read-result returns)
