@@ -102,6 +102,8 @@ cosine_series_small r h =
 -- ---- from −1 to 1
 small_number : (k : ℕ) (x : Float) → Small k x → Number x
 unfolding is_nan
+small_number k nan h = elim h [ ]
+small_number k (lib.Ieee.inf _) h = elim h [ ]
 small_number k (fin s m e) h = record { holds = tt }
 
 sine_at_small : (q k : ℕ) (s c : Float) → Small k s → Small k c → Small k (sine_at q s c)

@@ -18,10 +18,14 @@ Small k (inf s) = ⊥
 Small k (fin s m e) = m * up e ≤ 2 ^ k * down e
 
 pub more_small : (j k : ℕ) (x : Float) → j ≤ k → Small j x → Small k x
+more_small j k nan l h = elim h [ ]
+more_small j k (inf _) l h = elim h [ ]
 more_small j k (fin s m e) l h = le_trans h (mul-le-mul_right (down e) (pow_mono l))
 
 pub neg_small : (k : ℕ) (x : Float) → Small k x → Small k (neg x)
 unfolding neg
+neg_small k nan h = elim h [ ]
+neg_small k (inf _) h = elim h [ ]
 neg_small k (fin s m e) h = h
 
 -- ---- a fraction of at most 2 ^ k rounds to at most 2 ^ k
@@ -83,6 +87,10 @@ sum_small k s a t b c l C p q = go (beq s t) (ltb a b)
 
 pub add_small : (k : ℕ) (x y : Float) → suc k ≤ 1023 → Small k x → Small k y → Small (suc k) (x ⊕ y)
 unfolding add
+add_small k nan y l p q = elim p [ ]
+add_small k (inf _) y l p q = elim p [ ]
+add_small k (fin s m e) nan l p q = elim q [ ]
+add_small k (fin s m e) (inf _) l p q = elim q [ ]
 add_small k (fin s m e) (fin t n d) l p q =
     sum_small k s (m * up e * down d) t (n * up d * down e) (down e * down d) l (mul-pos (down_pos e) (down_pos d))
     (le_trans (mul-le-mul_right (down d) p) (le_of_eq (mul_assoc (2 ^ k) (down e) (down d))))
@@ -94,6 +102,10 @@ sub_small k x y l p q = add_small k x (neg y) l p (neg_small k y q)
 
 pub mul_small : (j k : ℕ) (x y : Float) → j + k ≤ 1023 → Small j x → Small k y → Small (j + k) (x ⊗ y)
 unfolding mul
+mul_small j k nan y l p q = elim p [ ]
+mul_small j k (inf _) y l p q = elim p [ ]
+mul_small j k (fin s m e) nan l p q = elim q [ ]
+mul_small j k (fin s m e) (inf _) l p q = elim q [ ]
 mul_small j k (fin s m e) (fin t n d) l p q =
     round_small (j + k) (unlike s t) (m * up e * (n * up d)) (down e * down d) l (mul-pos (down_pos e) (down_pos d))
     (le_trans (mul-le-mul p q) (le_of_eq (simp (mul_assoc, mul_comm, mul_left_comm, pow-add))))
@@ -105,6 +117,8 @@ Divisor (inf s) = ⊥
 Divisor (fin s m e) = down e ≤ m * up e
 
 pub by_value : (x : Float) (n : ℕ) → 0 < n → HasValue x false n 1 → Divisor x
+by_value nan n h v = elim v [ ]
+by_value (inf _) n h v = elim v [ ]
 by_value (fin s m e) n h v = le_trans (le_trans (le_of_eq (sym (one-mul (down e)))) (mul-le-mul_right (down e) h)) (le_of_eq (sym v.1 ∙ mul-one (m * up e)))
 
 above : (d n u : ℕ) → 0 < d → d ≤ n * u → eqb n 0 ≡ false
@@ -113,6 +127,10 @@ above d (suc n) u D h = eqb-suc-zero n
 
 pub div_small : (k : ℕ) (x y : Float) → k ≤ 1023 → Small k x → Divisor y → Small k (x ⊘ y)
 unfolding div
+div_small k nan y l p q = elim p [ ]
+div_small k (inf _) y l p q = elim p [ ]
+div_small k (fin s m e) nan l p q = elim q [ ]
+div_small k (fin s m e) (inf _) l p q = elim q [ ]
 div_small k (fin s m e) (fin t n d) l p q =
     rw (above (down d) n (up d) (down_pos d) q)
     (round_small k (unlike s t) (m * up e * down d) (n * up d * down e) l (mul-pos (le_trans (down_pos d) q) (down_pos e))

@@ -52,6 +52,8 @@ quadrant_next n h =
 -- ---- the whole part
 pub part_le : (v : Float) → Small 7 v → to_unsigned 64 v ≤ 128
 unfolding to_unsigned
+part_le nan h = elim h [ ]
+part_le (inf _) h = elim h [ ]
 part_le (fin true m e) h = omega arith
 part_le (fin false m e) h =
     let l : m * up e / down e ≤ 128 = div-le_of_le-mul (down e) (le_trans h (le_of_eq (mul_comm (2 ^ 7) (down e)))) in
@@ -63,6 +65,8 @@ unfolding whole
 in_range v h t = simp (t, is_true (lt v (fin false 1 (pos 52))) (below v h))
   where
     below : (v : Float) → Small 7 v → T (lt v (fin false 1 (pos 52)))
+    below nan h = elim h [ ]
+    below (inf _) h = elim h [ ]
     below (fin true m e) h = let d = down_pos e in unfold lt in lt→ltb 0 (m * up e * 1 + 2 ^ 52 * down e) (omega arith)
     below (fin false m e) h = let d = down_pos e in unfold lt in lt→ltb (m * up e * 1) (2 ^ 52 * down e) (omega arith)
 
@@ -75,6 +79,8 @@ Sides v = ((s : Bool) × (v ≡ fin s 0 (pos 0))) ⊎ ((lt v (whole 0) ≡ true)
 
 not_above : (v : Float) → T (fits binary64 v) → Small 7 v → lt (whole 0) v ≡ false → Sides v
 unfolding whole neg
+not_above nan f h t = elim h [ ]
+not_above (inf _) f h t = elim h [ ]
 not_above (fin s zero e) f h t =
     inl (s, same_value_lem (fin s 0 e) (fin s 0 (pos 0)) s 0 1 (zero-lt-suc 0) f (unfold fits in tt) (refl, omega arith) (refl, refl))
 not_above (fin false (suc m) e) f h t =

@@ -6,19 +6,19 @@ use Rattle.angles.proofs.cos.Goals as goal
 
 pub returns-in-0 : goal.returns-in-0
 unfolding cosine cosine_at
-returns-in-0 c = c.clamped.ensures ∙ sym (at_quadrant cosine_at 0 c.expand-angle.ensures c.in-0.keys1 (lit< tt))
+returns-in-0 c = c.clamped.ensures ∙ sym (at_quadrant cosine_at 0 c.expand-angle.ensures c.in-0.is (lit< tt))
 
 pub returns-in-1 : goal.returns-in-1
 unfolding cosine cosine_at
-returns-in-1 c = c.clamped-in-1.ensures ∙ sym (at_quadrant cosine_at 1 c.expand-angle.ensures c.in-0.keys2 (lit< tt))
+returns-in-1 c = c.clamped-in-1.ensures ∙ sym (at_quadrant cosine_at 1 c.expand-angle.ensures c.in-1.is (lit< tt))
 
 pub returns-in-2 : goal.returns-in-2
 unfolding cosine cosine_at
-returns-in-2 c = c.clamped-in-2.ensures ∙ sym (at_quadrant cosine_at 2 c.expand-angle.ensures c.in-0.keys3 (lit< tt))
+returns-in-2 c = c.clamped-in-2.ensures ∙ sym (at_quadrant cosine_at 2 c.expand-angle.ensures c.in-2.is (lit< tt))
 
 pub returns-in-3 : goal.returns-in-3
 unfolding cosine cosine_at
-returns-in-3 c = c.clamped-in-3.ensures ∙ sym (at_quadrant cosine_at 3 c.expand-angle.ensures c.in-0.keys4 (lit< tt))
+returns-in-3 c = c.clamped-in-3.ensures ∙ sym (at_quadrant cosine_at 3 c.expand-angle.ensures c.in-3.is (lit< tt))
 
 pub returns-in_default : goal.returns-in_default
 unfolding cosine of_bits div

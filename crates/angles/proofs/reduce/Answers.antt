@@ -8,7 +8,7 @@ use Rattle.angles.proofs.reduce.Goals as goal
 
 pub truncating_f64_to_u64-n-requires : goal.truncating_f64_to_u64-n-requires
 unfolding is_angle unfloored whole of_bits neg
-truncating_f64_to_u64-n-requires c = ask_up c.args.a c.if-a.true c.if-v.true
+truncating_f64_to_u64-n-requires c = let met = ask_up c.args.a c.if-a.true c.if-v.true in record { lower_bound = met.0; upper_bound = met.1 }
 
 pub overflow_cast-n : goal.overflow_cast-n
 unfolding is_angle unfloored whole of_bits neg
@@ -23,7 +23,7 @@ returns-then-v c =
 
 pub truncating_f64_to_u64-n-requires-then-a : goal.truncating_f64_to_u64-n-requires-then-a
 unfolding is_angle unfloored whole of_bits neg
-truncating_f64_to_u64-n-requires-then-a c = ask_down c.args.a c.if-a.true c.if-v.false
+truncating_f64_to_u64-n-requires-then-a c = let met = ask_down c.args.a c.if-a.true c.if-v.false in record { lower_bound = met.0; upper_bound = met.1 }
 
 pub overflow_cast-n-then-a : goal.overflow_cast-n-then-a
 unfolding is_angle unfloored whole of_bits neg

@@ -1,0 +1,13 @@
+-- `window_of` meets its contract. The loop's invariant: the objects so far stand in their places.
+use mathlib.Core.Path.{◌≡◌, refl, sym, ap, ◌∙◌, subst}
+use Prim.Native.Nat.{ℕ, ◌-◌, ◌/◌, ◌≤◌, ◌<◌}
+use native.Mathlib.Omega.{arith}
+use Rattle.objects.specs.Records.{window_object_at, window_count, no_window_object, window_of, filled}
+use Rattle.objects.proofs.Places.{none_filled, one_filled}
+use Rattle.objects.proofs.records.window_of.Given as goal
+
+abbrev pub invariant-loop-i : goal.invariant-loop-i
+invariant-loop-i l = (l.i ≤ l.n) × (l.n ≤ 16) × (l.window.count ≡ l.n) × (l.window.objects ≡ filled (window_object_at l.bytes) no_window_object 16 l.i)
+
+abbrev pub decreases-loop-i : goal.decreases-loop-i
+decreases-loop-i l = l.n - l.i
