@@ -8,7 +8,7 @@ ghost use Rattle.angles.specs.Sine.{remainder, sine_sum, cosine_sum, sine, cosin
 ghost use Rattle.angles.specs.Reduction.{Reduces, Expands};
 
 // The brackets of both series, before the sine's is multiplied by the angle's rest.
-#[derive(Drop)]
+#[derive(Clone, Copy)]
 struct Sums {
     sine: f64,
     cosine: f64,
@@ -40,7 +40,7 @@ fn sum_both(t: f64) -> Sums
 }
 
 // An angle's quarter turns modulo 4 and the rest; quadrant 4 where it is no angle.
-#[derive(Drop)]
+#[derive(Clone, Copy)]
 struct Reduced {
     quadrant: u64,
     rest: f64,
@@ -80,7 +80,7 @@ fn reduce(a: f64) -> Reduced
 }
 
 // An angle reduced, with both sums of its rest.
-#[derive(Drop)]
+#[derive(Clone, Copy)]
 struct Expansion {
     quadrant: u64,
     rest: f64,
@@ -137,7 +137,7 @@ pub fn cos(a: f64) -> f64
 }
 
 // The sine and the cosine of one angle.
-#[derive(Drop)]
+#[derive(Clone, Copy)]
 pub struct SinCos {
     pub sin: f64,
     pub cos: f64,

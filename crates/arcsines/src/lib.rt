@@ -7,7 +7,7 @@ ghost use Rattle.arcsines.specs.Arcsine.{arcsine_series, complement, upward_by, 
 ghost use Rattle.arcsines.specs.ArcsineParts.{both, first_steps, last_steps, magnitude, series_argument, arcsine_by};
 
 // Two numbers at once.
-#[derive(Drop)]
+#[derive(Clone, Copy)]
 pub struct Both {
     pub first: f64,
     pub second: f64,

@@ -9,7 +9,7 @@ use crate::table::entry_at;
 pub mod table;
 
 // Both count from 1.
-#[derive(Drop)]
+#[derive(Clone, Copy)]
 pub struct Date {
     pub month: u32,
     pub day: u32,

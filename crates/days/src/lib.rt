@@ -62,7 +62,7 @@ pub fn init_extra_terrestrial_radiation(earth_orbit_deviation: f64) -> f64
 }
 
 // Declination in degrees, equation of time in minutes, extra-terrestrial radiation in W/m².
-#[derive(Drop)]
+#[derive(Clone, Copy)]
 pub struct Day {
     pub declination: f64,
     pub equation_of_time: f64,

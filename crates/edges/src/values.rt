@@ -8,7 +8,7 @@ use jobs::answers::RunAnswer;
 use objects::answers::{FactorAnswer, number_of};
 
 // A refusal's number, or 0 and the bits of a double or a count.
-#[derive(Drop)]
+#[derive(Clone, Copy)]
 pub struct Value {
     pub number: u64,
     pub word: u64,

@@ -10,14 +10,14 @@ ghost use Rattle.fins.specs.Fins.{edition_fine, fin_width, right_fin1, left_fin1
 use doubles::to_radians;
 
 // How the fins of one side shade in an hour: by a tangent, or not at all.
-#[derive(Drop)]
+#[derive(Clone, Copy)]
 pub enum FinShade {
     Tangent(f64),
     NoShade,
 }
 
 // How the right and the left fins do.
-#[derive(Drop)]
+#[derive(Clone, Copy)]
 pub struct Fins {
     pub right: FinShade,
     pub left: FinShade,

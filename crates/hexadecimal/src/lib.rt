@@ -6,7 +6,7 @@ ghost use Rattle.std.specs.Prelude.{◌≡◌, ◌%◌};
 ghost use Rattle.hexadecimal.specs.Hexadecimal.{digit, digit_value, digits_at, put_digits};
 
 // What stands where sixteen digits are looked for.
-#[derive(Drop)]
+#[derive(Clone, Copy)]
 pub enum Digits {
     Word(u64),
     NotDigits,

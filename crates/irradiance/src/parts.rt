@@ -26,7 +26,7 @@ fn ground_reflection_irradiance(
 }
 
 // What falls on the surface, in W/m².
-#[derive(Drop)]
+#[derive(Clone, Copy)]
 pub struct Irradiance {
     pub direct: f64,
     pub diffuse: f64,

@@ -100,7 +100,7 @@ pub fn init_f2_horizontal_brightness_coefficient(
 }
 
 // The sky of one step: the diffuse value and the beam after conversion in W/m², F1 and F2.
-#[derive(Drop)]
+#[derive(Clone, Copy)]
 pub struct Sky {
     pub diffuse: f64,
     pub beam: f64,

@@ -23,7 +23,7 @@ fn a_over_b(cos_incidence: f64, cos_zenith: f64) -> f64
 }
 
 // The sun on the surface in one hour: the cosine of its incidence, and a / b.
-#[derive(Drop)]
+#[derive(Clone, Copy)]
 pub struct Incidence {
     pub cos: f64,
     pub a_over_b: f64,

@@ -2,7 +2,7 @@
 use objects::answers::Refusal;
 
 // A step's six results, in the order in which they are stored.
-#[derive(Drop)]
+#[derive(Clone, Copy)]
 pub struct Row {
     pub altitude: f64,
     pub azimuth: f64,
@@ -13,7 +13,7 @@ pub struct Row {
 }
 
 // A step's row, or why it has none (8 to 11).
-#[derive(Drop)]
+#[derive(Clone, Copy)]
 pub enum StepAnswer {
     Row(Row),
     Refused(Refusal),
@@ -21,7 +21,7 @@ pub enum StepAnswer {
 
 // What is kept of one day or of one month: how many steps start in it, the largest total among their rows (NaN while there is none)
 // and the sum of factor times direct times step, in Wh/m².
-#[derive(Drop)]
+#[derive(Clone, Copy)]
 pub struct Totals {
     pub count: u64,
     pub largest: f64,
@@ -30,7 +30,7 @@ pub struct Totals {
 
 // How many steps a job has that passes the checks before the first step, or why it is turned down (14, 1, 15 or
 // 2 to 7).
-#[derive(Drop)]
+#[derive(Clone, Copy)]
 pub enum Checked {
     Steps(u64),
     Refused(Refusal),
@@ -38,7 +38,7 @@ pub enum Checked {
 
 // What a run answers: its step count and the sum of factor times direct times step, in Wh/m², or why and at which step it was turned
 // down.
-#[derive(Drop)]
+#[derive(Clone, Copy)]
 pub enum RunAnswer {
     Accepted { count: u64, sum: f64 },
     Refused { refusal: Refusal, step: u64 },

@@ -8,7 +8,7 @@ use objects::answers::{FactorAnswer, Refusal, number_of};
 use text::{append, least};
 
 // A line with its line feed: the first `count` bytes.
-#[derive(Drop)]
+#[derive(Clone, Copy)]
 pub struct OutputLine {
     pub count: usize,
     pub bytes: [u8; 19],

@@ -12,7 +12,7 @@ use objects::answers::{FactorAnswer, Refusal};
 use text::{append, least, line_end, same_text};
 
 // The names line is awaited, or a line with values, or the listing has ended.
-#[derive(Drop)]
+#[derive(Clone, Copy)]
 pub enum Stage {
     Names,
     Values,
@@ -20,7 +20,7 @@ pub enum Stage {
 }
 
 // What is kept between two pieces: the first `count` bytes of a line.
-#[derive(Drop)]
+#[derive(Clone, Copy)]
 pub struct Reader {
     pub stage: Stage,
     pub count: usize,
@@ -28,7 +28,7 @@ pub struct Reader {
 }
 
 // What the end of a line brings: the reader after it, and what is printed.
-#[derive(Drop)]
+#[derive(Clone, Copy)]
 pub struct Turn {
     pub reader: Reader,
     pub output: OutputLine,
@@ -127,7 +127,7 @@ pub fn wants_more(reader: Reader) -> bool
 }
 
 // What a piece brings: the reader after it, and how many bytes of the output list are used then.
-#[derive(Drop)]
+#[derive(Clone, Copy)]
 pub struct Answered {
     pub reader: Reader,
     pub used: usize,

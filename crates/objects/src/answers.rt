@@ -2,7 +2,7 @@ ghost use Rattle.std.specs.Prelude.{◌≡◌};
 ghost use Rattle.objects.specs.Refusals.{number_of};
 
 // Why a job, a step or a line is turned down.
-#[derive(Drop)]
+#[derive(Clone, Copy)]
 pub enum Refusal {
     Site,
     Run,
@@ -21,7 +21,7 @@ pub enum Refusal {
 }
 
 // The factor of one step, or why there is none.
-#[derive(Drop)]
+#[derive(Clone, Copy)]
 pub enum FactorAnswer {
     Factor(f64),
     Refused(Refusal),

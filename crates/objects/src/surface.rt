@@ -3,7 +3,7 @@ ghost use Rattle.std.specs.Prelude.{◌≡◌};
 ghost use Rattle.objects.specs.Surface.{surface_fine};
 
 // Angles in degrees, the orientation from north; lengths in metres.
-#[derive(Drop)]
+#[derive(Clone, Copy)]
 pub struct Surface {
     pub tilt: f64,
     pub orientation: f64,

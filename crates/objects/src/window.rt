@@ -1,6 +1,6 @@
 // The objects at the window.
 
-#[derive(Drop)]
+#[derive(Clone, Copy)]
 pub enum WindowShadingType {
     Obstacle,
     Overhang,
@@ -10,7 +10,7 @@ pub enum WindowShadingType {
 }
 
 // An object at the window. `size` is an obstacle's height and any other's depth; only an obstacle has a transparency.
-#[derive(Drop)]
+#[derive(Clone, Copy)]
 pub struct WindowShadingObject {
     pub object_type: WindowShadingType,
     pub size: f64,
@@ -19,7 +19,7 @@ pub struct WindowShadingObject {
 }
 
 // The objects at the window: the first `count` of sixteen places.
-#[derive(Drop)]
+#[derive(Clone, Copy)]
 pub struct WindowShading {
     pub count: u64,
     pub objects: [WindowShadingObject; 16],

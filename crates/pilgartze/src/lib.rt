@@ -24,7 +24,7 @@ use weather::Reading;
 
 // What a run answers: the refusal's number, or 0, and its step; the step count and the sum in Wh/m², both 0 on a refusal.
 #[repr(C)]
-#[derive(Drop)]
+#[derive(Clone, Copy)]
 pub struct Answer {
     pub number: u64,
     pub step: u64,
@@ -34,7 +34,7 @@ pub struct Answer {
 
 // What a factor call and a call for strips answer: the refusal's number, or 0 and the factor.
 #[repr(C)]
-#[derive(Drop)]
+#[derive(Clone, Copy)]
 pub struct ShadingFactor {
     pub number: u64,
     pub factor: f64,

@@ -121,7 +121,7 @@ pub extern "C" fn probe_store_double(bytes: &mut [u8], k: usize, x: f64)
 
 // found is 1 with the word, or 0 with 0.
 #[repr(C)]
-#[derive(Drop)]
+#[derive(Clone, Copy)]
 pub struct ProbeDigits {
     pub found: u64,
     pub word: u64,
@@ -171,7 +171,7 @@ pub extern "C" fn probe_cos(a: f64) -> f64
 }
 
 #[repr(C)]
-#[derive(Drop)]
+#[derive(Clone, Copy)]
 pub struct ProbeSinCos {
     pub sin: f64,
     pub cos: f64,

@@ -200,7 +200,7 @@ pub extern "C" fn probe_init_f2_horizontal_brightness_coefficient(
 
 // The sun in degrees and the irradiance in W/m² of one hour, with the breakdown.
 #[repr(C)]
-#[derive(Drop)]
+#[derive(Clone, Copy)]
 pub struct ProbeHour {
     pub altitude: f64,
     pub azimuth: f64,
@@ -286,7 +286,7 @@ pub extern "C" fn probe_hour(
 
 // Degrees, minutes, W/m².
 #[repr(C)]
-#[derive(Drop)]
+#[derive(Clone, Copy)]
 pub struct ProbeDay {
     pub declination: f64,
     pub equation_of_time: f64,

@@ -6,14 +6,14 @@ use kept_answers::parts::record_end;
 use words::word_at;
 
 // How many records there were, and how many came out otherwise.
-#[derive(Drop)]
+#[derive(Clone, Copy)]
 struct Tally {
     count: u64,
     different: u64,
 }
 
 // The tally after a block of a file, and whether to go on.
-#[derive(Drop)]
+#[derive(Clone, Copy)]
 struct Progress {
     tally: Tally,
     going: bool,

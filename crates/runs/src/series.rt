@@ -8,7 +8,7 @@ use simulation_time::timestep::time_series_idx;
 use weather::{in_series, read_series, reading_fine};
 
 // Of all steps: whether every index is on all three series, and whether every value is in its range.
-#[derive(Drop)]
+#[derive(Clone, Copy)]
 pub struct SeriesFine {
     pub indices: bool,
     pub readings: bool,

@@ -9,7 +9,7 @@ use objects::records::{sector_count, sectors_of};
 use objects::sectors::ShadingSegment;
 
 // Whether it is summer's, how many sectors there are, and the sectors.
-#[derive(Drop)]
+#[derive(Clone, Copy)]
 pub struct SeasonTable {
     pub summer: bool,
     pub count: usize,

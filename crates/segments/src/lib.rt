@@ -11,7 +11,7 @@ use objects::records;
 use objects::sectors::ShadingSegment;
 
 // Where the walk ends: at the place of the sector with the sun, or for one of three reasons at none.
-#[derive(Drop)]
+#[derive(Clone, Copy)]
 pub enum Place {
     At(usize),
     Gap,
@@ -28,7 +28,7 @@ fn between_ends(azimuth: f64, start360: f64, end360: f64) -> bool
 }
 
 // The walk so far: the next sector to look at (none, at the end of the list), the end of the one before, and where the walk ends.
-#[derive(Drop)]
+#[derive(Clone, Copy)]
 pub struct Walk {
     pub next: usize,
     pub last: f64,
@@ -112,7 +112,7 @@ pub fn place_index(place: Place) -> usize
 }
 
 // Where the walk ends, and the sector there: where none has the sun, the first, or a blank.
-#[derive(Drop)]
+#[derive(Clone, Copy)]
 pub struct FoundSegment {
     pub place: Place,
     pub segment: ShadingSegment,

@@ -8,7 +8,7 @@ use lines::output::put;
 use listing::reader::{Reader, Stage, answer_piece, input_over, line_start, wants_more};
 
 // The reader after a piece of the input, and whether to go on: only where more is wanted.
-#[derive(Drop)]
+#[derive(Clone, Copy)]
 struct Progress {
     reader: Reader,
     going: bool,

@@ -11,7 +11,7 @@ use objects::sectors::{ShadingObject, ShadingObjectType, ShadingSegment};
 use objects::surface::Surface;
 
 // The largest heights shaded so far, by obstacles and by overhangs.
-#[derive(Drop)]
+#[derive(Clone, Copy)]
 pub struct DistantShades {
     pub obstacle: f64,
     pub overhang: f64,

@@ -17,7 +17,7 @@ use objects::window::WindowShading;
 use segments::{Place, find_segment, segment_in};
 
 // Where the sun stands: outside the beam, or where the walk along the sectors ends.
-#[derive(Drop)]
+#[derive(Clone, Copy)]
 pub struct SunPlace {
     pub outside: bool,
     pub place: Place,

@@ -7,7 +7,7 @@ use objects::surface::Surface;
 
 // In an hour: the tangent of its altitude, the cosine of its azimuth less the surface's orientation from south, not wrapped, and how
 // fins shade.
-#[derive(Drop)]
+#[derive(Clone, Copy)]
 pub struct SunOnSurface {
     pub tan_altitude: f64,
     pub cos_difference: f64,

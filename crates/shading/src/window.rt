@@ -10,7 +10,7 @@ use crate::sun_on_surface::SunOnSurface;
 use objects::window::{WindowShading, WindowShadingObject, WindowShadingType};
 
 // The largest extents so far, of overhangs and of right and left fins, and whether there was a reveal.
-#[derive(Drop)]
+#[derive(Clone, Copy)]
 pub struct WindowShades {
     pub overhang: f64,
     pub right: f64,

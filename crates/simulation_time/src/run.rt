@@ -3,7 +3,7 @@ ghost use Rattle.std.specs.Prelude.{◌≡◌};
 ghost use Rattle.simulation_time.specs.Steps.{run_fine};
 
 // From start to end by steps, all in hours from the start of the year.
-#[derive(Drop)]
+#[derive(Clone, Copy)]
 pub struct Run {
     pub start: f64,
     pub end: f64,

@@ -7,7 +7,7 @@ use crate::run::{Run, run_fine};
 use crate::timestep::current_hour;
 
 // How many steps there are, and the time of the last one; the run's start where there is none.
-#[derive(Drop)]
+#[derive(Clone, Copy)]
 pub struct Steps {
     pub count: u64,
     pub last: f64,
@@ -36,7 +36,7 @@ fn count_steps(run: Run) -> Steps
 }
 
 // Whether a run is accepted, and how many steps it has; none where a field is out of its range.
-#[derive(Drop)]
+#[derive(Clone, Copy)]
 pub struct CheckedRun {
     pub fine: bool,
     pub count: u64,

@@ -26,7 +26,7 @@ use weather::{Reading, reading_fine};
 use words::{store_double, word_count};
 
 // Accepted, or why not: the answer of the checks, and of a call, which has then stored its results.
-#[derive(Drop)]
+#[derive(Clone, Copy)]
 pub enum Single {
     Accepted,
     Refused(Refusal),
@@ -184,7 +184,7 @@ pub fn step_call<'a>(
 }
 
 // The sun in an hour, and the irradiance at a step of it.
-#[derive(Drop)]
+#[derive(Clone, Copy)]
 struct SunAndIrradiance {
     sun: Hour,
     parts: Irradiance,

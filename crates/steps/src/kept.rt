@@ -15,7 +15,7 @@ use sun::site::Site;
 use weather::Reading;
 
 // Of site and surface: the sines and cosines of three angles, and the time shift in hours.
-#[derive(Drop)]
+#[derive(Clone, Copy)]
 pub struct Fixed {
     pub latitude: SinCos,
     pub tilt: SinCos,
@@ -40,7 +40,7 @@ pub fn fixed_of(site: Site, surface: Surface) -> Fixed
 }
 
 // A day of the year, from 0.
-#[derive(Drop)]
+#[derive(Clone, Copy)]
 pub struct KeptDay {
     pub index: u32,
     pub values: Day,
@@ -90,7 +90,7 @@ pub fn day_for(days: &[u8], index: u32, kept: KeptDay) -> KeptDay
 }
 
 // An hour of the year, from 0.
-#[derive(Drop)]
+#[derive(Clone, Copy)]
 pub struct KeptHour {
     pub hour: u32,
     pub extra_terrestrial_radiation: f64,

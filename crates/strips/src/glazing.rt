@@ -6,7 +6,7 @@ use objects::surface::{Surface, surface_fine};
 use words::{double_at, word_count};
 
 // A surface whose height is that of its strips together. Angles in degrees, the orientation from north; lengths in metres.
-#[derive(Drop)]
+#[derive(Clone, Copy)]
 pub struct TallGlazing {
     pub tilt: f64,
     pub orientation: f64,

@@ -141,7 +141,7 @@ pub fn init_air_mass(solar_altitude: f64) -> f64
 }
 
 // What depends on the sun's altitude alone.
-#[derive(Drop)]
+#[derive(Clone, Copy)]
 struct AltitudeTerms {
     altitude: f64,
     sin: f64,
@@ -166,7 +166,7 @@ fn terms_at_night() -> AltitudeTerms
 }
 
 // With the arcsine of the azimuth's numerator.
-#[derive(Drop)]
+#[derive(Clone, Copy)]
 struct TermsAndArcsine {
     terms: AltitudeTerms,
     azimuth_arcsine: f64,
@@ -206,7 +206,7 @@ fn altitude_terms(altitude: f64, numerator: f64) -> TermsAndArcsine
 }
 
 // The sun in one hour: its angles, and what later formulas reuse of them.
-#[derive(Drop)]
+#[derive(Clone, Copy)]
 pub struct Hour {
     pub hour_angle: SinCos,
     pub altitude: f64,
@@ -218,7 +218,7 @@ pub struct Hour {
 }
 
 // The hour angle and its supplement, 180 degrees less it.
-#[derive(Drop)]
+#[derive(Clone, Copy)]
 pub struct HourAngles {
     pub hour_angle: SinCos,
     pub supplement: SinCos,

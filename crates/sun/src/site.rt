@@ -5,7 +5,7 @@ ghost use Rattle.sun.specs.Site.{site_fine, leaf_days_fine, hours_in_year};
 
 // Latitude and longitude in degrees, north and east positive; timezone and series step in hours; days count from 0.
 // leap_year and direct_beam_conversion are 0 or 1.
-#[derive(Drop)]
+#[derive(Clone, Copy)]
 pub struct Site {
     pub latitude: f64,
     pub longitude: f64,

@@ -68,7 +68,7 @@ pub fn empty_totals(totals: &mut [u8], leap: bool)
 }
 
 // Where the day and the month of a step have their records.
-#[derive(Drop)]
+#[derive(Clone, Copy)]
 pub struct Parts {
     pub day: u32,
     pub month: u32,
@@ -86,7 +86,7 @@ pub fn parts_of(leap: bool, day: u32) -> Parts
 
 // The totals of the day and the month that a run is in. They are kept by value from step to step and stored where the day changes and
 // at the end, so that calendar and list are looked at once a day.
-#[derive(Drop)]
+#[derive(Clone, Copy)]
 pub struct KeptTotals {
     pub parts: Parts,
     pub day: Totals,

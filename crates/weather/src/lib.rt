@@ -7,7 +7,7 @@ ghost use Rattle.weather.specs.Weather.{reading_fine, in_series, read_series};
 use words::{double_at, word_count};
 
 // What a step reads: diffuse and direct irradiance in W/m², and the ground's reflectivity, a fraction.
-#[derive(Drop)]
+#[derive(Clone, Copy)]
 pub struct Reading {
     pub diffuse: f64,
     pub direct: f64,

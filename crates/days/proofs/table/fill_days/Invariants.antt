@@ -1,0 +1,21 @@
+-- `fill_days` meets its contract. The loop's invariant: what is left of the table, stored from here on, comes to all of it.
+use mathlib.Core.Path.{◌≡◌, refl, sym, ap, ◌∙◌, subst}
+use mathlib.Core.List.{List}
+use Prim.Native.Nat.{ℕ, ◌+◌, ◌-◌, ◌*◌, ◌≤◌}
+use native.Mathlib.Omega.{arith}
+use lib.ListN.{length}
+use lib.Seq.{sets}
+use borrow.Author.Rules.{rules}
+use Rattle.days.specs.Day.{day_of}
+use Rattle.days.specs.Table.{day_records, with_day_table, put_day}
+use Rattle.days.proofs.TableLaws.{length_put_day, record_next, records_done, table_whole}
+use Rattle.days.proofs.table.fill_days.Given as goal
+
+abbrev pub invariant-loop-i : goal.invariant-loop-i
+invariant-loop-i l =
+    (l.i ≤ 366)
+    × (length l.days ≡ length l.initial.days)
+    × (sets l.days (24 * l.i) (day_records (366 - l.i) (l.i + 1)) ≡ with_day_table l.initial.days)
+
+abbrev pub decreases-loop-i : goal.decreases-loop-i
+decreases-loop-i l = 366 - l.i

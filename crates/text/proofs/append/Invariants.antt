@@ -1,0 +1,15 @@
+-- `append` meets its contract. The loop's invariant: the first i bytes of the part are in their places.
+use mathlib.Core.Path.{◌≡◌, ◌∙◌, ap}
+use Prim.Native.Nat.{◌+◌, ◌-◌, ◌≤◌, ◌<◌, min}
+use native.Mathlib.Omega.{arith}
+use borrow.Author.Rules.{rules}
+use lib.ListN.{length}
+use lib.Seq.{paste, paste-zero}
+use Rattle.text.proofs.Pieces.{none_moved, unchanged, kept_length, next_byte}
+use Rattle.text.proofs.append.Given as goal
+
+abbrev pub invariant-loop-i : goal.invariant-loop-i
+invariant-loop-i l = (l.n ≡ min (length l.part) (length l.initial.list - l.count)) × (l.count < length l.initial.list) × (l.i ≤ l.n) × (l.list ≡ paste l.initial.list l.count l.part l.i)
+
+abbrev pub decreases-loop-i : goal.decreases-loop-i
+decreases-loop-i l = l.n - l.i
