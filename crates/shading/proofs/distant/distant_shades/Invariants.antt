@@ -1,0 +1,23 @@
+
+use mathlib.Core.Path.{◌≡◌, refl, sym, ◌∙◌}
+use lib.Ieee.{of_bits}
+use Prim.Native.Nat.{◌≤◌, ◌<◌, ◌-◌}
+use native.Mathlib.Omega.{arith}
+use lib.ListN.{length, take, drop}
+use Rattle.doubles.specs.Arithmetic.{whole}
+use Rattle.doubles.specs.Functions.{largest_of}
+use Rattle.objects.specs.Objects.{counted}
+use Rattle.shading.specs.Factor.{obstacle_extents, overhang_extents}
+use Rattle.words.proofs.Lists.{unmapped}
+use Rattle.shading.proofs.Loops.{obstacle_end, overhang_end, obstacle_next, overhang_next, counted_first, at_end}
+use Rattle.shading.proofs.distant.distant_shades.Given as goal
+
+abbrev pub invariant-loop-i : goal.invariant-loop-i
+invariant-loop-i l =
+    (l.i ≤ l.n)
+    × (l.n ≤ 8)
+    × (largest_of l.shades.obstacle (obstacle_extents l.surface l.sun (drop l.i (take l.n l.objects))) ≡ largest_of (whole 0) (obstacle_extents l.surface l.sun (take l.n l.objects)))
+    × (largest_of l.shades.overhang (overhang_extents l.surface l.sun (drop l.i (take l.n l.objects))) ≡ largest_of (whole 0) (overhang_extents l.surface l.sun (take l.n l.objects)))
+
+abbrev pub decreases-loop-i : goal.decreases-loop-i
+decreases-loop-i l = l.n - l.i

@@ -1,0 +1,26 @@
+
+use mathlib.Core.Path.{◌≡◌, refl, sym, ◌∙◌}
+use mathlib.Core.Bool.{◌||◌}
+use Prim.Native.Nat.{◌≤◌, ◌<◌, ◌-◌}
+use native.Mathlib.Omega.{arith}
+use lib.ListN.{length, take, drop}
+use lib.Ieee.{of_bits}
+use Rattle.doubles.specs.Arithmetic.{whole}
+use Rattle.doubles.specs.Functions.{largest_of}
+use Rattle.objects.specs.Objects.{placed}
+use Rattle.shading.specs.Factor.{window_overhang_extents, right_fin_extents, left_fin_extents, has_reveal}
+use Rattle.words.proofs.Lists.{unmapped}
+use Rattle.shading.proofs.Loops.{counted_first, at_end, window_overhang_next, right_next, left_next, reveal_next, window_overhang_end, right_end, left_end, reveal_end}
+use Rattle.shading.proofs.window.window_shades.Given as goal
+
+abbrev pub invariant-loop-i : goal.invariant-loop-i
+invariant-loop-i l =
+    (l.i ≤ l.n)
+    × (l.n ≤ 16)
+    × (largest_of l.shades.overhang (window_overhang_extents l.sun (drop l.i (take l.n l.objects))) ≡ largest_of l.overhang (window_overhang_extents l.sun (take l.n l.objects)))
+    × (largest_of l.shades.right (right_fin_extents l.sun (drop l.i (take l.n l.objects))) ≡ largest_of (whole 0) (right_fin_extents l.sun (take l.n l.objects)))
+    × (largest_of l.shades.left (left_fin_extents l.sun (drop l.i (take l.n l.objects))) ≡ largest_of (whole 0) (left_fin_extents l.sun (take l.n l.objects)))
+    × (l.shades.reveal || has_reveal (drop l.i (take l.n l.objects)) ≡ has_reveal (take l.n l.objects))
+
+abbrev pub decreases-loop-i : goal.decreases-loop-i
+decreases-loop-i l = l.n - l.i

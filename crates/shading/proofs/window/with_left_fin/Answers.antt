@@ -1,0 +1,7 @@
+use Rattle.shading.specs.ObjectSteps.{with_left_fin}
+use borrow.Author.Rules.{rules}
+use Rattle.shading.proofs.window.with_left_fin.Goals as goal
+
+pub returns : goal.returns
+unfolding with_left_fin
+returns c = rw c.max_of_2.ensures

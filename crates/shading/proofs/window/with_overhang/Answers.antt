@@ -1,0 +1,7 @@
+use Rattle.shading.specs.ObjectSteps.{with_overhang}
+use borrow.Author.Rules.{rules}
+use Rattle.shading.proofs.window.with_overhang.Goals as goal
+
+pub returns : goal.returns
+unfolding with_overhang
+returns c = rw c.max_of_2.ensures
