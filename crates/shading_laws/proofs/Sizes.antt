@@ -93,8 +93,8 @@ module _ (surface : Surface) (sun : SunOnSurface) where
   fin_moves : (side : WindowShadingType) (fin : FinShade) (o p : WindowShadingObject) → FinChange side fin o p → T (of_kind side o) → Number (fin_at fin o)
       → (T (of_kind side p) → Number (fin_at fin p)) → T (of_kind side p) × ((fin_at fin o ≼ whole 0) ⊎ (fin_at fin o ≼ fin_at fin p))
   fin_moves side fin o p (inl e) t n m = (subst (λ (q : WindowShadingObject). T (of_kind side q)) e t, inr (size.level n (ap (fin_at fin) e)))
-  fin_moves side fin o p (inr (k, deeper q e h)) t n m = (k.second, size.fin-deeper fin o p q n (m k.second) e h)
-  fin_moves side fin o p (inr (k, nearer e h)) t n m = (k.second, inr (size.fin-nearer fin o p n (m k.second) e h))
+  fin_moves side fin o p (inr (k, deeper q e h)) t n m = (k.second, size.fin_deeper fin o p q n (m k.second) e h)
+  fin_moves side fin o p (inr (k, nearer e h)) t n m = (k.second, inr (size.fin_nearer fin o p n (m k.second) e h))
 
   right_change : (o p : WindowShadingObject) → WindowShadesNoLess (asked_at surface sun) o p → T (of_kind SideFinRight o) → FinChange SideFinRight sun.fins.right o p
   unfolding kind_number

@@ -1,0 +1,17 @@
+-- `spaces_fine` meets its contract. The loop's invariant: whether a space stood behind each value so far.
+use mathlib.Core.Path.{◌≡◌, refl, ◌∙◌, ap}
+use mathlib.Core.Bool.{◌&&◌}
+use Prim.Native.Nat.{◌-◌, ◌≤◌}
+use native.Mathlib.Omega.{arith}
+use borrow.Author.Rules.{rules}
+use Rattle.words.specs.Lists.{first_fine}
+use Rattle.words.proofs.Lists.{one_more}
+use lib.ListN.{length}
+use Rattle.lines.specs.Line.{parted}
+use Rattle.lines.proofs.line.spaces_fine.Given as goal
+
+abbrev pub invariant-loop-k : goal.invariant-loop-k
+invariant-loop-k l = (length l.line ≡ 169) × (l.k ≤ 9) × (l.fine ≡ first_fine (parted l.line) l.k)
+
+abbrev pub decreases-loop-k : goal.decreases-loop-k
+decreases-loop-k l = 9 - l.k
