@@ -89,9 +89,9 @@ every_reading site surface t s time h reading f =
 
 module _ {job : Job} {room : Bool} (p : Passed job room) (i : ℕ) (h : i < step_count job.run) where
   pub step_angles : AnglesInRange job.site job.surface (current_hour (time_at job.run i))
-  step_angles = every_hour job.site job.surface p.site-fine p.surface-fine (current_hour (time_at job.run i)) (hour_below p i h)
+  step_angles = every_hour job.site job.surface p.site_fine_lem p.surface_fine_lem (current_hour (time_at job.run i)) (hour_below p i h)
 
   pub step_irradiance : FiniteIrradiance (irradiance_at job.site job.surface (time_at job.run i) (reading_at job (time_at job.run i)))
   step_irradiance =
-      every_reading job.site job.surface p.site-fine p.surface-fine (time_at job.run i) (hour_below p i h)
+      every_reading job.site job.surface p.site_fine_lem p.surface_fine_lem (time_at job.run i) (hour_below p i h)
       (reading_at job (time_at job.run i)) (reading_fine_lem p i h)

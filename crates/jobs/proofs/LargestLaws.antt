@@ -35,6 +35,15 @@ number-not-nan {x} n = go (is_nan x) n.holds
 a_number : {x : Float} → is_nan x ≡ false → Number x
 a_number e = record { holds = subst (λ (b : Bool). T (not b)) (sym e) tt }
 
+-- against a number the largest is by the comparison alone
+past_number : (a b : Float) → is_nan a ≡ false → float_max a b ≡ cond (is_nan b) a (max_of2 a b)
+unfolding float_max
+past_number a b e = ap (λ (t : Bool). cond t b (cond (is_nan b) a (max_of2 a b))) e
+
+larger_is : (a b : Float) → cond (lt b a) a b ≡ max_of2 a b
+unfolding max_of2
+larger_is a b = refl
+
 module _ (chosen : ℕ → Bool) (x : ℕ → Float) (n : ℕ) where
   -- what holds of the first n and of the next holds of all
   all_of : (P : ℕ → Type 0) → ((i : ℕ) → i < n → P i) → P n → (i : ℕ) → i < suc n → P i
@@ -93,7 +102,7 @@ module _ (chosen : ℕ → Bool) (x : ℕ → Float) (n : ℕ) where
         old_number = number-not-nan m
 
         shape : float_max (x j) (x n) ≡ cond (is_nan (x n)) (x j) (max_of2 (x j) (x n))
-        shape = unfold float_max in ap (λ (b : Bool). cond b (x n) (cond (is_nan (x n)) (x j) (max_of2 (x j) (x n)))) old_number
+        shape = past_number (x j) (x n) old_number
 
         by_order : (b : Bool) → lt (x n) (x j) ≡ b → Number (x n) → Largest chosen x (suc n) (cond b (x j) (x n))
         by_order true e o = below j h c m top later (record { holds = subst T (sym e) tt })
@@ -101,7 +110,7 @@ module _ (chosen : ℕ → Bool) (x : ℕ → Float) (n : ℕ) where
 
         go : (b : Bool) → is_nan (x n) ≡ b → Largest chosen x (suc n) (cond b (x j) (max_of2 (x j) (x n)))
         go true e = skipped e (latest j h c m top later)
-        go false e = unfold max_of2 in by_order (lt (x n) (x j)) refl (a_number e)
+        go false e = subst (Largest chosen x (suc n)) (larger_is (x j) (x n)) (by_order (lt (x n) (x j)) refl (a_number e))
 
 pub largest_total : LargestTotal
 unfolding totals_of no_totals

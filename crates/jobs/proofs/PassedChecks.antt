@@ -138,21 +138,21 @@ module _ (job : Job) (lists : Lent) (p : Passed job (room_for job lists)) where
   -- there is room for the table of days
   pub days_fit : 8784 ≤ length lists.days
   unfolding room_fine days_fine
-  days_fit = leb-true 8784 (length lists.days) (is_true _ (and_l (days_fine lists.days) (totals && results) p.room-fine))
+  days_fit = leb-true 8784 (length lists.days) (is_true _ (and_l (days_fine lists.days) (totals && results) p.room_fine_lem))
 
   -- for the totals of the year
   pub totals_fit : 24 * totals_count (leap_year_of job.site) ≤ length lists.totals
   unfolding room_fine totals_fine
   totals_fit =
       leb-true (24 * totals_count (leap_year_of job.site)) (length lists.totals)
-      (is_true _ (and_l totals results (and_r (days_fine lists.days) (totals && results) p.room-fine)))
+      (is_true _ (and_l totals results (and_r (days_fine lists.days) (totals && results) p.room_fine_lem)))
 
   -- and for every row
   pub rows_fit : 6 * step_count job.run ≤ word_count lists.results
   unfolding room_fine results_fine
   rows_fit =
       leb-true (6 * step_count job.run) (word_count lists.results)
-      (is_true _ (and_r totals results (and_r (days_fine lists.days) (totals && results) p.room-fine)))
+      (is_true _ (and_r totals results (and_r (days_fine lists.days) (totals && results) p.room_fine_lem)))
 
 pub year_length : (site : Site) → hours_in_year site ≤ 8784
 unfolding hours_in_year
@@ -194,21 +194,21 @@ module _ {job : Job} {room : Bool} (p : Passed job room) where
 
   -- every step's hour is one of a leap year's
   pub hour_below : (i : ℕ) → i < step_count job.run → current_hour (time_at job.run i) < 8784
-  hour_below = hour_of_leap_year job.site job.run p.run-fine
+  hour_below = hour_of_leap_year job.site job.run p.run_fine_lem
 
   -- and its day one of the year's days
   pub day_in_year : (i : ℕ) → i < step_count job.run → day_of_step job.run i < days_in_year (leap_year_of job.site)
-  day_in_year = day_of_year job.site job.run p.run-fine
+  day_in_year = day_of_year job.site job.run p.run_fine_lem
 
   -- the step is from a quarter of an hour to a day
   pub step_accepted : StepLength job.run.step
   unfolding run_accepted
-  step_accepted = step_length job.run (and_l (run_fine job.run) (hours_fine (hours_in_year job.site) job.run) p.run-fine)
+  step_accepted = step_length job.run (and_l (run_fine job.run) (hours_fine (hours_in_year job.site) job.run) p.run_fine_lem)
 
   -- the surface's lengths are in their ranges
   pub surface_accepted : Doubles job.surface → AcceptedSurface job.surface
-  surface_accepted = accepted_surface job.surface p.surface-fine
+  surface_accepted = accepted_surface job.surface p.surface_fine_lem
 
   -- every near obstacle's transparency is from 0 to 1
   pub near_accepted : AcceptedNear (window_objects_of job.window)
-  near_accepted = accepted_near job.window p.window-fine
+  near_accepted = accepted_near job.window p.window_fine_lem

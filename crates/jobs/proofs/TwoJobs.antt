@@ -245,9 +245,9 @@ module _ {j k : Job} {r s : Lent} (l : Alike j k) (a : AcceptedRun j r) (b : Acc
         let second = sectors_at j.site k.summer k.winter time in
         subst₂ NoLargerAnswer (factor_answer a i h) (second_answer i h)
         (sizes_accepted j.edition j.surface (sun_at j.site time).altitude (sun_at j.site time).azimuth (job_sectors j time) second j.window k.window
-        a.checks.surface-fine d (step_angles a.checks i h).altitude
+        a.checks.surface_fine_lem d (step_angles a.checks i h).altitude
         (day_fine k.summer k.winter b.checks.summer_fine b.checks.winter_fine j.site.first_leaf_day j.site.last_leaf_day (current_hour time / 24))
-        a.checks.window-fine b.checks.window-fine (n.at_step i h) (second_extents i h)
+        a.checks.window_fine_lem b.checks.window_fine_lem (n.at_step i h) (second_extents i h)
         (on_both_days (λ (l m : List ℕ). PlaceByPlace (SectorShadesNoLess nothing) (sectors_of l) (sectors_of m)) o.in_summer o.in_winter time)
         o.at_window)
 
