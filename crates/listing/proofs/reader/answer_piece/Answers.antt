@@ -9,23 +9,22 @@ use Rattle.listing.specs.Reading.{reading_of}
 use Rattle.text.proofs.Ends.{end_from, end_within}
 use Rattle.listing.proofs.Lines.{Goes, held_few, starts, line_ends, line_goes_on, ends_reading, ends_count, ends_list, ends_long}
 use Rattle.listing.proofs.reader.answer_piece.Goals as goal
-use Rattle.listing.proofs.reader.answer_piece.Goals.{Start}
-
--- the reader's 170 places
-places : (c : Start) → length c.args.reader.line ≡ 170
-places c = let g = c.well_formed.0 in search unmapped
 
 pub loop-at-init : goal.loop-at-init
-loop-at-init c = let a = c.args in starts a.piece.now a.list.now a.used (reading_of a.reader) (held_few a.reader (places c.before.before))
+loop-at-init c =
+    let a = c.args in
+    -- the reader's 170 places
+    let places : length a.reader.line ≡ 170 = let g = c.well_formed.0 in search unmapped in
+    starts a.piece.now a.list.now a.used (reading_of a.reader) (held_few a.reader places)
 
 pub slice_bounds-with_part-count : goal.slice_bounds-with_part-count
 slice_bounds-with_part-count c = let z = end_from c.args.piece.now c.loop-at.at in omega (arith, z, c.line_end-end.ensures)
 
-pub slice-bounds-with-part-start : goal.slice-bounds-with-part-start
-slice-bounds-with-part-start c = let z = end_from c.args.piece.now c.loop-at.at in omega (arith, z, c.line_end-end.ensures)
+pub slice_bounds-with_part-start : goal.slice_bounds-with_part-start
+slice_bounds-with_part-start c = let z = end_from c.args.piece.now c.loop-at.at in omega (arith, z, c.line_end-end.ensures)
 
-pub slice-bounds-with-part-end : goal.slice-bounds-with-part-end
-slice-bounds-with-part-end c = let z = end_within c.args.piece.now c.loop-at.at c.loop-at.invariant.within in omega (arith, z, c.line_end-end.ensures)
+pub slice_bounds-with_part-end : goal.slice_bounds-with_part-end
+slice_bounds-with_part-end c = let z = end_within c.args.piece.now c.loop-at.at c.loop-at.invariant.within in omega (arith, z, c.line_end-end.ensures)
 
 pub overflow_add-at : goal.overflow_add-at
 overflow_add-at c = omega arith
@@ -39,7 +38,7 @@ loop-at-preserved-then-end-piece c =
     let p = c.put-count in
     let o = c.line_over-turn in
     let w = c.with_part-current in
-    line_ends c.loop-at.invariant _ c.line_end-end.ensures (reading_of w.result) w.ensures (reading_of o.result.reader) (bytes_of o.result.output) p.new.0 p.result o.ensures.0 o.ensures.1 p.ensures.0 p.ensures.1 (omega arith)
+    line_ends c.loop-at.invariant _ c.line_end-end.ensures (reading_of w.result) w.ensures (reading_of o.result.reader) (bytes_of o.result.output) p.new.list p.result o.ensures.0 o.ensures.1 p.ensures.0 p.ensures.1 (omega arith)
 
 pub loop-at-smaller : goal.loop-at-smaller
 loop-at-smaller c = let z = end_from c.args.piece.now c.loop-at.at in omega (arith, z, c.line_end-end.ensures)

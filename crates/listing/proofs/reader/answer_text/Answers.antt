@@ -18,4 +18,4 @@ returns c =
     let p = printed_on r a.text.now in
     let q = bytes_of last.result in
     let all = text_answered a.text.now r (reading_of whole.result.reader) q first.ensures whole.ensures.0 last.ensures in
-    both_filled a.list.now 0 p q _ whole.new.1.1.0 done.new.0 whole.result.used done.result whole.ensures.1 whole.ensures.2 done.ensures.0 done.ensures.1 all
+    both_filled a.list.now 0 p q _ whole.new.list done.new.list whole.result.used done.result whole.ensures.1 whole.ensures.2 done.ensures.0 done.ensures.1 all

@@ -6,11 +6,6 @@ use Rattle.listing.specs.Reading.{reading_of, last_printed}
 use Rattle.listing.proofs.Readings.{names_last, values_last, some_kept}
 use borrow.Author.Rules.{rules}
 use Rattle.listing.proofs.reader.input_over.Goals as goal
-use Rattle.listing.proofs.reader.input_over.Goals.{Start}
-
--- the reader's 170 places
-places : (c : Start) → length c.args.reader.line ≡ 170
-places c = let g = c.well_formed.0 in search unmapped
 
 pub returns-then-reader-eq0 : goal.returns-then-reader-eq0
 unfolding last_printed reading_of
@@ -24,7 +19,9 @@ pub returns-else-reader-eq0 : goal.returns-else-reader-eq0
 unfolding reading_of
 returns-else-reader-eq0 c =
     let r = c.args.reader in
-    c.line_over-in-Values.ensures.1 ∙ values_last _ _ c.in-Values.is (some_kept r.line r.count (places c.before.before.before.before.before.before) c.if-reader-eq0.false)
+    -- the reader's 170 places
+    let places : length r.line ≡ 170 = let g = c.well_formed.0 in search unmapped in
+    c.line_over-in-Values.ensures.1 ∙ values_last _ _ c.in-Values.is (some_kept r.line r.count places c.if-reader-eq0.false)
 
 pub returns-in-Over : goal.returns-in-Over
 unfolding last_printed reading_of

@@ -18,20 +18,18 @@ loop-i-init c =
 
 pub returns-in-Refused : goal.returns-in-Refused
 returns-in-Refused c =
-    let b = c.before.before.before.before.before.before.before in
-    let l = b.loop-i in
-    let n = b.word_count-n.result in
-    let a = b.args in
+    let l = c.loop-i in
+    let n = c.word_count-n.result in
+    let a = c.args in
     mean_refused a.glazing a.heights.now n l.i l.base (λ strip. factor_in strip a.sun (placed a.window) (found a.segment)) l.weighted l.total _ _ _
     c.double_at-height.ensures c.strip_of.ensures c.factor_in-answer.ensures (omega arith) _ c.in-Refused.is
     ∙ l.invariant.1
 
 pub loop-i-preserved : goal.loop-i-preserved
 loop-i-preserved c =
-    let b = c.before.before.before.before.before.before.before in
-    let l = b.loop-i in
-    let n = b.word_count-n.result in
-    let a = b.args in (
+    let l = c.loop-i in
+    let n = c.word_count-n.result in
+    let a = c.args in (
       omega arith,
       mean_next a.glazing a.heights.now n l.i l.base (λ strip. factor_in strip a.sun (placed a.window) (found a.segment)) l.weighted l.total _ _ _
           c.double_at-height.ensures c.strip_of.ensures c.factor_in-answer.ensures (omega arith) _ c.in-Factor.is

@@ -22,7 +22,7 @@ strips_factor-requires c =
     let fine = strips_fine a.glazing a.heights.now in
     let sun : sun_fine a.altitude a.azimuth && fine ≡ true = rw (c.sun_fine.ensures, c.strips_fine.ensures) at c.if-sun_fine-strips_fine.true in
     let both : sectors_fine l && window_fine w ≡ true = rw (c.sectors_fine.ensures, c.window_fine.ensures) at c.if-sectors_fine-window_fine.true in
-    let lists : T (sectors_fine l && window_fine w) = subst T (sym both) tt in record { heights_value = is_true fine (and_r (sun_fine a.altitude a.azimuth) fine (subst T (sym sun) tt)); sectors_value = (is_true (sectors_fine l) (and_l (sectors_fine l) (window_fine w) lists), is_true (window_fine w) (and_r (sectors_fine l) (window_fine w) lists)); window_value =  }
+    let lists : T (sectors_fine l && window_fine w) = subst T (sym both) tt in record { heights_value = is_true fine (and_r (sun_fine a.altitude a.azimuth) fine (subst T (sym sun) tt)); sectors_value = is_true (sectors_fine l) (and_l (sectors_fine l) (window_fine w) lists); window_value = is_true (window_fine w) (and_r (sectors_fine l) (window_fine w) lists) }
 
 pub returns-then-sectors_fine-window_fine : goal.returns-then-sectors_fine-window_fine
 unfolding strips_call

@@ -19,46 +19,41 @@ use Rattle.strips.proofs.factor.strips_factor.Goals as goal
 pub returns-then-outside_solar_beam : goal.returns-then-outside_solar_beam
 unfolding whole of_bits
 returns-then-outside_solar_beam c =
-    let s = c.before.before.before.before.before in
-    let a = s.args in
-    sym (outside_one a.glazing a.heights.now (subst T (sym s.requires.heights_value) tt) a.edition a.altitude a.azimuth (sectors_of a.sectors.now) (window_objects_of a.window.now)
+    let a = c.args in
+    sym (outside_one a.glazing a.heights.now (subst T (sym c.requires.heights_value) tt) a.edition a.altitude a.azimuth (sectors_of a.sectors.now) (window_objects_of a.window.now)
     (sym c.outside_solar_beam.ensures ∙ c.if-outside_solar_beam.true))
 
 pub find_segment-found-requires : goal.find_segment-found-requires
-find_segment-found-requires c = let s = c.before.before.before.before.before in readable s.args.sectors.now (subst T (sym s.requires.sectors_value) tt)
+find_segment-found-requires c = readable c.args.sectors.now (subst T (sym c.requires.sectors_value) tt)
 
 pub window_of-objects-requires : goal.window_of-objects-requires
-window_of-objects-requires c = let s = c.before.before.before.before.before.before.before.before.before.before.before.before.before in window_count_lem s.args.window.now (subst T (sym s.requires.window_value) tt)
+window_of-objects-requires c = window_count_lem c.args.window.now (subst T (sym c.requires.window_value) tt)
 
 pub returns-in-At : goal.returns-in-At
 unfolding placed
 returns-in-At c =
-    let s = c.before.before.before.before.before.before.before.before.before.before.before.before.before.before.before in
-    let a = s.args in
-    let objects = ap placed c.window_of-objects.ensures ∙ window_places a.window.now (subst T (sym s.requires.window_value) tt) in
+    let a = c.args in
+    let objects = ap placed c.window_of-objects.ensures ∙ window_places a.window.now (subst T (sym c.requires.window_value) tt) in
     c.mean_in.ensures
     ∙ ap (λ (ws : List WindowShadingObject). mean_factor (λ strip. factor_in strip c.sun_on-sun.result ws (found c.find_segment-found.result.segment)) (strips_of a.glazing a.heights.now)) objects
-    ∙ found_mean a.glazing a.heights.now (subst T (sym s.requires.heights_value) tt) a.edition a.altitude a.azimuth (sectors_of a.sectors.now) (window_objects_of a.window.now)
+    ∙ found_mean a.glazing a.heights.now (subst T (sym c.requires.heights_value) tt) a.edition a.altitude a.azimuth (sectors_of a.sectors.now) (window_objects_of a.window.now)
     (sym c.outside_solar_beam.ensures ∙ c.if-outside_solar_beam.false) _ c.find_segment-found.ensures _ c.in-At.is _ _ _
     (c.sun_on-sun.ensures ∙ ap (λ (z : Surface). sun_on a.edition z a.altitude a.azimuth) c.strip_of-lowest.ensures)
 
 pub returns-in-Gap : goal.returns-in-Gap
 returns-in-Gap c =
-    let s = c.before.before.before.before.before.before.before.before.before in
-    let a = s.args in
-    gap_refused a.glazing a.heights.now (subst T (sym s.requires.heights_value) tt) a.edition a.altitude a.azimuth (sectors_of a.sectors.now) (window_objects_of a.window.now)
+    let a = c.args in
+    gap_refused a.glazing a.heights.now (subst T (sym c.requires.heights_value) tt) a.edition a.altitude a.azimuth (sectors_of a.sectors.now) (window_objects_of a.window.now)
     (sym c.outside_solar_beam.ensures ∙ c.if-outside_solar_beam.false) _ c.find_segment-found.ensures c.in-Gap.is
 
 pub returns-in-Turned : goal.returns-in-Turned
 returns-in-Turned c =
-    let s = c.before.before.before.before.before.before.before.before.before in
-    let a = s.args in
-    turned_refused a.glazing a.heights.now (subst T (sym s.requires.heights_value) tt) a.edition a.altitude a.azimuth (sectors_of a.sectors.now) (window_objects_of a.window.now)
+    let a = c.args in
+    turned_refused a.glazing a.heights.now (subst T (sym c.requires.heights_value) tt) a.edition a.altitude a.azimuth (sectors_of a.sectors.now) (window_objects_of a.window.now)
     (sym c.outside_solar_beam.ensures ∙ c.if-outside_solar_beam.false) _ c.find_segment-found.ensures c.in-Turned.is
 
 pub returns-in-NoSector : goal.returns-in-NoSector
 returns-in-NoSector c =
-    let s = c.before.before.before.before.before.before.before.before.before in
-    let a = s.args in
-    no_sector_refused a.glazing a.heights.now (subst T (sym s.requires.heights_value) tt) a.edition a.altitude a.azimuth (sectors_of a.sectors.now) (window_objects_of a.window.now)
+    let a = c.args in
+    no_sector_refused a.glazing a.heights.now (subst T (sym c.requires.heights_value) tt) a.edition a.altitude a.azimuth (sectors_of a.sectors.now) (window_objects_of a.window.now)
     (sym c.outside_solar_beam.ensures ∙ c.if-outside_solar_beam.false) _ c.find_segment-found.ensures c.in-NoSector.is

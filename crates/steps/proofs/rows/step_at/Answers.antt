@@ -1,0 +1,9 @@
+-- `step_at` meets its contract.
+use mathlib.Core.Path.{refl}
+use Rattle.steps.specs.Kept.{step_kept}
+use borrow.Author.Rules.{rules}
+use Rattle.steps.proofs.rows.step_at.Goals as goal
+
+pub returns : goal.returns
+unfolding step_kept
+returns c = rw (c.step_row.ensures, c.read_series-reading.ensures, c.time_series_idx-index.ensures) refl
