@@ -1,0 +1,24 @@
+-- `series_fine` meets its contract. The loop's invariant: for each of the two tests, whether it has held so far, and what is left.
+use mathlib.Core.Path.{◌≡◌, ◌∙◌, ap}
+use mathlib.Core.Bool.{Bool, ◌&&◌}
+use mathlib.Core.List.{List}
+use Prim.Native.Nat.{ℕ, ◌+◌, ◌-◌, ◌≤◌}
+use Rattle.doubles.specs.Arithmetic.{◌⊕◌}
+use native.Mathlib.Omega.{arith}
+use borrow.Author.Rules.{rules}
+use lib.Ieee.{Float}
+use Rattle.simulation_time.specs.Steps.{times_from, at_all}
+use Rattle.simulation_time.specs.Timestep.{series_index}
+use Rattle.weather.specs.Weather.{in_series, read_series, reading_fine}
+use Rattle.jobs.specs.JobChecks.{indices_fine, readings_fine}
+use Rattle.runs.proofs.AllSteps.{left, at_first, one_more, at_last}
+use Rattle.runs.proofs.series.series_fine.Given as goal
+
+abbrev pub invariant-loop-i : goal.invariant-loop-i
+invariant-loop-i l =
+    (l.i ≤ l.count)
+    × (l.indices && left (on_series l.diffuse l.direct l.reflectivity l.start_day l.series_step) l.run.step l.count l.i l.time ≡ at_all (on_series l.diffuse l.direct l.reflectivity l.start_day l.series_step) (times_from l.count l.run.step l.run.start))
+    × (l.readings && left (in_range l.diffuse l.direct l.reflectivity l.start_day l.series_step) l.run.step l.count l.i l.time ≡ at_all (in_range l.diffuse l.direct l.reflectivity l.start_day l.series_step) (times_from l.count l.run.step l.run.start))
+
+abbrev pub decreases-loop-i : goal.decreases-loop-i
+decreases-loop-i l = l.count - l.i

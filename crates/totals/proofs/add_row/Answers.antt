@@ -1,0 +1,8 @@
+-- `add_row` meets its contract.
+use borrow.Author.Rules.{rules}
+use Rattle.totals.specs.Kept.{with_row_added}
+use Rattle.totals.proofs.add_row.Goals as goal
+
+pub returns : goal.returns
+unfolding with_row_added
+returns c = rw (c.with_step-day.ensures, c.with_step-month.ensures)
