@@ -8,7 +8,7 @@ use native.Mathlib.Nat.{lt_irrefl}
 use native.Mathlib.Omega.{arith}
 use lib.IntN.{pos, negsuc, nat_abs}
 use lib.Dec.{T, leb, ltb, ltb→lt, nltb→le, nleb→lt}
-use lib.Ieee.{Float, nan, neg, minus, add, sub, mul, div, lt, le, is_nan}
+use lib.Ieee.{Float, nan, neg, minus, add, sub, mul, div, le, is_nan}
 use lib.Ieee.Scale.{finite}
 use Rattle.doubles.specs.Arithmetic.{◌⊕◌, ◌⊖◌, ◌⊗◌, ◌⊘◌, decimal, whole}
 use Rattle.doubles.specs.Functions.{pi, to_radians}

@@ -4,7 +4,7 @@ use mathlib.Core.Path.{◌≡◌, refl, ap₂, subst}
 use mathlib.Core.Bool.{Bool, true, false, cond}
 use Prim.Native.Nat.{ℕ, zero, suc, ◌<◌}
 use native.Mathlib.Omega.{arith}
-use lib.Ieee.{Float, fits}
+use lib.Ieee.{Float}
 use Rattle.doubles.specs.Arithmetic.{◌⊕◌, ◌⊗◌, whole}
 use Rattle.doubles.specs.Order.{◌≼◌, Number, Finite, Fits}
 use Rattle.doubles.proofs.Order.{le_refl, le_trans, finite_number}

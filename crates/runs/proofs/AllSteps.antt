@@ -5,7 +5,17 @@ use Prim.Native.Nat.{ℕ, suc, ◌+◌, ◌-◌, ◌≤◌, ◌<◌}
 use native.Mathlib.Omega.{arith}
 use lib.Ieee.{Float}
 use Rattle.doubles.specs.Arithmetic.{◌⊕◌}
+use mathlib.Core.List.{List}
 use Rattle.simulation_time.specs.Steps.{times_from, at_all}
+use Rattle.simulation_time.specs.Timestep.{series_index}
+use Rattle.weather.specs.Weather.{in_series, read_series, reading_fine}
+
+-- the two tests that a run makes of its series
+abbrev pub on_series : List ℕ → List ℕ → List ℕ → ℕ → Float → Float → Bool
+on_series diffuse direct reflectivity day width time = in_series diffuse direct reflectivity (series_index time day width)
+
+abbrev pub in_range : List ℕ → List ℕ → List ℕ → ℕ → Float → Float → Bool
+in_range diffuse direct reflectivity day width time = reading_fine (read_series diffuse direct reflectivity (series_index time day width))
 
 swap : (f t r : Bool) → (t && f) && r ≡ f && (t && r)
 swap true true r = refl

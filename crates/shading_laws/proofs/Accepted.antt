@@ -3,7 +3,7 @@ use mathlib.Core.Logic.{inr}
 use mathlib.Core.List.{List}
 use Prim.Native.Nat.{ℕ, ◌*◌, ◌^◌}
 use lib.Dec.{T}
-use lib.Ieee.{Float, neg, add, sub, mul, lt, le}
+use lib.Ieee.{Float, neg, add, sub, mul, le}
 use Rattle.doubles.specs.Arithmetic.{◌⊕◌, ◌⊖◌, ◌⊗◌, whole, decimal}
 use Rattle.doubles.specs.Order.{InRange, Number}
 use Rattle.doubles.proofs.Order.{lt→le}

@@ -1,5 +1,5 @@
 -- The parts of an hour, put together, are the hour and its incidence.
-use mathlib.Core.Path.{◌≡◌, refl}
+use mathlib.Core.Path.{◌≡◌}
 use Prim.Native.Nat.{ℕ}
 use lib.Ieee.{Float}
 use Rattle.angles.specs.declared.SinCos.{SinCos}

@@ -2,7 +2,7 @@
 use Rattle.std.proofs.Common.{◌≡◌, ℕ, ◌+◌, ◌/◌, ◌%◌, refl}
 use Rattle.days.specs.Day.{day_of}
 use Rattle.sun.specs.declared.site.Site.{Site}
-use Rattle.sun.specs.Hour.{sin_cos_of, time_shift_of, altitude_sine, solar_altitude, solar_azimuth, hour_of}
+use Rattle.sun.specs.Hour.{sin_cos_of, time_shift_of, solar_altitude, solar_azimuth, hour_of}
 use Rattle.sun.specs.HourParts.{altitude_terms, hour_angles_by, hour_from, hour_by}
 
 pub hour_by_parts : (site : Site) (hour : ℕ)

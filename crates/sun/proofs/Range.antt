@@ -10,7 +10,7 @@ use Rattle.doubles.specs.Ranges.{within}
 use Rattle.doubles.proofs.Order.{lt→le, le_of_not_lt}
 use Rattle.doubles.proofs.Ranges.{both_of, within_range}
 use Rattle.doubles.proofs.Intervals.{own_range, add_in, sub_in, bounded, as_range, bounded_number, more_bounded, add_bounded, sub_bounded, mul_bounded, div_bounded, constant, whole_le, int_bounded}
-use Rattle.angles.specs.Sine.{sine, cosine}
+use Rattle.angles.specs.Sine.{cosine}
 use Rattle.angles.proofs.Laws.{cosine_range}
 use Rattle.arcsines.specs.Arcsine.{half_pi}
 use Rattle.arcsines.proofs.Range.{arcsine_range}

@@ -1,4 +1,4 @@
-use Rattle.std.proofs.Common.{◌<◌, sym, ◌∙◌, arith, lit<, rules}
+use Rattle.std.proofs.Common.{◌<◌, sym, ◌∙◌, arith, lit<}
 use lib.Ieee.{of_bits, div}
 use Rattle.angles.specs.Sine.{cosine, cosine_at}
 use Rattle.angles.proofs.Reduction.{at_quadrant, at_none}

@@ -1,5 +1,5 @@
 -- Each way of `reduce` is one lemma of `Reduction`: above 0, at a whole number, and between two.
-use Rattle.std.proofs.Common.{◌≤◌, arith, rules}
+use Rattle.std.proofs.Common.{◌≤◌, arith}
 use lib.Ieee.{of_bits, neg, div}
 use Rattle.doubles.specs.Arithmetic.{whole}
 use Rattle.angles.specs.Sine.{is_angle}

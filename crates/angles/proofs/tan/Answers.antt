@@ -1,5 +1,4 @@
 use Rattle.angles.specs.Sine.{tangent}
-use Rattle.std.proofs.Common.{rules}
 use Rattle.angles.proofs.tan.Goals as goal
 
 pub returns : goal.returns

@@ -2,7 +2,6 @@
 use mathlib.Core.Path.{◌≡◌, ◌∙◌, ap, subst, sym}
 use Prim.Native.Nat.{ℕ, ◌/◌, ◌%◌, ◌<◌}
 use native.Mathlib.Omega.{arith}
-use borrow.Author.Rules.{rules}
 use Rattle.calendar.specs.Calendar.{date_at, entry_at, place_of, date_of}
 use Rattle.calendar.proofs.Rule.{place_short, day_short}
 use Rattle.calendar.proofs.date_of.Goals as goal

@@ -8,7 +8,6 @@ use lib.IntN.{pos}
 use lib.Ieee.{binary64, neg, round, of_int, in_float}
 use Rattle.doubles.proofs.Rounding.{round-neg}
 use Rattle.days.specs.Day.{days_from}
-use borrow.Author.Rules.{rules}
 use Rattle.days.proofs.days_from.Goals as goal
 
 -- below k the difference is −(k − n), and its double the other's negative

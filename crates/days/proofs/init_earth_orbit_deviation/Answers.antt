@@ -4,7 +4,6 @@ use lib.Dec.{le→leb}
 use native.Mathlib.Omega.{arith}
 use Prim.Native.Nat.{◌+◌, ◌^◌}
 use Rattle.days.specs.Day.{orbit_deviation}
-use borrow.Author.Rules.{rules}
 use Rattle.days.proofs.init_earth_orbit_deviation.Goals as goal
 
 pub int_to_float-result : goal.int_to_float-result

@@ -4,7 +4,6 @@ use borrow.Author.Tests.{lt-ltb, le-ltb}
 use lib.Dec.{le→leb}
 use lib.Ieee.{of_bits, in_float, div}
 use Rattle.days.specs.Day.{equation_of_time_on}
-use borrow.Author.Rules.{rules}
 use Rattle.days.proofs.init_equation_of_time.Goals as goal
 
 pub int_to_float-result : goal.int_to_float-result

@@ -1,6 +1,5 @@
 use lib.Ieee.{of_bits}
 use Rattle.fins.specs.Fins.{fin_width}
-use borrow.Author.Rules.{rules}
 use Rattle.fins.proofs.fin_width.Goals as goal
 
 pub returns-in-Tangent : goal.returns-in-Tangent

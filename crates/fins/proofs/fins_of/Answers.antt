@@ -1,6 +1,5 @@
 use Rattle.fins.specs.Fins.{fins_of}
 use borrow.Author.Tests.{ne_eqb}
-use borrow.Author.Rules.{rules}
 use Rattle.fins.proofs.fins_of.Goals as goal
 
 pub returns-then-edition-eq2 : goal.returns-then-edition-eq2

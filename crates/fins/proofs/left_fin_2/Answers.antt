@@ -1,6 +1,5 @@
 use lib.Ieee.{of_bits}
 use Rattle.fins.specs.Fins.{left_fin2}
-use borrow.Author.Rules.{rules}
 use Rattle.fins.proofs.left_fin_2.Goals as goal
 
 pub returns-then-wrapped : goal.returns-then-wrapped

@@ -1,6 +1,5 @@
 use lib.Ieee.{of_bits, neg}
 use Rattle.fins.specs.Fins.{right_fin2}
-use borrow.Author.Rules.{rules}
 use Rattle.fins.proofs.right_fin_2.Goals as goal
 
 pub returns-then-wrapped : goal.returns-then-wrapped

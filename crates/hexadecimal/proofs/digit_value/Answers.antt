@@ -1,7 +1,6 @@
 -- `words::digit_value` meets its contract: each way out is one of the five ranges of bytes.
 use mathlib.Core.Path.{sym}
 use native.Mathlib.Omega.{arith}
-use borrow.Author.Rules.{rules}
 use Rattle.hexadecimal.proofs.DigitSteps.{value_below, value_decimal, value_between, value_letter, value_above}
 use Rattle.hexadecimal.proofs.digit_value.Goals as goal
 

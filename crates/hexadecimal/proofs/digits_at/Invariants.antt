@@ -1,12 +1,7 @@
 -- `words::digits_at` meets its contract. The loop's invariant: to go on from here gives what reading from the start gives; and n digits count below 16 ^ n.
-use mathlib.Core.Path.{◌≡◌, sym, ◌∙◌, ap}
-use Prim.Native.Nat.{ℕ, ◌+◌, ◌-◌, ◌*◌, ◌^◌, ◌≤◌, ◌<◌}
-use native.Mathlib.Nat.{add-zero}
-use native.Mathlib.Omega.{arith}
-use borrow.Author.Rules.{rules}
-use lib.Dec.{lit<}
+use mathlib.Core.Path.{◌≡◌}
+use Prim.Native.Nat.{◌+◌, ◌-◌, ◌^◌, ◌≤◌, ◌<◌}
 use Rattle.hexadecimal.specs.Hexadecimal.{read_digits}
-use Rattle.hexadecimal.proofs.DigitSteps.{digits_in, digits_out, one_read, none_read, all_read, counts_below, counts_fit}
 use Rattle.hexadecimal.proofs.digits_at.Given as goal
 
 abbrev pub invariant-loop-n : goal.invariant-loop-n

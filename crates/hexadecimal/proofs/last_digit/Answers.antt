@@ -1,5 +1,4 @@
 -- `words::last_digit` meets its contract.
-use borrow.Author.Rules.{rules}
 use borrow.Author.Tests.{lt-ltb, le-ltb}
 use Rattle.hexadecimal.specs.Hexadecimal.{digit}
 use Rattle.hexadecimal.proofs.last_digit.Goals as goal

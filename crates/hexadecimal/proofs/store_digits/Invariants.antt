@@ -1,14 +1,9 @@
 -- `words::store_digits` meets its contract. The loop's invariant: the n lowest digits stand at the end of the sixteen places, and the rest is w without them.
-use mathlib.Core.List.{List}
-use mathlib.Core.Path.{◌≡◌, refl, sym, ◌∙◌, ap, ap₂}
-use Prim.Native.Nat.{ℕ, ◌%◌, ◌+◌, ◌-◌, ◌/◌, ◌^◌, ◌≤◌}
-use native.Mathlib.Nat.{div-one}
-use native.Mathlib.Omega.{arith}
-use borrow.Author.Rules.{rules}
-use lib.ListN.{length, set, length-set}
+use mathlib.Core.Path.{◌≡◌}
+use Prim.Native.Nat.{◌+◌, ◌-◌, ◌/◌, ◌^◌, ◌≤◌}
+use lib.ListN.{length}
 use lib.Seq.{sets}
-use Rattle.hexadecimal.specs.Hexadecimal.{digit, digits}
-use Rattle.hexadecimal.proofs.DigitSteps.{put_in, put_out, one_written, one_less, all_written}
+use Rattle.hexadecimal.specs.Hexadecimal.{digits}
 use Rattle.hexadecimal.proofs.store_digits.Given as goal
 
 abbrev pub invariant-loop-n : goal.invariant-loop-n

@@ -1,7 +1,7 @@
 -- `counted_fine` meets its contract. The loop's invariant: whether all triples so far are fine.
-use mathlib.Core.Path.{◌≡◌, refl, ◌∙◌, ap, ap₂}
+use mathlib.Core.Path.{refl, ◌∙◌, ap, ap₂}
 use mathlib.Core.Bool.{◌&&◌}
-use Prim.Native.Nat.{ℕ, ◌+◌, ◌-◌, ◌*◌, ◌≤◌}
+use Prim.Native.Nat.{ℕ, ◌+◌, ◌*◌}
 use native.Mathlib.Omega.{arith}
 use Rattle.words.specs.Lists.{first_fine}
 use Rattle.words.specs.Words.{word_count}

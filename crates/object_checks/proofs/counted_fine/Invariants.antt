@@ -1,12 +1,7 @@
 -- `counted_fine` meets its contract. The loop's invariant: whether all triples so far are fine.
-use mathlib.Core.Path.{◌≡◌, refl, ◌∙◌, ap, ap₂}
-use mathlib.Core.Bool.{◌&&◌}
-use Prim.Native.Nat.{ℕ, ◌+◌, ◌-◌, ◌*◌, ◌≤◌}
-use native.Mathlib.Omega.{arith}
-use Rattle.words.specs.Lists.{first_fine}
-use Rattle.words.specs.Words.{word_count}
-use Rattle.words.proofs.Lists.{one_more}
-use Rattle.object_checks.specs.Checks.{object_fine, counted_fine}
+use mathlib.Core.Path.{◌≡◌}
+use Prim.Native.Nat.{◌-◌, ◌≤◌}
+use Rattle.object_checks.specs.Checks.{counted_fine}
 use Rattle.object_checks.proofs.counted_fine.Given as goal
 
 abbrev pub invariant-loop-j : goal.invariant-loop-j

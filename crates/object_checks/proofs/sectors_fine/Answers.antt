@@ -1,9 +1,7 @@
 -- `sectors_fine` meets its contract. The loop's invariant: `fine` is whether all sectors so far are fine.
 use native.Mathlib.Omega.{arith}
-use mathlib.Core.Path.{◌≡◌, refl, ◌∙◌, ap₂}
+use mathlib.Core.Path.{refl, ◌∙◌, ap₂}
 use mathlib.Core.Bool.{◌&&◌}
-use Prim.Native.Nat.{◌-◌, ◌≤◌}
-use borrow.Author.Rules.{rules}
 use Rattle.words.specs.Lists.{first_fine}
 use Rattle.words.specs.Words.{word_count}
 use Rattle.objects.specs.Records.{sector_count}

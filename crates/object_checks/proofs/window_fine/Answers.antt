@@ -1,9 +1,7 @@
 -- `window_fine` meets its contract. The loop's invariant: `fine` is whether all objects so far are fine.
 use native.Mathlib.Omega.{arith}
-use mathlib.Core.Path.{◌≡◌, refl, ◌∙◌, ap₂}
+use mathlib.Core.Path.{refl, ◌∙◌, ap₂}
 use mathlib.Core.Bool.{◌&&◌}
-use Prim.Native.Nat.{◌-◌, ◌≤◌}
-use borrow.Author.Rules.{rules}
 use Rattle.words.specs.Lists.{first_fine}
 use Rattle.object_checks.specs.Checks.{window_fine, window_record_fine}
 use Rattle.words.proofs.Lists.{one_more}

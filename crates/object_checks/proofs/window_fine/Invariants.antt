@@ -1,13 +1,8 @@
 -- `window_fine` meets its contract. The loop's invariant: `fine` is whether all objects so far are fine.
-use native.Mathlib.Omega.{arith}
-use mathlib.Core.Path.{◌≡◌, refl, ◌∙◌, ap₂}
-use mathlib.Core.Bool.{◌&&◌}
+use mathlib.Core.Path.{◌≡◌}
 use Prim.Native.Nat.{◌-◌, ◌≤◌}
-use borrow.Author.Rules.{rules}
 use Rattle.words.specs.Lists.{first_fine}
-use Rattle.object_checks.specs.Checks.{window_fine, window_record_fine}
-use Rattle.words.proofs.Lists.{one_more}
-use Rattle.object_checks.proofs.RecordLists.{part_record, too_long, all_records}
+use Rattle.object_checks.specs.Checks.{window_record_fine}
 use Rattle.object_checks.proofs.window_fine.Given as goal
 
 abbrev pub invariant-loop-i : goal.invariant-loop-i

@@ -1,6 +1,5 @@
 use lib.Ieee.{of_bits, div}
 use Rattle.powers.specs.Power.{pow_minus1253, power_by}
-use borrow.Author.Rules.{rules}
 use Rattle.powers.proofs.pow_minus_1_253.Goals as goal
 
 pub returns-then-u-2 : goal.returns-then-u-2

@@ -1,7 +1,6 @@
 -- `roots::guess` meets its contract: the patterns are no NaN's, and the result has 32 digits. Assumes nothing.
 use native.Mathlib.Omega.{arith}
 use Rattle.roots.proofs.Pattern.{finite_bits, above_number}
-use borrow.Author.Rules.{rules}
 use Rattle.roots.proofs.guess.Goals as goal
 
 pub float_from_bits-x : goal.float_from_bits-x

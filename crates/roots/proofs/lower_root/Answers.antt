@@ -3,7 +3,6 @@ use mathlib.Core.Path.{sym, subst}
 use Rattle.roots.specs.Root.{whole_root}
 use Rattle.roots.proofs.Whole.{whole_floor}
 use Rattle.roots.proofs.Remainder.{Lower, floor_lower, square-fits}
-use borrow.Author.Rules.{rules}
 use Rattle.roots.proofs.lower_root.Goals as goal
 
 pub overflow_mul-g : goal.overflow_mul-g

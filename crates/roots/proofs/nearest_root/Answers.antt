@@ -2,7 +2,6 @@
 use Prim.Native.Nat.{ℕ, ◌*◌, ◌^◌, ◌≤◌, ◌<◌}
 use native.Mathlib.Omega.{arith}
 use Rattle.roots.proofs.Remainder.{lower_ge, lower_lt, quotient_le, rest_lt, square_le, quotient, rest, stays_is, rises_is}
-use borrow.Author.Rules.{rules}
 use Rattle.roots.proofs.nearest_root.Goals as goal
 
 -- the operand and the lower root, and the laws at them

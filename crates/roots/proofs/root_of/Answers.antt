@@ -8,7 +8,6 @@ use lib.Ieee.{odd}
 use Rattle.roots.specs.Root.{nearest_root}
 use Rattle.roots.proofs.Scale.{scaled, radicand, scaled_in, root_digits}
 use Rattle.roots.proofs.Pattern.{finite_bits, pattern}
-use borrow.Author.Rules.{rules}
 use Rattle.roots.proofs.root_of.Goals as goal
 
 -- what is handed over is n, and nothing is shifted out

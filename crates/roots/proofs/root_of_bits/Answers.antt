@@ -11,7 +11,6 @@ use Rattle.roots.specs.Root.{nearest_root}
 use Rattle.roots.proofs.Scale.{Scaled, root_is}
 use Rattle.roots.proofs.Pattern.{hidden}
 use Rattle.roots.proofs.Doubles.{lift, lift_in, normal_scaled, subnormal_scaled}
-use borrow.Author.Rules.{rules}
 use Rattle.roots.proofs.root_of_bits.Goals as goal
 
 -- below 2^52 the pattern has no exponent

@@ -1,7 +1,6 @@
 -- `whole_records` meets its contract.
 use mathlib.Core.Path.{refl}
 use native.Mathlib.Omega.{arith}
-use borrow.Author.Rules.{rules}
 use Rattle.seasons.specs.Seasons.{whole_records}
 use Rattle.seasons.proofs.Parts.{taken_length}
 use Rattle.seasons.proofs.whole_records.Goals as goal

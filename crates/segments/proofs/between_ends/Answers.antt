@@ -1,5 +1,4 @@
 use Rattle.segments.specs.Segments.{between_ends}
-use borrow.Author.Rules.{rules}
 use Rattle.segments.proofs.between_ends.Goals as goal
 
 pub returns : goal.returns

@@ -1,9 +1,9 @@
 -- `find_segment` meets its contract. The loop's invariant: the sectors so far stand in their places.
 use mathlib.Core.Path.{◌≡◌, refl, sym, ap, subst, ◌∙◌}
 use mathlib.Core.List.{[]}
-use Prim.Native.Nat.{ℕ, ◌-◌, ◌≤◌, ◌<◌}
+use Prim.Native.Nat.{ℕ, ◌≤◌, ◌<◌}
 use native.Mathlib.Omega.{arith}
-use Rattle.objects.specs.Records.{records_from, segment_at, sector_count, sectors_of, no_segment, sector_places}
+use Rattle.objects.specs.Records.{records_from, segment_at, sectors_of, no_segment, sector_places}
 use Rattle.objects.proofs.Places.{none_filled, one_filled}
 use Rattle.segments.specs.Segments.{place_of}
 use Rattle.segments.specs.FoundSegment.{place_index, segment_found}

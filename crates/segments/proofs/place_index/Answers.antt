@@ -1,5 +1,4 @@
 use Rattle.segments.specs.FoundSegment.{place_index}
-use borrow.Author.Rules.{rules}
 use Rattle.segments.proofs.place_index.Goals as goal
 
 pub returns-in-At : goal.returns-in-At

@@ -1,7 +1,6 @@
 -- `check_irradiance` meets its contract.
 use mathlib.Core.Path.{refl}
 use Rattle.single_steps.specs.Single.{irradiance_checked}
-use borrow.Author.Rules.{rules}
 use Rattle.single_steps.proofs.check_irradiance.Goals as goal
 
 pub returns : goal.returns

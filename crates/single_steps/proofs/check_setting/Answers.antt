@@ -1,7 +1,6 @@
 -- `check_setting` meets its contract.
 use mathlib.Core.Path.{refl}
 use Rattle.single_steps.specs.Single.{setting_checked}
-use borrow.Author.Rules.{rules}
 use Rattle.single_steps.proofs.check_setting.Goals as goal
 
 pub returns : goal.returns

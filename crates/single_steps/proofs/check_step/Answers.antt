@@ -1,7 +1,6 @@
 -- `check_step` meets its contract.
 use mathlib.Core.Path.{refl}
 use Rattle.single_steps.specs.Single.{step_checked}
-use borrow.Author.Rules.{rules}
 use Rattle.single_steps.proofs.check_step.Goals as goal
 
 pub returns : goal.returns

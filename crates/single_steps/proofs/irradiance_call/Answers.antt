@@ -1,7 +1,6 @@
 -- `irradiance_call` meets its contract.
 use mathlib.Core.Path.{refl, sym, ◌∙◌}
 use Rattle.single_steps.specs.Single.{unless_refused, irradiance_call}
-use borrow.Author.Rules.{rules}
 use Rattle.single_steps.proofs.irradiance_call.Goals as goal
 
 pub returns-in-Refused : goal.returns-in-Refused

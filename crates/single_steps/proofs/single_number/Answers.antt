@@ -1,7 +1,6 @@
 -- `single_number` meets its contract.
 use mathlib.Core.Path.{◌∙◌, ap, sym}
 use Rattle.single_steps.specs.Single.{single_number}
-use borrow.Author.Rules.{rules}
 use Rattle.single_steps.proofs.single_number.Goals as goal
 
 pub returns-in-Accepted : goal.returns-in-Accepted

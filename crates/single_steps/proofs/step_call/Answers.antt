@@ -2,9 +2,7 @@
 use mathlib.Core.Path.{refl, sym, ◌∙◌, ap}
 use Rattle.single_steps.specs.Single.{unless_refused, stored_step, step_call}
 use Rattle.single_steps.proofs.SingleSteps.{lists_passed}
-use borrow.Author.Rules.{rules}
 use Rattle.single_steps.proofs.step_call.Goals as goal
-use Rattle.single_steps.proofs.step_call.Lts as lts
 
 pub step_with-requires : goal.step_with-requires
 step_with-requires c = let a = c.args in let met = lists_passed a.edition a.site a.time a.surface a.reading a.summer.now a.winter.now a.window.now a.results.now (sym c.check_step-tested.ensures ∙ c.in-Accepted.is) in record { summer_value = met.0; winter_value = met.1.0; window_value = met.1.1 }

@@ -1,6 +1,5 @@
 -- `step_with` meets its contract.
 use mathlib.Core.Path.{refl, sym, ◌∙◌, ap, subst}
-use borrow.Author.Rules.{rules}
 use Prim.Native.Nat.{ℕ, ◌/◌}
 use lib.Dec.{T}
 use lib.Ieee.Bits.{is_true}

@@ -1,7 +1,6 @@
 -- `store_breakdown` meets its contract.
 use mathlib.Core.Path.{refl}
 use Rattle.single_steps.specs.Single.{put_breakdown}
-use borrow.Author.Rules.{rules}
 use Rattle.single_steps.proofs.store_breakdown.Goals as goal
 
 pub returns : goal.returns

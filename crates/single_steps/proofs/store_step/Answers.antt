@@ -1,7 +1,6 @@
 -- `store_step` meets its contract.
 use mathlib.Core.Path.{refl}
 use Rattle.single_steps.specs.Single.{stored_step}
-use borrow.Author.Rules.{rules}
 use Rattle.single_steps.proofs.store_step.Goals as goal
 
 pub returns-in-Refused : goal.returns-in-Refused

@@ -2,7 +2,6 @@
 use mathlib.Core.Path.{refl}
 use lib.Ieee.{of_bits}
 use Rattle.single_steps.specs.Single.{time_fine}
-use borrow.Author.Rules.{rules}
 use Rattle.single_steps.proofs.time_fine.Goals as goal
 
 pub returns : goal.returns

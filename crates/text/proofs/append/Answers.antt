@@ -1,8 +1,7 @@
 -- `append` meets its contract. The loop's invariant: the first i bytes of the part are in their places.
 use mathlib.Core.Path.{◌≡◌, ◌∙◌, ap}
-use Prim.Native.Nat.{◌+◌, ◌-◌, ◌≤◌, ◌<◌, min}
+use Prim.Native.Nat.{◌+◌, ◌-◌, min}
 use native.Mathlib.Omega.{arith}
-use borrow.Author.Rules.{rules}
 use lib.ListN.{length}
 use lib.Seq.{paste, paste-zero}
 use Rattle.text.proofs.Pieces.{none_moved, unchanged, kept_length, next_byte}

@@ -1,11 +1,8 @@
 -- `append` meets its contract. The loop's invariant: the first i bytes of the part are in their places.
-use mathlib.Core.Path.{◌≡◌, ◌∙◌, ap}
-use Prim.Native.Nat.{◌+◌, ◌-◌, ◌≤◌, ◌<◌, min}
-use native.Mathlib.Omega.{arith}
-use borrow.Author.Rules.{rules}
+use mathlib.Core.Path.{◌≡◌}
+use Prim.Native.Nat.{◌-◌, ◌≤◌, ◌<◌, min}
 use lib.ListN.{length}
-use lib.Seq.{paste, paste-zero}
-use Rattle.text.proofs.Pieces.{none_moved, unchanged, kept_length, next_byte}
+use lib.Seq.{paste}
 use Rattle.text.proofs.append.Given as goal
 
 abbrev pub invariant-loop-i : goal.invariant-loop-i

@@ -1,10 +1,6 @@
 -- `line_end` meets its contract. The loop's invariant: the line feed is looked for from here on.
-use mathlib.Core.Path.{◌≡◌, refl, ◌∙◌}
-use Prim.Native.Nat.{◌-◌}
+use mathlib.Core.Path.{refl, ◌∙◌}
 use native.Mathlib.Omega.{arith}
-use borrow.Author.Rules.{rules}
-use lib.ListN.{length}
-use Rattle.text.specs.Text.{line_end}
 use Rattle.text.proofs.Ends.{here, further, at_the_end}
 use Rattle.text.proofs.line_end.Goals as goal
 

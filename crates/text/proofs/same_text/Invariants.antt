@@ -1,14 +1,9 @@
 -- `same_text` meets its contract. The loop's invariant: whether the bytes so far are the same.
-use mathlib.Core.Path.{◌≡◌, refl, ◌∙◌, ap}
-use mathlib.Core.Bool.{◌&&◌}
+use mathlib.Core.Path.{◌≡◌}
 use Prim.Native.Nat.{◌-◌, ◌≤◌}
-use native.Mathlib.Omega.{arith}
-use borrow.Author.Rules.{rules}
-use borrow.Author.Tests.{eq-eqb, ne_eqb}
 use lib.ListN.{length}
 use Rattle.words.specs.Lists.{first_fine}
-use Rattle.words.proofs.Lists.{one_more}
-use Rattle.text.specs.Text.{same_byte, same_text}
+use Rattle.text.specs.Text.{same_byte}
 use Rattle.text.proofs.same_text.Given as goal
 
 abbrev pub invariant-loop-i : goal.invariant-loop-i

@@ -1,5 +1,4 @@
 -- `add_row` meets its contract.
-use borrow.Author.Rules.{rules}
 use Rattle.totals.specs.Kept.{with_row_added}
 use Rattle.totals.proofs.add_row.Goals as goal
 

@@ -12,7 +12,6 @@ use Rattle.calendar.proofs.Rule.{year_few}
 use Rattle.jobs.specs.Totals.{no_totals, totals_count, totals_records, put_totals}
 use Rattle.jobs.proofs.TotalsRecords.{length_put_totals, record_next, records_done, records_whole}
 use Rattle.totals.specs.Kept.{emptied}
-use borrow.Author.Rules.{rules}
 use Rattle.totals.proofs.empty_totals.Goals as goal
 
 few : (leap : Bool) (n : ℕ) → n ≡ totals_count leap → n ≤ 378
@@ -23,14 +22,13 @@ overflow_add-count c = omega (arith, c.days_in_year-count.ensures, year_few c.ar
 
 pub loop-k-init : goal.loop-k-init
 unfolding totals_count no_totals emptied whole of_bits div
-loop-k-init c =
-    (
-      omega arith,
-      refl,
-      ap (λ (n : ℕ). n + 12) c.days_in_year-count.ensures,
-      refl,
-      records_whole (λ (j : ℕ). no_totals) (totals_count c.args.leap) c.args.totals.now c.requires,
-    )
+loop-k-init c = (
+  omega arith,
+  refl,
+  ap (λ (n : ℕ). n + 12) c.days_in_year-count.ensures,
+  refl,
+  records_whole (λ (j : ℕ). no_totals) (totals_count c.args.leap) c.args.totals.now c.requires,
+)
 
 pub store_totals-requires : goal.store_totals-requires
 store_totals-requires c =

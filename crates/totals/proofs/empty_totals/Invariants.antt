@@ -1,18 +1,10 @@
 -- `empty_totals` meets its contract. The loop's invariant: what is left of the records, stored from here on, comes to all of them.
-use mathlib.Core.Path.{◌≡◌, refl, sym, ap, ◌∙◌, subst}
-use mathlib.Core.Bool.{Bool}
-use mathlib.Core.List.{List}
-use Prim.Native.Nat.{ℕ, ◌+◌, ◌-◌, ◌*◌, ◌≤◌}
-use native.Mathlib.Omega.{arith}
+use mathlib.Core.Path.{◌≡◌}
+use Prim.Native.Nat.{ℕ, ◌-◌, ◌*◌, ◌≤◌}
 use lib.ListN.{length}
 use lib.Seq.{sets}
-use lib.Ieee.{of_bits, div}
-use Rattle.doubles.specs.Arithmetic.{whole}
-use Rattle.calendar.proofs.Rule.{year_few}
-use Rattle.jobs.specs.Totals.{no_totals, totals_count, totals_records, put_totals}
-use Rattle.jobs.proofs.TotalsRecords.{length_put_totals, record_next, records_done, records_whole}
+use Rattle.jobs.specs.Totals.{no_totals, totals_count, totals_records}
 use Rattle.totals.specs.Kept.{emptied}
-use borrow.Author.Rules.{rules}
 use Rattle.totals.proofs.empty_totals.Given as goal
 
 abbrev pub invariant-loop-k : goal.invariant-loop-k

@@ -1,12 +1,10 @@
 -- `parts_of` meets its contract.
 use mathlib.Core.Path.{ap}
 use native.Mathlib.Omega.{arith}
-use Prim.Native.Nat.{◌-◌}
 use Rattle.calendar.specs.declared.Date.{Date}
 use Rattle.calendar.proofs.Rule.{calendar_right, year_few}
 use Rattle.jobs.specs.Totals.{month_part}
 use Rattle.totals.specs.Kept.{parts_of}
-use borrow.Author.Rules.{rules}
 use Rattle.totals.proofs.parts_of.Goals as goal
 
 pub overflow_add-result : goal.overflow_add-result

@@ -5,7 +5,6 @@ use Rattle.jobs.specs.Totals.{totals_at}
 use Rattle.jobs.proofs.TotalsLaws.{day_few, month_few}
 use Rattle.totals.specs.declared.Parts.{Parts}
 use Rattle.totals.specs.Kept.{parts_of, kept_totals}
-use borrow.Author.Rules.{rules}
 use Rattle.totals.proofs.read_totals.Goals as goal
 
 pub totals_at-requires : goal.totals_at-requires

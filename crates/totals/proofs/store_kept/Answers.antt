@@ -1,5 +1,4 @@
 -- `store_kept` meets its contract.
-use borrow.Author.Rules.{rules}
 use Rattle.totals.specs.Kept.{put_kept}
 use Rattle.totals.proofs.store_kept.Goals as goal
 

@@ -7,7 +7,6 @@ use lib.ListN.{length}
 use Rattle.words.specs.Words.{word_count}
 use Rattle.words.proofs.Laws.{length-put_word, length_put_double}
 use Rattle.jobs.specs.Totals.{put_totals}
-use borrow.Author.Rules.{rules}
 use Rattle.totals.proofs.store_totals.Goals as goal
 use Rattle.totals.proofs.store_totals.Goals.{Start}
 

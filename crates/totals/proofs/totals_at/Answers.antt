@@ -1,6 +1,5 @@
 -- `totals_at` meets its contract.
 use Rattle.jobs.specs.Totals.{totals_at}
-use borrow.Author.Rules.{rules}
 use Rattle.totals.proofs.totals_at.Goals as goal
 
 pub returns : goal.returns

@@ -1,6 +1,5 @@
 -- `with_step` meets its contract.
 use Rattle.jobs.specs.Totals.{with_step}
-use borrow.Author.Rules.{rules}
 use Rattle.totals.proofs.with_step.Goals as goal
 
 pub returns : goal.returns

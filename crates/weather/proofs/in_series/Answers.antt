@@ -1,7 +1,6 @@
 -- `in_series` meets its contract.
 use mathlib.Core.Path.{refl}
 use Rattle.weather.specs.Weather.{in_series}
-use borrow.Author.Rules.{rules}
 use Rattle.weather.proofs.in_series.Goals as goal
 
 pub returns : goal.returns

@@ -1,7 +1,6 @@
 -- `read_series` meets its contract.
 use mathlib.Core.Path.{refl}
 use Rattle.weather.specs.Weather.{read_series}
-use borrow.Author.Rules.{rules}
 use Rattle.weather.proofs.read_series.Goals as goal
 
 pub returns : goal.returns

@@ -1,5 +1,4 @@
 -- `words::bits_of_double` meets its contract. A NaN alone differs from itself.
-use borrow.Author.Rules.{rules}
 use Rattle.words.proofs.Patterns.{not-nan, written_for_nan}
 use Rattle.words.proofs.bits_of_double.Goals as goal
 

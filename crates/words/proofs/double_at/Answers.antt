@@ -1,7 +1,6 @@
 -- `words::double_at` meets its contract.
 use mathlib.Core.Path.{◌∙◌, ap}
 use lib.Ieee.{binary64, of_bits}
-use borrow.Author.Rules.{rules}
 use Rattle.words.specs.Words.{double_at}
 use Rattle.words.proofs.double_at.Goals as goal
 

@@ -1,7 +1,6 @@
 -- `words::double_of_bits` meets its contract. Its test tells the NaN patterns from all others.
 use mathlib.Core.Path.{sym}
 use native.Mathlib.Omega.{arith}
-use borrow.Author.Rules.{rules}
 use lib.Ieee.{of_bits, div}
 use Rattle.words.proofs.Patterns.{above_infinity, up_to_infinity}
 use Rattle.words.proofs.double_of_bits.Goals as goal

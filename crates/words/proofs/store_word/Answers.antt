@@ -1,6 +1,5 @@
 -- `words::store_word` meets its contract.
 use borrow.Author.Tests.{le-ltb}
-use borrow.Author.Rules.{rules}
 use Rattle.words.specs.Words.{put_word, word_count}
 use Rattle.words.proofs.store_word.Goals as goal
 

@@ -3,7 +3,6 @@ use mathlib.Core.Path.{◌≡◌, ◌∙◌, ap}
 use Prim.Native.Nat.{ℕ, ◌+◌, ◌<◌}
 use native.Mathlib.Omega.{arith}
 use lib.ListN.{get_or}
-use borrow.Author.Rules.{rules}
 use Rattle.calendar.specs.Calendar.{entry_at}
 use Rattle.calendar.proofs.Entries.{values_from, value_at_lem}
 use Rattle.calendar.proofs.table.entry_at.Goals as goal

@@ -1,6 +1,5 @@
 -- `day_at` meets its contract.
 use Rattle.days.specs.Table.{day_at}
-use borrow.Author.Rules.{rules}
 use Rattle.days.proofs.table.day_at.Goals as goal
 
 pub returns : goal.returns

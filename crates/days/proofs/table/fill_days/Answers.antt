@@ -5,9 +5,8 @@ use Prim.Native.Nat.{ℕ, ◌+◌, ◌-◌, ◌*◌, ◌≤◌}
 use native.Mathlib.Omega.{arith}
 use lib.ListN.{length}
 use lib.Seq.{sets}
-use borrow.Author.Rules.{rules}
 use Rattle.days.specs.Day.{day_of}
-use Rattle.days.specs.Table.{day_records, with_day_table, put_day}
+use Rattle.days.specs.Table.{day_records, put_day}
 use Rattle.days.proofs.TableLaws.{length_put_day, record_next, records_done, table_whole}
 use Rattle.days.proofs.table.fill_days.Goals as goal
 

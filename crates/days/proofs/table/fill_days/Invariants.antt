@@ -1,14 +1,9 @@
 -- `fill_days` meets its contract. The loop's invariant: what is left of the table, stored from here on, comes to all of it.
-use mathlib.Core.Path.{◌≡◌, refl, sym, ap, ◌∙◌, subst}
-use mathlib.Core.List.{List}
-use Prim.Native.Nat.{ℕ, ◌+◌, ◌-◌, ◌*◌, ◌≤◌}
-use native.Mathlib.Omega.{arith}
+use mathlib.Core.Path.{◌≡◌}
+use Prim.Native.Nat.{◌+◌, ◌-◌, ◌*◌, ◌≤◌}
 use lib.ListN.{length}
 use lib.Seq.{sets}
-use borrow.Author.Rules.{rules}
-use Rattle.days.specs.Day.{day_of}
-use Rattle.days.specs.Table.{day_records, with_day_table, put_day}
-use Rattle.days.proofs.TableLaws.{length_put_day, record_next, records_done, table_whole}
+use Rattle.days.specs.Table.{day_records, with_day_table}
 use Rattle.days.proofs.table.fill_days.Given as goal
 
 abbrev pub invariant-loop-i : goal.invariant-loop-i

@@ -1,6 +1,5 @@
 -- `store_day` meets its contract.
 use Rattle.days.specs.Table.{put_day}
-use borrow.Author.Rules.{rules}
 use Rattle.days.proofs.table.store_day.Goals as goal
 
 pub returns : goal.returns

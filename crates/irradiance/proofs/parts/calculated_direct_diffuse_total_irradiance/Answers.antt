@@ -1,6 +1,5 @@
 use lib.Ieee.{of_bits}
 use Rattle.irradiance.specs.Parts.{irradiance_of}
-use Rattle.irradiance.proofs.parts.calculated_direct_diffuse_total_irradiance.Statement.{statement, }
 use Rattle.irradiance.proofs.parts.calculated_direct_diffuse_total_irradiance.Goals as goal
 
 pub returns : goal.returns

@@ -1,6 +1,5 @@
 use lib.Ieee.{of_bits}
 use Rattle.irradiance.specs.Sky.{brightness_in, cut_brightness}
-use borrow.Author.Rules.{rules}
 use Rattle.irradiance.proofs.sky.circumsolar_brightness.Goals as goal
 
 pub returns-then-f1 : goal.returns-then-f1

@@ -1,5 +1,4 @@
 use Rattle.irradiance.specs.Sky.{brightness_in}
-use borrow.Author.Rules.{rules}
 use Rattle.irradiance.proofs.sky.horizontal_brightness.Goals as goal
 
 pub returns : goal.returns

@@ -1,6 +1,5 @@
 use lib.Ieee.{of_bits}
 use Rattle.irradiance.specs.Sky.{clearness}
-use Rattle.irradiance.proofs.sky.init_dimensionless_clearness_parameter.Statement.{statement, }
 use Rattle.irradiance.proofs.sky.init_dimensionless_clearness_parameter.Goals as goal
 
 pub returns-then-diffuse_horizontal_radiation : goal.returns-then-diffuse_horizontal_radiation

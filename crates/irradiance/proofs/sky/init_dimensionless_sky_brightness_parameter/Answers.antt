@@ -1,6 +1,5 @@
 use mathlib.Core.Path.{refl}
 use Rattle.irradiance.specs.Sky.{sky_brightness}
-use Rattle.irradiance.proofs.sky.init_dimensionless_sky_brightness_parameter.Statement.{statement, }
 use Rattle.irradiance.proofs.sky.init_dimensionless_sky_brightness_parameter.Goals as goal
 
 pub returns : goal.returns

@@ -1,5 +1,4 @@
 use Rattle.irradiance.specs.Sky.{brightness, circumsolar_brightness}
-use Rattle.irradiance.proofs.sky.init_f1_circumsolar_brightness_coefficient.Statement.{statement, }
 use Rattle.irradiance.proofs.sky.init_f1_circumsolar_brightness_coefficient.Goals as goal
 
 pub returns : goal.returns

@@ -1,5 +1,4 @@
 use Rattle.irradiance.specs.Sky.{brightness, horizontal_brightness}
-use Rattle.irradiance.proofs.sky.init_f2_horizontal_brightness_coefficient.Statement.{statement, }
 use Rattle.irradiance.proofs.sky.init_f2_horizontal_brightness_coefficient.Goals as goal
 
 pub returns : goal.returns

@@ -1,8 +1,6 @@
 -- `line_answer` meets its contract.
 use mathlib.Core.Path.{refl, ◌∙◌, sym}
-use borrow.Author.Tests.{not-true, not-false}
 use Rattle.lines.specs.Line.{line_answer}
-use borrow.Author.Rules.{rules}
 use Rattle.lines.proofs.line.line_answer.Goals as goal
 
 pub returns-then-not-line_fine : goal.returns-then-not-line_fine

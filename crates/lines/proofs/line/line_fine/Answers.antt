@@ -4,7 +4,6 @@ use mathlib.Core.Bool.{◌&&◌}
 use lib.ListN.{length}
 use borrow.Author.Tests.{eq-eqb, ne_eqb}
 use Rattle.lines.specs.Line.{line_fine}
-use borrow.Author.Rules.{rules}
 use Rattle.lines.proofs.line.line_fine.Goals as goal
 
 pub returns-then-line-ne169 : goal.returns-then-line-ne169

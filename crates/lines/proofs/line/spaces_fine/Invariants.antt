@@ -1,11 +1,7 @@
 -- `spaces_fine` meets its contract. The loop's invariant: whether a space stood behind each value so far.
-use mathlib.Core.Path.{◌≡◌, refl, ◌∙◌, ap}
-use mathlib.Core.Bool.{◌&&◌}
+use mathlib.Core.Path.{◌≡◌}
 use Prim.Native.Nat.{◌-◌, ◌≤◌}
-use native.Mathlib.Omega.{arith}
-use borrow.Author.Rules.{rules}
 use Rattle.words.specs.Lists.{first_fine}
-use Rattle.words.proofs.Lists.{one_more}
 use lib.ListN.{length}
 use Rattle.lines.specs.Line.{parted}
 use Rattle.lines.proofs.line.spaces_fine.Given as goal

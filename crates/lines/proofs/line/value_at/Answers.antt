@@ -1,6 +1,5 @@
 -- `value_at` meets its contract.
 use mathlib.Core.Path.{sym, ap, ◌∙◌}
-use borrow.Author.Rules.{rules}
 use lib.Ieee.{binary64, of_bits}
 use Rattle.lines.specs.Line.{word_of, value_at}
 use Rattle.lines.proofs.line.value_at.Goals as goal

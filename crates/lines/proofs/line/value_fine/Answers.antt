@@ -1,6 +1,5 @@
 -- `value_fine` meets its contract.
 use mathlib.Core.Path.{sym, ap, ◌∙◌}
-use borrow.Author.Rules.{rules}
 use Rattle.lines.specs.Line.{is_word, value_fine}
 use Rattle.lines.proofs.line.value_fine.Goals as goal
 

@@ -1,11 +1,7 @@
 -- `values_fine` meets its contract. The loop's invariant: whether all values so far are fine.
-use mathlib.Core.Path.{◌≡◌, refl, ◌∙◌, ap, ap₂}
-use mathlib.Core.Bool.{◌&&◌}
+use mathlib.Core.Path.{◌≡◌}
 use Prim.Native.Nat.{◌-◌, ◌≤◌}
-use native.Mathlib.Omega.{arith}
-use borrow.Author.Rules.{rules}
 use Rattle.words.specs.Lists.{first_fine}
-use Rattle.words.proofs.Lists.{one_more}
 use Rattle.lines.specs.Line.{value_fine}
 use Rattle.lines.proofs.line.values_fine.Given as goal
 

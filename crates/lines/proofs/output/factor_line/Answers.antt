@@ -1,6 +1,5 @@
 -- `factor_line` meets its contract.
 use mathlib.Core.Path.{refl}
-use borrow.Author.Rules.{rules}
 use Rattle.hexadecimal.specs.Hexadecimal.{put_digits, digits_of, digits}
 use Rattle.text.specs.Text.{ascii}
 use Rattle.lines.specs.Line.{output_line, bytes_of}

@@ -1,7 +1,6 @@
 -- `output_line` meets its contract.
 use mathlib.Core.Path.{◌∙◌, ap, sym}
 use Rattle.lines.specs.Line.{output_line}
-use borrow.Author.Rules.{rules}
 use Rattle.lines.proofs.output.output_line.Goals as goal
 
 pub returns-in-Factor : goal.returns-in-Factor

@@ -7,7 +7,6 @@ use Prim.Native.Nat.{◌+◌, ◌-◌, min}
 use Rattle.words.proofs.Lists.{unmapped}
 use Rattle.lines.specs.Line.{bytes_of}
 use Rattle.text.proofs.Pieces.{front}
-use borrow.Author.Rules.{rules}
 use Rattle.lines.proofs.output.put.Goals as goal
 use Rattle.lines.proofs.output.put.Goals.{Start}
 

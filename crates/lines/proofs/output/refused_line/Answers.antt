@@ -2,7 +2,6 @@
 use mathlib.Core.Path.{◌∙◌, ap}
 use mathlib.Core.List.{◌++◌}
 use native.Mathlib.Omega.{arith}
-use borrow.Author.Rules.{rules}
 use Rattle.text.specs.Text.{ascii}
 use Rattle.lines.specs.Line.{numeral, output_line, bytes_of}
 use Rattle.lines.proofs.Numerals.{below_hundred, one_digit, two_digits}

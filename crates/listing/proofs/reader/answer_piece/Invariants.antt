@@ -1,13 +1,8 @@
 -- `answer_piece` meets its contract. The loop's invariant: from here on, all comes to the same as from the start.
-use mathlib.Core.Path.{◌≡◌}
 use Prim.Native.Nat.{◌-◌}
-use native.Mathlib.Omega.{arith}
 use lib.ListN.{length}
-use Rattle.words.proofs.Lists.{unmapped}
-use Rattle.lines.specs.Line.{bytes_of}
 use Rattle.listing.specs.Reading.{reading_of}
-use Rattle.text.proofs.Ends.{end_from, end_within}
-use Rattle.listing.proofs.Lines.{Goes, held_few, starts, line_ends, line_goes_on, ends_reading, ends_count, ends_list, ends_long}
+use Rattle.listing.proofs.Lines.{Goes}
 use Rattle.listing.proofs.reader.answer_piece.Given as goal
 
 abbrev pub invariant-loop-at : goal.invariant-loop-at

@@ -3,7 +3,6 @@ use Rattle.lines.specs.Line.{bytes_of}
 use Rattle.listing.specs.Reading.{reading_of, printed_on}
 use Rattle.text.proofs.Pieces.{both_filled}
 use Rattle.listing.proofs.Readings.{text_answered}
-use borrow.Author.Rules.{rules}
 use Rattle.listing.proofs.reader.answer_text.Goals as goal
 
 pub returns : goal.returns

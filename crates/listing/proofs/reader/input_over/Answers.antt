@@ -4,7 +4,6 @@ use lib.ListN.{length}
 use Rattle.words.proofs.Lists.{unmapped}
 use Rattle.listing.specs.Reading.{reading_of, last_printed}
 use Rattle.listing.proofs.Readings.{names_last, values_last, some_kept}
-use borrow.Author.Rules.{rules}
 use Rattle.listing.proofs.reader.input_over.Goals as goal
 
 pub returns-then-reader-eq0 : goal.returns-then-reader-eq0

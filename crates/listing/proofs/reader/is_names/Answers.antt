@@ -1,7 +1,6 @@
 -- `is_names` meets its contract.
 use Rattle.text.specs.Text.{ascii}
 use Rattle.listing.specs.Listing.{names}
-use borrow.Author.Rules.{rules}
 use Rattle.listing.proofs.reader.is_names.Goals as goal
 
 pub returns : goal.returns

@@ -6,7 +6,6 @@ use Rattle.words.proofs.Lists.{unmapped}
 use lib.Seq.{length-take-le}
 use Rattle.listing.specs.Reading.{reading_of, line_start, line_over, after, printed}
 use Rattle.text.proofs.Pieces.{front}
-use borrow.Author.Rules.{rules}
 use Rattle.listing.proofs.reader.line_over.Goals as goal
 use Rattle.listing.proofs.reader.line_over.Goals.{Start}
 

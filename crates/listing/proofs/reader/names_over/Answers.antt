@@ -1,7 +1,6 @@
 -- `names_over` meets its contract.
 use mathlib.Core.Path.{◌∙◌, sym}
 use Rattle.listing.specs.Reading.{after, printed}
-use borrow.Author.Rules.{rules}
 use Rattle.listing.proofs.reader.names_over.Goals as goal
 
 pub returns-then-is_names : goal.returns-then-is_names

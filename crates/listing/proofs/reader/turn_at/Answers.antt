@@ -2,7 +2,6 @@
 use mathlib.Core.Path.{◌∙◌, ap}
 use Rattle.lines.specs.Line.{output_line}
 use Rattle.listing.specs.Reading.{after, printed}
-use borrow.Author.Rules.{rules}
 use Rattle.listing.proofs.reader.turn_at.Goals as goal
 
 pub returns-in-Names : goal.returns-in-Names

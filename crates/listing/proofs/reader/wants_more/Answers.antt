@@ -1,6 +1,5 @@
 -- `wants_more` meets its contract.
 use Rattle.listing.specs.Reading.{wants_more}
-use borrow.Author.Rules.{rules}
 use Rattle.listing.proofs.reader.wants_more.Goals as goal
 
 pub returns-in-Names : goal.returns-in-Names

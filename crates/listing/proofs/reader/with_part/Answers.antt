@@ -5,7 +5,6 @@ use lib.ListN.{length, take}
 use Rattle.words.proofs.Lists.{unmapped}
 use Rattle.listing.specs.Reading.{reading_of, with_part}
 use Rattle.text.proofs.Pieces.{kept}
-use borrow.Author.Rules.{rules}
 use Rattle.listing.proofs.reader.with_part.Goals as goal
 
 pub returns : goal.returns

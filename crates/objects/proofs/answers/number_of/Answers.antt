@@ -1,9 +1,7 @@
 -- `number_of` meets its contract.
 use mathlib.Core.Path.{sym, ap}
-use borrow.Author.Rules.{rules}
 use Rattle.objects.specs.Refusals.{number_of}
 use Rattle.objects.proofs.answers.number_of.Goals as goal
-use Rattle.objects.proofs.answers.number_of.Lts as lts
 
 pub returns-in-Site : goal.returns-in-Site
 unfolding number_of

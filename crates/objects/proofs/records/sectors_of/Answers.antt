@@ -1,6 +1,6 @@
 -- `sectors_of` meets its contract. The loop's invariant: the sectors so far stand in their places.
 use mathlib.Core.Path.{◌≡◌, ap, ◌∙◌}
-use Prim.Native.Nat.{◌-◌, ◌≤◌, ◌<◌}
+use Prim.Native.Nat.{◌<◌}
 use native.Mathlib.Omega.{arith}
 use Rattle.objects.specs.Records.{segment_at, no_segment, sector_places}
 use Rattle.objects.proofs.Places.{none_filled, one_filled}

@@ -1,7 +1,6 @@
 -- `window_object_at` meets its contract: the words are those of the definition.
 use mathlib.Core.Path.{◌∙◌, ap}
 use Rattle.objects.specs.Records.{window_kind, window_object_at}
-use borrow.Author.Rules.{rules}
 use Rattle.objects.proofs.records.window_object_at.Goals as goal
 
 pub returns : goal.returns

@@ -1,6 +1,6 @@
 -- `window_of` meets its contract. The loop's invariant: the objects so far stand in their places.
 use mathlib.Core.Path.{◌≡◌, refl, sym, ap, ◌∙◌, subst}
-use Prim.Native.Nat.{ℕ, ◌-◌, ◌/◌, ◌≤◌, ◌<◌}
+use Prim.Native.Nat.{ℕ, ◌/◌, ◌≤◌, ◌<◌}
 use native.Mathlib.Omega.{arith}
 use Rattle.objects.specs.Records.{window_object_at, window_count, no_window_object, window_of, filled}
 use Rattle.objects.proofs.Places.{none_filled, one_filled}

@@ -1,9 +1,7 @@
 -- `window_of` meets its contract. The loop's invariant: the objects so far stand in their places.
-use mathlib.Core.Path.{◌≡◌, refl, sym, ap, ◌∙◌, subst}
-use Prim.Native.Nat.{ℕ, ◌-◌, ◌/◌, ◌≤◌, ◌<◌}
-use native.Mathlib.Omega.{arith}
-use Rattle.objects.specs.Records.{window_object_at, window_count, no_window_object, window_of, filled}
-use Rattle.objects.proofs.Places.{none_filled, one_filled}
+use mathlib.Core.Path.{◌≡◌}
+use Prim.Native.Nat.{◌-◌, ◌≤◌}
+use Rattle.objects.specs.Records.{window_object_at, no_window_object, filled}
 use Rattle.objects.proofs.records.window_of.Given as goal
 
 abbrev pub invariant-loop-i : goal.invariant-loop-i

@@ -23,17 +23,17 @@ abbrev room : Start → Bool
 room s = room_fine (leap_year_of s.args.site) s.args.run (lent s.args.days.now s.args.totals.now s.args.results.now)
 
 pub returns-then-not-edition_fine : goal.returns-then-not-edition_fine
-returns-then-not-edition_fine c = let s = c.before.before.before.before.before.before.before.before.before.before.before in edition_refused (job s) (room s) (sym c.edition_fine.ensures ∙ c.if-not-edition_fine.true)
+returns-then-not-edition_fine c = let s = c.before.before.before.before.before.before.before.before.before.before.before.before in edition_refused (job s) (room s) (sym c.edition_fine.ensures ∙ c.if-not-edition_fine.true)
 
 pub returns-then-not-site_fine : goal.returns-then-not-site_fine
 returns-then-not-site_fine c =
-    let s = c.before.before.before.before.before.before.before.before.before.before.before.before.before in
+    let s = c.before.before.before.before.before.before.before.before.before.before.before.before.before.before in
     let edition = sym c.edition_fine.ensures ∙ c.if-not-edition_fine.false in
     site_refused (job s) (room s) edition (sym c.site_fine.ensures ∙ c.if-not-site_fine.true)
 
 pub returns-then-not-leaf_days_fine : goal.returns-then-not-leaf_days_fine
 returns-then-not-leaf_days_fine c =
-    let s = c.before.before.before.before.before.before.before.before.before.before.before.before.before.before.before in
+    let s = c.before.before.before.before.before.before.before.before.before.before.before.before.before.before.before.before in
     let edition = sym c.edition_fine.ensures ∙ c.if-not-edition_fine.false in
     let site = sym c.site_fine.ensures ∙ c.if-not-site_fine.false in
     leaf_day_refused (job s) (room s) edition site (sym c.leaf_days_fine.ensures ∙ c.if-not-leaf_days_fine.true)
@@ -41,34 +41,34 @@ returns-then-not-leaf_days_fine c =
 pub returns-then-not-steps : goal.returns-then-not-steps
 unfolding checked_run
 returns-then-not-steps c =
-    let s = c.before.before.before.before.before.before.before.before.before.before.before.before.before.before.before.before.before.before.before in
+    let s = c.before.before.before.before.before.before.before.before.before.before.before.before.before.before.before.before.before.before.before.before in
     let edition = sym c.edition_fine.ensures ∙ c.if-not-edition_fine.false in
     let site = sym c.site_fine.ensures ∙ c.if-not-site_fine.false in
     let leaf-days = sym c.leaf_days_fine.ensures ∙ c.if-not-leaf_days_fine.false in
     let h = c.check_run-steps.ensures ∙ ap (λ n. checked_run n s.args.run) c.hours_in_year.ensures in
-    let steps : run_accepted (hours_in_year s.args.site) s.args.run ≡ false = sym (ap (λ x. x.fine) h) ∙ c.if-not-steps.true in
+    let steps : run_accepted (hours_in_year s.args.site) s.args.run ≡ false = sym (ap (λ x. x.fine) h) ∙ not-true c.check_run-steps.result.fine c.if-not-steps.true in
     run_refused (job s) (room s) edition site leaf-days steps
 
 pub returns-then-not-surface_fine : goal.returns-then-not-surface_fine
 unfolding checked_run
 returns-then-not-surface_fine c =
-    let s = c.before.before.before.before.before.before.before.before.before.before.before.before.before.before.before.before.before.before.before.before.before in
+    let s = c.before.before.before.before.before.before.before.before.before.before.before.before.before.before.before.before.before.before.before.before.before.before in
     let edition = sym c.edition_fine.ensures ∙ c.if-not-edition_fine.false in
     let site = sym c.site_fine.ensures ∙ c.if-not-site_fine.false in
     let leaf-days = sym c.leaf_days_fine.ensures ∙ c.if-not-leaf_days_fine.false in
     let h = c.check_run-steps.ensures ∙ ap (λ n. checked_run n s.args.run) c.hours_in_year.ensures in
-    let steps : run_accepted (hours_in_year s.args.site) s.args.run ≡ true = sym (ap (λ x. x.fine) h) ∙ c.if-not-steps.false in
+    let steps : run_accepted (hours_in_year s.args.site) s.args.run ≡ true = sym (ap (λ x. x.fine) h) ∙ not-false c.check_run-steps.result.fine c.if-not-steps.false in
     surface_refused (job s) (room s) edition site leaf-days steps (sym c.surface_fine.ensures ∙ c.if-not-surface_fine.true)
 
 pub returns-then-not-sectors_fine-window_fine : goal.returns-then-not-sectors_fine-window_fine
 unfolding checked_run
 returns-then-not-sectors_fine-window_fine c =
-    let s = c.before.before.before.before.before.before.before.before.before.before.before.before.before.before.before.before.before.before.before.before.before.before.before.before.before in
+    let s = c.before.before.before.before.before.before.before.before.before.before.before.before.before.before.before.before.before.before.before.before.before.before.before.before.before.before in
     let edition = sym c.edition_fine.ensures ∙ c.if-not-edition_fine.false in
     let site = sym c.site_fine.ensures ∙ c.if-not-site_fine.false in
     let leaf-days = sym c.leaf_days_fine.ensures ∙ c.if-not-leaf_days_fine.false in
     let h = c.check_run-steps.ensures ∙ ap (λ n. checked_run n s.args.run) c.hours_in_year.ensures in
-    let steps : run_accepted (hours_in_year s.args.site) s.args.run ≡ true = sym (ap (λ x. x.fine) h) ∙ c.if-not-steps.false in
+    let steps : run_accepted (hours_in_year s.args.site) s.args.run ≡ true = sym (ap (λ x. x.fine) h) ∙ not-false c.check_run-steps.result.fine c.if-not-steps.false in
     let surface = sym c.surface_fine.ensures ∙ c.if-not-surface_fine.false in
     object_refused (job s) (room s) edition site leaf-days steps surface (sym (ap₂ ◌&&◌ (ap₂ ◌&&◌ c.sectors_fine.ensures c.sectors_fine-2.ensures) c.window_fine.ensures) ∙ c.if-not-sectors_fine-window_fine.true)
 
@@ -83,18 +83,18 @@ pub check_series-requires : goal.check_series-requires
 unfolding checked_run
 check_series-requires c =
     let h = c.check_run-steps.ensures ∙ ap (λ n. checked_run n c.args.run) c.hours_in_year.ensures in
-    let steps : run_accepted (hours_in_year c.args.site) c.args.run ≡ true = sym (ap (λ x. x.fine) h) ∙ c.if-not-steps.false in
+    let steps : run_accepted (hours_in_year c.args.site) c.args.run ≡ true = sym (ap (λ x. x.fine) h) ∙ not-false c.check_run-steps.result.fine c.if-not-steps.false in
     ap (λ x. x.count) h ∙ checked_count (hours_in_year c.args.site) c.args.run steps
 
 pub returns : goal.returns
 unfolding checked_run
 returns c =
-    let s = c.before.before.before.before.before.before.before.before.before.before.before.before.before.before.before.before.before.before.before.before.before.before.before.before.before.before.before.before in
+    let s = c.before.before.before.before.before.before.before.before.before.before.before.before.before.before.before.before.before.before.before.before.before.before.before.before.before.before.before.before.before in
     let edition = sym c.edition_fine.ensures ∙ c.if-not-edition_fine.false in
     let site = sym c.site_fine.ensures ∙ c.if-not-site_fine.false in
     let leaf-days = sym c.leaf_days_fine.ensures ∙ c.if-not-leaf_days_fine.false in
     let h = c.check_run-steps.ensures ∙ ap (λ n. checked_run n s.args.run) c.hours_in_year.ensures in
-    let steps : run_accepted (hours_in_year s.args.site) s.args.run ≡ true = sym (ap (λ x. x.fine) h) ∙ c.if-not-steps.false in
+    let steps : run_accepted (hours_in_year s.args.site) s.args.run ≡ true = sym (ap (λ x. x.fine) h) ∙ not-false c.check_run-steps.result.fine c.if-not-steps.false in
     let surface = sym c.surface_fine.ensures ∙ c.if-not-surface_fine.false in
     c.check_series.ensures
     ∙ first_passed (job s) (room s) edition site leaf-days steps surface (sym (ap₂ ◌&&◌ (ap₂ ◌&&◌ c.sectors_fine.ensures c.sectors_fine-2.ensures) c.window_fine.ensures) ∙ c.if-not-sectors_fine-window_fine.false)

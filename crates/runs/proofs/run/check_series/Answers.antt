@@ -30,30 +30,30 @@ abbrev room : Start → Bool
 room s = room_fine s.args.leap s.args.run (lent s.args.days.now s.args.totals.now s.args.results.now)
 
 pub returns-then-not-fine : goal.returns-then-not-fine
-returns-then-not-fine c = let s = c.before.before.before.before.before.before.before.before.before in series_refused s.args.start_day s.args.series_step s.args.run s.args.diffuse.now s.args.direct.now s.args.reflectivity.now (room s) (indices s _ c.series_fine-fine.ensures.0 ∙ c.if-not-fine.true)
+returns-then-not-fine c = let s = c.before.before.before.before.before.before.before.before.before.before in series_refused s.args.start_day s.args.series_step s.args.run s.args.diffuse.now s.args.direct.now s.args.reflectivity.now (room s) (indices s _ c.series_fine-fine.ensures.0 ∙ not-true c.series_fine-fine.result.indices c.if-not-fine.true)
 
 pub returns-then-not-fine-2 : goal.returns-then-not-fine-2
 returns-then-not-fine-2 c =
-    let s = c.before.before.before.before.before.before.before.before.before.before.before in
+    let s = c.before.before.before.before.before.before.before.before.before.before.before.before in
     let fine = c.series_fine-fine.ensures in
-    let i = indices s _ fine.0 ∙ c.if-not-fine.false in
-    reading_refused s.args.start_day s.args.series_step s.args.run s.args.diffuse.now s.args.direct.now s.args.reflectivity.now (room s) i (readings s _ fine.1 ∙ c.if-not-fine-2.true)
+    let i = indices s _ fine.0 ∙ not-false c.series_fine-fine.result.indices c.if-not-fine.false in
+    reading_refused s.args.start_day s.args.series_step s.args.run s.args.diffuse.now s.args.direct.now s.args.reflectivity.now (room s) i (readings s _ fine.1 ∙ not-true c.series_fine-fine.result.readings c.if-not-fine-2.true)
 
 pub room_fine-requires : goal.room_fine-requires
 room_fine-requires c = c.requires
 
 pub returns-then-not-room_fine : goal.returns-then-not-room_fine
 returns-then-not-room_fine c =
-    let s = c.before.before.before.before.before.before.before.before.before.before.before.before.before in
+    let s = c.before.before.before.before.before.before.before.before.before.before.before.before.before.before in
     let fine = c.series_fine-fine.ensures in
-    let i = indices s _ fine.0 ∙ c.if-not-fine.false in
-    let r = readings s _ fine.1 ∙ c.if-not-fine-2.false in
+    let i = indices s _ fine.0 ∙ not-false c.series_fine-fine.result.indices c.if-not-fine.false in
+    let r = readings s _ fine.1 ∙ not-false c.series_fine-fine.result.readings c.if-not-fine-2.false in
     results_refused s.args.start_day s.args.series_step s.args.run s.args.diffuse.now s.args.direct.now s.args.reflectivity.now (room s) i r (sym c.room_fine.ensures ∙ c.if-not-room_fine.true)
 
 pub returns : goal.returns
 returns c =
-    let s = c.before.before.before.before.before.before.before.before.before.before.before.before.before in
+    let s = c.before.before.before.before.before.before.before.before.before.before.before.before.before.before in
     let fine = c.series_fine-fine.ensures in
-    let i = indices s _ fine.0 ∙ c.if-not-fine.false in
-    let r = readings s _ fine.1 ∙ c.if-not-fine-2.false in
+    let i = indices s _ fine.0 ∙ not-false c.series_fine-fine.result.indices c.if-not-fine.false in
+    let r = readings s _ fine.1 ∙ not-false c.series_fine-fine.result.readings c.if-not-fine-2.false in
     ap Steps s.requires ∙ series_passed s.args.start_day s.args.series_step s.args.run s.args.diffuse.now s.args.direct.now s.args.reflectivity.now (room s) i r (sym c.room_fine.ensures ∙ c.if-not-room_fine.false)

@@ -19,42 +19,38 @@ use Rattle.totals.proofs.Kept.{length-emptied, emptied_again}
 use Rattle.runs.proofs.StepByStep.{totals_done}
 use borrow.Author.Rules.{rules}
 use Rattle.runs.proofs.run.run_job.Goals as goal
-use Rattle.runs.proofs.run.run_job.Goals.{Start}
-use Rattle.runs.proofs.run.run_job.Lts as lts
-
-abbrev job : Start → Job
-job c =
-    let a = c.args in
-    job_of a.edition a.site a.run a.surface a.diffuse.now a.direct.now a.reflectivity.now a.summer.now a.winter.now a.window.now
-
-abbrev lists : Start → Lent
-lists c = lent c.args.days.now c.args.totals.now c.args.results.now
 
 pub fill_days-requires : goal.fill_days-requires
 fill_days-requires c =
-    let s = c.before.before.before.before.before.before.before.before.before.before.before.before.before.before.before.before.before in
+    let a = c.args in
+    let job = job_of a.edition a.site a.run a.surface a.diffuse.now a.direct.now a.reflectivity.now a.summer.now a.winter.now a.window.now in
+    let lists = lent a.days.now a.totals.now a.results.now in
     let checks = sym c.check_job-answer.ensures ∙ c.in-Steps.is in
-    days_fit (job s) (lists s) (passed (job s) (room_for (job s) (lists s)) _ checks).0
+    days_fit job lists (passed job (room_for job lists) _ checks).0
 
 pub empty_totals-requires : goal.empty_totals-requires
 empty_totals-requires c =
-    let s = c.before.before.before.before.before.before.before.before.before.before.before.before.before.before.before.before.before.before.before.before.before.before in
+    let a = c.args in
+    let job = job_of a.edition a.site a.run a.surface a.diffuse.now a.direct.now a.reflectivity.now a.summer.now a.winter.now a.window.now in
+    let lists = lent a.days.now a.totals.now a.results.now in
     let checks = sym c.check_job-answer.ensures ∙ c.in-Steps.is in
-    totals_fit (job s) (lists s) (passed (job s) (room_for (job s) (lists s)) _ checks).0
+    totals_fit job lists (passed job (room_for job lists) _ checks).0
 
 pub run_steps-requires : goal.run_steps-requires
 run_steps-requires c =
-    let s = c.before.before.before.before.before.before.before.before.before.before.before.before.before.before.before.before.before.before.before.before.before.before.before.before.before.before.before.before in
+    let a = c.args in
+    let job = job_of a.edition a.site a.run a.surface a.diffuse.now a.direct.now a.reflectivity.now a.summer.now a.winter.now a.window.now in
+    let lists = lent a.days.now a.totals.now a.results.now in
     let checks = sym c.check_job-answer.ensures ∙ c.in-Steps.is in
-    let p = passed (job s) (room_for (job s) (lists s)) _ checks in
-    let leap = leap_year_of s.args.site in
+    let p = passed job (room_for job lists) _ checks in
+    let leap = leap_year_of a.site in
     let filled = c.fill_days.ensures in
-    let holds = subst HoldsDays (sym filled) (table_read s.args.days.now (days_fit (job s) (lists s) p.0)) in
+    let holds = subst HoldsDays (sym filled) (table_read a.days.now (days_fit job lists p.0)) in
     let empty = c.empty_totals.ensures in
-    let none = subst (λ (l : List ℕ). l ≡ emptied leap l) (sym empty) (emptied_again leap s.args.totals.now) in
-    let fits = totals_fit (job s) (lists s) p.0 in
-    let wide = subst (λ (n : ℕ). 24 * totals_count leap ≤ n) (sym (ap length empty ∙ length-emptied leap s.args.totals.now fits)) fits in
-    let rows = subst (λ (n : ℕ). 6 * n ≤ word_count s.args.results.now) (sym p.1) (rows_fit (job s) (lists s) p.0) in record { site_value = is_true (site_fine s.args.site) p.0.site-fine; run_value = is_true (run_accepted (hours_in_year s.args.site) s.args.run) p.0.run-fine; count_value = p.1; summer_value = is_true (sectors_fine s.args.summer.now) p.0.summer_fine; winter_value = is_true (sectors_fine s.args.winter.now) p.0.winter_fine; window_value = is_true (window_fine s.args.window.now) p.0.window-fine; holds_days = holds; totals_value = none; site_in_bounds = wide; count_bound = rows }
+    let none = subst (λ (l : List ℕ). l ≡ emptied leap l) (sym empty) (emptied_again leap a.totals.now) in
+    let fits = totals_fit job lists p.0 in
+    let wide = subst (λ (n : ℕ). 24 * totals_count leap ≤ n) (sym (ap length empty ∙ length-emptied leap a.totals.now fits)) fits in
+    let rows = subst (λ (n : ℕ). 6 * n ≤ word_count a.results.now) (sym p.1) (rows_fit job lists p.0) in record { site_value = is_true (site_fine a.site) p.0.site_fine_lem; run_value = is_true (run_accepted (hours_in_year a.site) a.run) p.0.run_fine_lem; count_value = p.1; summer_value = is_true (sectors_fine a.summer.now) p.0.summer_fine; winter_value = is_true (sectors_fine a.winter.now) p.0.winter_fine; window_value = is_true (window_fine a.window.now) p.0.window_fine_lem; holds_days = holds; totals_value = none; site_in_bounds = wide; count_bound = rows }
 
 pub returns-in-Refused : goal.returns-in-Refused
 unfolding run_of run_checked days_left totals_left
@@ -67,5 +63,5 @@ returns-in-Steps c =
     let filled = c.fill_days.ensures in
     let empty = c.empty_totals.ensures in
     let stepped = c.run_steps.ensures in
-    let totals = totals_done (leap_year_of a.site) a.run a.totals.now _ _ _ _ _ empty stepped.1 stepped.0 in
-    rw (sym c.check_job-answer.ensures ∙ c.in-Steps.is) (λ i. record { ran = stepped.0 i; days = filled i; totals = totals i })
+    let totals = totals_done (leap_year_of a.site) a.run a.totals.now _ _ _ _ _ empty stepped.totals_after stepped.results_after in
+    rw (sym c.check_job-answer.ensures ∙ c.in-Steps.is) (λ i. record { ran = stepped.results_after i; days = filled i; totals = totals i })

@@ -11,14 +11,8 @@ use Rattle.simulation_time.specs.Steps.{times_from, at_all}
 use Rattle.simulation_time.specs.Timestep.{series_index}
 use Rattle.weather.specs.Weather.{in_series, read_series, reading_fine}
 use Rattle.jobs.specs.JobChecks.{indices_fine, readings_fine}
-use Rattle.runs.proofs.AllSteps.{left, at_first, one_more, at_last}
+use Rattle.runs.proofs.AllSteps.{left, at_first, one_more, at_last, on_series, in_range}
 use Rattle.runs.proofs.series.series_fine.Goals as goal
-
-abbrev on_series : List ℕ → List ℕ → List ℕ → ℕ → Float → Float → Bool
-on_series diffuse direct reflectivity day width time = in_series diffuse direct reflectivity (series_index time day width)
-
-abbrev in_range : List ℕ → List ℕ → List ℕ → ℕ → Float → Float → Bool
-in_range diffuse direct reflectivity day width time = reading_fine (read_series diffuse direct reflectivity (series_index time day width))
 
 pub loop-i-init : goal.loop-i-init
 loop-i-init c =

@@ -11,7 +11,7 @@ use Rattle.simulation_time.specs.Steps.{times_from, at_all}
 use Rattle.simulation_time.specs.Timestep.{series_index}
 use Rattle.weather.specs.Weather.{in_series, read_series, reading_fine}
 use Rattle.jobs.specs.JobChecks.{indices_fine, readings_fine}
-use Rattle.runs.proofs.AllSteps.{left, at_first, one_more, at_last}
+use Rattle.runs.proofs.AllSteps.{left, on_series, in_range}
 use Rattle.runs.proofs.series.series_fine.Given as goal
 
 abbrev pub invariant-loop-i : goal.invariant-loop-i

@@ -1,12 +1,10 @@
 use mathlib.Core.Path.{◌≡◌, refl, sym, ◌∙◌}
 use lib.Ieee.{of_bits}
-use Prim.Native.Nat.{◌≤◌, ◌<◌, ◌-◌}
+use Prim.Native.Nat.{◌≤◌, ◌<◌}
 use native.Mathlib.Omega.{arith}
-use lib.ListN.{length, take, drop}
+use lib.ListN.{length, take}
 use Rattle.doubles.specs.Arithmetic.{whole}
-use Rattle.doubles.specs.Functions.{largest_of}
 use Rattle.objects.specs.Objects.{counted}
-use Rattle.shading.specs.Factor.{obstacle_extents, overhang_extents}
 use Rattle.words.proofs.Lists.{unmapped}
 use Rattle.shading.proofs.Loops.{obstacle_end, overhang_end, obstacle_next, overhang_next, counted_first, at_end}
 use Rattle.shading.proofs.distant.distant_shades.Goals as goal

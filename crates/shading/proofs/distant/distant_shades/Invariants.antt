@@ -1,15 +1,9 @@
-
-use mathlib.Core.Path.{◌≡◌, refl, sym, ◌∙◌}
-use lib.Ieee.{of_bits}
-use Prim.Native.Nat.{◌≤◌, ◌<◌, ◌-◌}
-use native.Mathlib.Omega.{arith}
-use lib.ListN.{length, take, drop}
+use mathlib.Core.Path.{◌≡◌}
+use Prim.Native.Nat.{◌≤◌, ◌-◌}
+use lib.ListN.{take, drop}
 use Rattle.doubles.specs.Arithmetic.{whole}
 use Rattle.doubles.specs.Functions.{largest_of}
-use Rattle.objects.specs.Objects.{counted}
 use Rattle.shading.specs.Factor.{obstacle_extents, overhang_extents}
-use Rattle.words.proofs.Lists.{unmapped}
-use Rattle.shading.proofs.Loops.{obstacle_end, overhang_end, obstacle_next, overhang_next, counted_first, at_end}
 use Rattle.shading.proofs.distant.distant_shades.Given as goal
 
 abbrev pub invariant-loop-i : goal.invariant-loop-i

@@ -1,5 +1,4 @@
 use Rattle.shading.specs.ObjectSteps.{distant_step}
-use borrow.Author.Rules.{rules}
 use Rattle.shading.proofs.distant.with_object.Goals as goal
 
 pub returns-in-Obstacle : goal.returns-in-Obstacle

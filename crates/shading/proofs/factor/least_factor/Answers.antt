@@ -1,10 +1,8 @@
 use mathlib.Core.Path.{◌≡◌, refl, sym, ◌∙◌}
-use Prim.Native.Nat.{◌≤◌, ◌-◌}
 use native.Mathlib.Omega.{arith}
-use lib.ListN.{length, take, drop}
-use Rattle.objects.specs.declared.window.WindowShadingType.TheVariants.{Obstacle}
-use Rattle.objects.specs.Objects.{of_kind, placed}
-use Rattle.shading.specs.Factor.{least_of, extents, near_factor}
+use lib.ListN.{length, take}
+use Rattle.objects.specs.Objects.{placed}
+use Rattle.shading.specs.Factor.{near_factor}
 use Rattle.words.proofs.Lists.{unmapped}
 use Rattle.shading.proofs.Loops.{counted_first, at_end, near_next, near_end}
 use Rattle.shading.proofs.factor.least_factor.Goals as goal

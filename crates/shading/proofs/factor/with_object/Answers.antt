@@ -1,5 +1,4 @@
 use Rattle.objects.specs.Objects.{of_kind}
-use borrow.Author.Rules.{rules}
 use Rattle.shading.proofs.factor.with_object.Goals as goal
 
 pub returns-in-Obstacle : goal.returns-in-Obstacle

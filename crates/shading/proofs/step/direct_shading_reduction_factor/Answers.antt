@@ -8,7 +8,6 @@ use Rattle.object_checks.proofs.ReadableSectors.{readable}
 use Rattle.object_checks.proofs.AcceptedWindow.{window_count_lem, window_places}
 use Rattle.shading.specs.Factor.{shading_factor}
 use Rattle.shading.proofs.SunPlaces.{factor_by_found}
-use borrow.Author.Rules.{rules}
 use Rattle.shading.proofs.step.direct_shading_reduction_factor.Goals as goal
 
 pub returns-then-outside_solar_beam : goal.returns-then-outside_solar_beam

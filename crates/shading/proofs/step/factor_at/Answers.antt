@@ -2,7 +2,6 @@ use lib.Ieee.{of_bits}
 use Rattle.doubles.specs.Arithmetic.{whole}
 use Rattle.shading.specs.Factor.{factor_in}
 use Rattle.shading.specs.SunPlaces.{segment_there, factor_at}
-use borrow.Author.Rules.{rules}
 use Rattle.shading.proofs.step.factor_at.Goals as goal
 
 pub returns-then-sun : goal.returns-then-sun

@@ -5,8 +5,6 @@ use lib.Ieee.Bits.{is_true}
 use lib.Ieee.Fits.{and_l, and_r}
 use Rattle.shading.specs.Call.{factor_call}
 use Rattle.object_checks.specs.Checks.{sectors_fine, window_fine}
-use borrow.Author.Tests.{not-true, not-false}
-use borrow.Author.Rules.{rules}
 use Rattle.shading.proofs.step.factor_call.Goals as goal
 
 pub returns-then-not-edition_fine : goal.returns-then-not-edition_fine

@@ -1,5 +1,4 @@
 use Rattle.shading.specs.SunPlaces.{sun_place}
-use borrow.Author.Rules.{rules}
 use Rattle.shading.proofs.step.sun_place.Goals as goal
 
 pub returns-then-outside_solar_beam : goal.returns-then-outside_solar_beam

@@ -1,16 +1,10 @@
-
-use mathlib.Core.Path.{◌≡◌, refl, sym, ◌∙◌}
+use mathlib.Core.Path.{◌≡◌}
 use mathlib.Core.Bool.{◌||◌}
-use Prim.Native.Nat.{◌≤◌, ◌<◌, ◌-◌}
-use native.Mathlib.Omega.{arith}
-use lib.ListN.{length, take, drop}
-use lib.Ieee.{of_bits}
+use Prim.Native.Nat.{◌≤◌, ◌-◌}
+use lib.ListN.{take, drop}
 use Rattle.doubles.specs.Arithmetic.{whole}
 use Rattle.doubles.specs.Functions.{largest_of}
-use Rattle.objects.specs.Objects.{placed}
 use Rattle.shading.specs.Factor.{window_overhang_extents, right_fin_extents, left_fin_extents, has_reveal}
-use Rattle.words.proofs.Lists.{unmapped}
-use Rattle.shading.proofs.Loops.{counted_first, at_end, window_overhang_next, right_next, left_next, reveal_next, window_overhang_end, right_end, left_end, reveal_end}
 use Rattle.shading.proofs.window.window_shades.Given as goal
 
 abbrev pub invariant-loop-i : goal.invariant-loop-i

@@ -1,5 +1,4 @@
 use Rattle.shading.specs.ObjectSteps.{with_left_fin}
-use borrow.Author.Rules.{rules}
 use Rattle.shading.proofs.window.with_left_fin.Goals as goal
 
 pub returns : goal.returns

@@ -1,5 +1,4 @@
 use Rattle.shading.specs.ObjectSteps.{with_overhang, with_right_fin, with_left_fin, window_step}
-use borrow.Author.Rules.{rules}
 use Rattle.shading.proofs.window.with_object.Goals as goal
 
 pub returns-in-Obstacle : goal.returns-in-Obstacle

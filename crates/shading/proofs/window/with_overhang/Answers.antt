@@ -1,5 +1,4 @@
 use Rattle.shading.specs.ObjectSteps.{with_overhang}
-use borrow.Author.Rules.{rules}
 use Rattle.shading.proofs.window.with_overhang.Goals as goal
 
 pub returns : goal.returns

@@ -1,12 +1,7 @@
 -- `count_steps` meets its contract. The loop's invariant: `count` steps are there, and `time` is the last one's. It ends since a year has
 -- no more than 35,136 quarters of an hour.
-use Rattle.std.proofs.Common.{◌≡◌, ℕ, ◌+◌, ◌-◌, ◌≤◌, true, false, not, ap, ◌∙◌, arith}
-use denote.Floats.{passes}
-use lib.Ieee.{Float, eq, ne}
-use Rattle.simulation_time.specs.declared.run.Run.{Run}
-use Rattle.simulation_time.specs.Steps.{steps_of, step_count, steps_from, time_at, goes_on}
-use Rattle.simulation_time.proofs.Accepted.{Accepted, accepted}
-use Rattle.simulation_time.proofs.Times.{Walked, walked_first, walked_next, walked_few, walked_end}
+use Rattle.std.proofs.Common.{◌-◌}
+use Rattle.simulation_time.proofs.Times.{Walked}
 use Rattle.simulation_time.proofs.steps.count_steps.Given as goal
 
 abbrev pub invariant-loop-time : goal.invariant-loop-time

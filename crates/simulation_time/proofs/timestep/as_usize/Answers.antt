@@ -1,5 +1,5 @@
 -- `as_usize` meets its contract: the three ways of the cast.
-use Rattle.std.proofs.Common.{sym, lit≤, rules}
+use Rattle.std.proofs.Common.{sym, lit≤}
 use lib.Ieee.{of_bits}
 use Rattle.doubles.proofs.Casts.{cuttable, cast_over, cast_under}
 use Rattle.simulation_time.proofs.timestep.as_usize.Goals as goal

@@ -1,5 +1,5 @@
 -- `time_series_idx` meets its contract: a double and its floor have the same whole part.
-use Rattle.std.proofs.Common.{◌*◌, ◌^◌, sym, ◌∙◌, arith, le→leb, rules}
+use Rattle.std.proofs.Common.{◌*◌, ◌^◌, sym, ◌∙◌, arith, le→leb}
 use lib.Ieee.{in_float}
 use Rattle.doubles.specs.Arithmetic.{whole}
 use Rattle.simulation_time.proofs.SeriesIndices.{index_is}

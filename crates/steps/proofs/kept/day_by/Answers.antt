@@ -1,6 +1,5 @@
 -- `day_by` meets its contract.
 use Rattle.steps.specs.Kept.{kept_day}
-use borrow.Author.Rules.{rules}
 use Rattle.steps.proofs.kept.day_by.Goals as goal
 
 pub returns : goal.returns

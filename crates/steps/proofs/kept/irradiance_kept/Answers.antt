@@ -1,7 +1,6 @@
 -- `irradiance_kept` meets its contract.
 use mathlib.Core.Path.{refl}
 use Rattle.steps.specs.Kept.{irradiance_kept}
-use borrow.Author.Rules.{rules}
 use Rattle.steps.proofs.kept.irradiance_kept.Goals as goal
 
 pub returns : goal.returns

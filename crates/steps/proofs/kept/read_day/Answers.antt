@@ -1,6 +1,5 @@
 -- `read_day` meets its contract.
 use mathlib.Core.Path.{◌∙◌}
-use borrow.Author.Rules.{rules}
 use Rattle.steps.proofs.kept.read_day.Goals as goal
 
 pub day_by-requires : goal.day_by-requires

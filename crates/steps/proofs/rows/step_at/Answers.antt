@@ -1,7 +1,6 @@
 -- `step_at` meets its contract.
 use mathlib.Core.Path.{refl}
 use Rattle.steps.specs.Kept.{step_kept}
-use borrow.Author.Rules.{rules}
 use Rattle.steps.proofs.rows.step_at.Goals as goal
 
 pub returns : goal.returns

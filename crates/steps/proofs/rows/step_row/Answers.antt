@@ -1,7 +1,6 @@
 -- `step_row` meets its contract.
 use mathlib.Core.Path.{refl}
 use Rattle.jobs.specs.Step.{row_with}
-use borrow.Author.Rules.{rules}
 use Rattle.steps.proofs.rows.step_row.Goals as goal
 
 pub returns-in-Refused : goal.returns-in-Refused

@@ -1,7 +1,6 @@
 -- `store_row` meets its contract.
 use mathlib.Core.Path.{refl}
 use Rattle.jobs.specs.Rows.{put_row}
-use borrow.Author.Rules.{rules}
 use Rattle.steps.proofs.rows.store_row.Goals as goal
 
 pub returns : goal.returns

@@ -1,13 +1,11 @@
-use mathlib.Core.Path.{◌≡◌, sym, ap, ◌∙◌}
-use Prim.Native.Nat.{◌≤◌, ◌-◌}
+use mathlib.Core.Path.{sym, ap, ◌∙◌}
 use native.Mathlib.Omega.{arith}
 use lib.Ieee.{of_bits}
-use borrow.Author.Rules.{rules}
 use Rattle.objects.specs.Objects.{placed}
 use Rattle.segments.specs.Segments.{found}
 use Rattle.shading.specs.Factor.{factor_in}
-use Rattle.strips.specs.Strips.{strips_of, mean_from, mean_factor}
-use Rattle.strips.proofs.Loops.{strips_left, left_all, mean_next, mean_refused, mean_end}
+use Rattle.strips.specs.Strips.{mean_factor}
+use Rattle.strips.proofs.Loops.{left_all, mean_next, mean_refused, mean_end}
 use Rattle.strips.proofs.factor.mean_in.Goals as goal
 
 pub loop-i-init : goal.loop-i-init

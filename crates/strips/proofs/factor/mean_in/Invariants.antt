@@ -1,14 +1,10 @@
-
-use mathlib.Core.Path.{◌≡◌, sym, ap, ◌∙◌}
+use mathlib.Core.Path.{◌≡◌}
 use Prim.Native.Nat.{◌≤◌, ◌-◌}
-use native.Mathlib.Omega.{arith}
-use lib.Ieee.{of_bits}
-use borrow.Author.Rules.{rules}
 use Rattle.objects.specs.Objects.{placed}
 use Rattle.segments.specs.Segments.{found}
 use Rattle.shading.specs.Factor.{factor_in}
 use Rattle.strips.specs.Strips.{strips_of, mean_from, mean_factor}
-use Rattle.strips.proofs.Loops.{strips_left, left_all, mean_next, mean_refused, mean_end}
+use Rattle.strips.proofs.Loops.{strips_left}
 use Rattle.strips.proofs.factor.mean_in.Given as goal
 
 abbrev pub invariant-loop-i : goal.invariant-loop-i

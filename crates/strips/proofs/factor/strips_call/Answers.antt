@@ -6,8 +6,6 @@ use lib.Ieee.Fits.{and_l, and_r}
 use Rattle.object_checks.specs.Checks.{sectors_fine, window_fine}
 use Rattle.shading.specs.Call.{sun_fine}
 use Rattle.strips.specs.Strips.{strips_fine, strips_call}
-use borrow.Author.Tests.{not-true, not-false}
-use borrow.Author.Rules.{rules}
 use Rattle.strips.proofs.factor.strips_call.Goals as goal
 
 pub returns-then-not-edition_fine : goal.returns-then-not-edition_fine

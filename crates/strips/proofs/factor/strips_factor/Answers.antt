@@ -13,7 +13,6 @@ use Rattle.segments.specs.Segments.{found}
 use Rattle.shading.specs.Factor.{sun_on, factor_in}
 use Rattle.strips.specs.Strips.{strips_of, mean_factor}
 use Rattle.strips.proofs.Walks.{outside_one, gap_refused, turned_refused, no_sector_refused, found_mean}
-use borrow.Author.Rules.{rules}
 use Rattle.strips.proofs.factor.strips_factor.Goals as goal
 
 pub returns-then-outside_solar_beam : goal.returns-then-outside_solar_beam

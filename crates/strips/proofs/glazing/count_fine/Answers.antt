@@ -3,7 +3,6 @@ use mathlib.Core.Bool.{◌&&◌}
 use Prim.Native.Nat.{ℕ, ◌%◌}
 use lib.Dec.{eqb, leb}
 use lib.ListN.{length}
-use borrow.Author.Rules.{rules}
 use Rattle.strips.specs.Strips.{count_fine}
 use Rattle.strips.proofs.glazing.count_fine.Goals as goal
 

@@ -1,11 +1,7 @@
-use mathlib.Core.Path.{◌≡◌, refl, sym, ap, ◌∙◌}
-use mathlib.Core.Bool.{◌&&◌}
-use Prim.Native.Nat.{◌≤◌, ◌-◌}
+use mathlib.Core.Path.{refl, sym, ap, ◌∙◌}
 use native.Mathlib.Omega.{arith}
-use borrow.Author.Tests.{not-true, not-false}
-use borrow.Author.Rules.{rules}
-use Rattle.strips.specs.Strips.{strips_of, all_fine, strips_fine}
-use Rattle.strips.proofs.Loops.{strips_left, left_all, fine_next, fine_end}
+use Rattle.strips.specs.Strips.{all_fine, strips_fine}
+use Rattle.strips.proofs.Loops.{left_all, fine_next, fine_end}
 use Rattle.strips.proofs.glazing.strips_fine.Goals as goal
 
 pub returns-then-not-count_fine : goal.returns-then-not-count_fine

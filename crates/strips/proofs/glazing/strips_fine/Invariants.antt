@@ -1,12 +1,8 @@
-
-use mathlib.Core.Path.{◌≡◌, refl, sym, ap, ◌∙◌}
+use mathlib.Core.Path.{◌≡◌}
 use mathlib.Core.Bool.{◌&&◌}
 use Prim.Native.Nat.{◌≤◌, ◌-◌}
-use native.Mathlib.Omega.{arith}
-use borrow.Author.Tests.{not-true, not-false}
-use borrow.Author.Rules.{rules}
-use Rattle.strips.specs.Strips.{strips_of, all_fine, strips_fine}
-use Rattle.strips.proofs.Loops.{strips_left, left_all, fine_next, fine_end}
+use Rattle.strips.specs.Strips.{strips_of, all_fine}
+use Rattle.strips.proofs.Loops.{strips_left}
 use Rattle.strips.proofs.glazing.strips_fine.Given as goal
 
 abbrev pub invariant-loop-i : goal.invariant-loop-i

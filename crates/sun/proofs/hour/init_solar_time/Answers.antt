@@ -1,4 +1,4 @@
-use Rattle.std.proofs.Common.{◌+◌, ◌^◌, refl, arith, le→leb, rules}
+use Rattle.std.proofs.Common.{◌+◌, ◌^◌, refl, arith, le→leb}
 use lib.Ieee.{of_bits, in_float}
 use Rattle.sun.specs.Hour.{solar_time}
 use Rattle.sun.proofs.hour.init_solar_time.Goals as goal
