@@ -1,5 +1,4 @@
 use mathlib.Core.Path.{sym, ap, ◌∙◌}
-use borrow.Author.Rules.{rules}
 use Rattle.probes.specs.Answers.{digits_answer}
 use Rattle.probes.proofs.probe_digits_at.Goals as goal
 
