@@ -202,7 +202,7 @@ pub record IrradianceRange (parts : Irradiance) : Type 0 where
   pub sky : Bounded most_part parts.sky
   pub circumsolar : InRange (whole 0) (whole (4 * 10 ^ 12)) parts.circumsolar
   pub horizontal : Bounded most_part parts.horizontal
-  pub ground : Bounded most_part parts.ground
+  pub from_ground : Bounded most_part parts.from_ground
 
 -- direct with the circumsolar part
 direct_sum : {a b : Float} → InRange (whole 0) most_beam a → InRange (whole 0) (whole (4 * 10 ^ 12)) b → InRange (whole 0) (whole (41 * 10 ^ 11)) (a ⊕ b)
@@ -258,8 +258,8 @@ module _ {l d t o : SinCos} {sun : Hour} (latitude : UnitRange l) (declination :
       let first = direct_sum (direct_in beam cos) circumsolar in
       let sky = sky_bounded q f1 tilt.cos in
       let horizontal = horizontal_bounded q f2 tilt.sin in
-      let ground = ground_bounded q beam known.sin_altitude_lem s tilt.cos in
-      let second = diffuse_sum sky circumsolar horizontal ground in
+      let from_ground = ground_bounded q beam known.sin_altitude_lem s tilt.cos in
+      let second = diffuse_sum sky circumsolar horizontal from_ground in
       record {
         direct = wider_direct first;
         diffuse = wider_diffuse second;
@@ -267,5 +267,5 @@ module _ {l d t o : SinCos} {sun : Hour} (latitude : UnitRange l) (declination :
         sky = sky;
         circumsolar = circumsolar;
         horizontal = horizontal;
-        ground = ground;
+        from_ground = from_ground;
       }

@@ -34,9 +34,9 @@ irradiance_of tilt incidence sky sin_altitude reflectivity =
     let sky_part = sky_irradiance sky.diffuse sky.f1 tilt.cos in
     let circumsolar = circumsolar_irradiance sky.diffuse sky.f1 incidence.a_over_b in
     let horizontal = horizontal_irradiance sky.diffuse sky.f2 tilt.sin in
-    let ground = ground_reflection sky.diffuse sky.beam sin_altitude reflectivity tilt.cos in
+    let from_ground = ground_reflection sky.diffuse sky.beam sin_altitude reflectivity tilt.cos in
     let direct = direct_irradiance sky.beam incidence.cos ⊕ circumsolar in
-    let diffuse = sky_part ⊕ circumsolar ⊕ horizontal ⊖ circumsolar ⊕ ground in
+    let diffuse = sky_part ⊕ circumsolar ⊕ horizontal ⊖ circumsolar ⊕ from_ground in
     record {
       direct = direct;
       diffuse = diffuse;
@@ -44,5 +44,5 @@ irradiance_of tilt incidence sky sin_altitude reflectivity =
       sky = sky_part;
       circumsolar = circumsolar;
       horizontal = horizontal;
-      ground = ground;
+      from_ground = from_ground;
     }

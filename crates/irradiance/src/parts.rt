@@ -34,7 +34,7 @@ pub struct Irradiance {
     pub sky: f64,
     pub circumsolar: f64,
     pub horizontal: f64,
-    pub ground: f64,
+    pub from_ground: f64,
 }
 
 // In W/m², by the tilt, the sun's incidence, the sky, the sine of the sun's altitude and the ground's reflectivity, 0 to 1.
@@ -50,7 +50,7 @@ pub fn calculated_direct_diffuse_total_irradiance(
     let sky_part = sky.diffuse * (1.0 - sky.f1) * ((1.0 + tilt.cos) / 2.0);
     let circumsolar = sky.diffuse * sky.f1 * incidence.a_over_b;
     let horizontal = sky.diffuse * sky.f2 * tilt.sin;
-    let ground = ground_reflection_irradiance(
+    let from_ground = ground_reflection_irradiance(
         sky.diffuse,
         sky.beam,
         sin_altitude,
@@ -58,7 +58,7 @@ pub fn calculated_direct_diffuse_total_irradiance(
         tilt.cos,
     );
     let direct = direct_irradiance(sky.beam, incidence.cos) + circumsolar;
-    let diffuse = sky_part + circumsolar + horizontal - circumsolar + ground;
+    let diffuse = sky_part + circumsolar + horizontal - circumsolar + from_ground;
     Irradiance {
         direct: direct,
         diffuse: diffuse,
@@ -66,6 +66,6 @@ pub fn calculated_direct_diffuse_total_irradiance(
         sky: sky_part,
         circumsolar: circumsolar,
         horizontal: horizontal,
-        ground: ground,
+        from_ground: from_ground,
     }
 }

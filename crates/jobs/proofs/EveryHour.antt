@@ -73,7 +73,7 @@ finite_parts r = record {
   sky = bounded_finite (record { holds = tt }) r.sky;
   circumsolar = in_finite (record { holds = tt }) (record { holds = tt }) r.circumsolar;
   horizontal = bounded_finite (record { holds = tt }) r.horizontal;
-  ground = bounded_finite (record { holds = tt }) r.ground;
+  from_ground = bounded_finite (record { holds = tt }) r.from_ground;
 }
 
 pub every_reading : EveryReading

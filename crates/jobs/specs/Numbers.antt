@@ -42,7 +42,7 @@ pub record FiniteIrradiance (parts : Irradiance) : Type 0 where
   pub sky : Finite parts.sky
   pub circumsolar : Finite parts.circumsolar
   pub horizontal : Finite parts.horizontal
-  pub ground : Finite parts.ground
+  pub from_ground : Finite parts.from_ground
 
 abbrev pub EveryReading : Type 0
 EveryReading =

@@ -44,7 +44,7 @@ hour_with l d t o day shift hour conversion diffuse direct reflectivity =
       sky = parts.sky;
       circumsolar = parts.circumsolar;
       horizontal = parts.horizontal;
-      ground = parts.ground;
+      from_ground = parts.from_ground;
     }
 
 -- an hour of the year, from angles in degrees

@@ -210,7 +210,7 @@ pub struct ProbeHour {
     pub sky: f64,
     pub circumsolar: f64,
     pub horizontal: f64,
-    pub ground: f64,
+    pub from_ground: f64,
 }
 
 fn hour_with(
@@ -248,7 +248,7 @@ fn hour_with(
         sky: parts.sky,
         circumsolar: parts.circumsolar,
         horizontal: parts.horizontal,
-        ground: parts.ground,
+        from_ground: parts.from_ground,
     }
 }
 

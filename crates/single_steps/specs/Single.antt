@@ -102,7 +102,7 @@ put_breakdown results sun parts =
     let sky = put_double total 5 parts.sky in
     let circumsolar = put_double sky 6 parts.circumsolar in
     let horizontal = put_double circumsolar 7 parts.horizontal in
-    put_double horizontal 8 parts.ground
+    put_double horizontal 8 parts.from_ground
 
 unfoldable pub irradiance_call : Site → Float → Surface → Reading → List ℕ → Called
 irradiance_call site time surface reading results =

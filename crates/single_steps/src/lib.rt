@@ -216,7 +216,7 @@ fn store_breakdown(results: &mut [u8], sun: Hour, parts: Irradiance)
     store_double(results, 5, parts.sky);
     store_double(results, 6, parts.circumsolar);
     store_double(results, 7, parts.horizontal);
-    store_double(results, 8, parts.ground);
+    store_double(results, 8, parts.from_ground);
 }
 
 // The sun and the irradiance of one step with its breakdown, in the first nine words of the results.

@@ -4,4 +4,4 @@ use Rattle.irradiance.proofs.parts.calculated_direct_diffuse_total_irradiance.Go
 
 pub returns : goal.returns
 unfolding irradiance_of of_bits
-returns c = rw (c.direct_irradiance.ensures, c.ground_reflection_irradiance-ground.ensures)
+returns c = rw (c.direct_irradiance.ensures, c.ground_reflection_irradiance-from_ground.ensures)
