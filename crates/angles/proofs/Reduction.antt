@@ -79,7 +79,7 @@ four k = go (lt k (whole 0))
 
 pub at_quadrant : {a : Float} {q : ℕ} {r h g : Float} (at : ℕ → Float → Float → Float) (n : ℕ) → Expands a q r h g → q ≡ n → n < 4 → of_angle at a ≡ clamp (at n (h ⊗ r) g)
 unfolding of_angle sine_series cosine_series
-at_quadrant {a} {q} {r} at n d e l = rw (d.sine_sum_lem, d.cosine_sum_lem) (go (is_angle a) d.reduces.turned d.reduces.left)
+at_quadrant {a} {q} {r} at n d e l = rw (d.sine_by_sum, d.cosine_by_sum) (go (is_angle a) d.reduces.turned d.reduces.left)
   where
     go : (b : Bool) → q ≡ cond b (quadrant (quarter_turns a)) 4 → r ≡ cond b (remainder a (quarter_turns a)) nan
         → cond b (clamp (at (quadrant (quarter_turns a)) (sine_series (remainder a (quarter_turns a))) (cosine_series (remainder a (quarter_turns a))))) nan ≡ clamp (at n (sine_sum (r ⊗ r) ⊗ r) (cosine_sum (r ⊗ r)))

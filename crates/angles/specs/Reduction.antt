@@ -12,5 +12,5 @@ pub record Reduces (a : Float) (q : ℕ) (r : Float) : Type 0 where
 -- with both sums at t = r·r
 pub record Expands (a : Float) (q : ℕ) (r s c : Float) : Type 0 where
   pub reduces : Reduces a q r
-  pub sine_sum_lem : s ≡ sine_sum (r ⊗ r)
-  pub cosine_sum_lem : c ≡ cosine_sum (r ⊗ r)
+  pub sine_by_sum : s ≡ sine_sum (r ⊗ r)
+  pub cosine_by_sum : c ≡ cosine_sum (r ⊗ r)

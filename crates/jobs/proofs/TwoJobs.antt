@@ -173,7 +173,7 @@ module _ {job : Job} {lists : Lent} (a : AcceptedRun job lists) (d : Doubles job
         factor_one = λ o i h. factor_is a i h ∙ one o i h;
         direct_finite = λ i h. rw (direct_is a i h) (amount i h).finite;
         sum_from = rw (sum_done a) (total_nonneg every (shaded job) n shaded_nonneg);
-        sum_to_lem = rw (sum_done a, unshaded_done) (total_mono every (shaded job) (unshaded job) n shaded_nonneg shaded_le);
+        sum_up_to = rw (sum_done a, unshaded_done) (total_mono every (shaded job) (unshaded job) n shaded_nonneg shaded_le);
         sum_unshaded = λ o. sum_done a ∙ total_same every (shaded job) (unshaded job) n (shaded_one o) ∙ sym unshaded_done;
       }
 

@@ -132,7 +132,7 @@ pub record Lawful (job : Job) (left : Ran) : Type 0 where
   pub factor_one : NoObjects job → (i : ℕ) → i < count_of left → factor_at left i ≡ whole 1
   pub direct_finite : (i : ℕ) → i < count_of left → Finite (direct_at left i)
   pub sum_from : whole 0 ≼ sum_of left
-  pub sum_to_lem : sum_of left ≼ unshaded_sum job.run.step left (count_of left)
+  pub sum_up_to : sum_of left ≼ unshaded_sum job.run.step left (count_of left)
   pub sum_unshaded : NoObjects job → sum_of left ≡ unshaded_sum job.run.step left (count_of left)
 
 -- one run nowhere larger than another: no factor is, nor the sum

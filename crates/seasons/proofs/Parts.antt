@@ -74,7 +74,7 @@ part_of l =
     record {
       within = omega (arith, e);
       same_bytes = unfold whole_records in ap (λ (n : ℕ). take n l) e;
-      whole_records_lem = omega (arith, e);
+      records_alone = omega (arith, e);
       all_records = omega (arith, e);
     }
 

@@ -8,7 +8,7 @@ use Rattle.seasons.specs.Seasons.{in_leaf, sectors_for}
 pub record PartOf (l part : List ℕ) : Type 0 where
   pub within : length part ≤ length l
   pub same_bytes : part ≡ take (length part) l
-  pub whole_records_lem : length part % 216 ≡ 0
+  pub records_alone : length part % 216 ≡ 0
   pub all_records : sector_count part ≡ sector_count l
 
 abbrev pub PartsOfLists : Type 0

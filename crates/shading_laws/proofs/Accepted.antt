@@ -23,7 +23,7 @@ use Rattle.object_checks.proofs.AcceptedWindow.{WindowInRange, window_in_range}
 use Rattle.shading.specs.declared.sun_on_surface.SunOnSurface.{SunOnSurface}
 use Rattle.shading.specs.Factor.{sun_on}
 use Rattle.shading_laws.specs.Premises.{AcceptedSurface, Doubles, AcceptedNear}
-use Rattle.shading_laws.specs.Sizes.{asked_at, nothing, NotNegative, ShadesNoLess, same, taller_obstacle, nearer_obstacle, lower_overhang, farther_overhang, ReachesNoLess, deeper, nearer, DarkensNoLess, taller, closer, darker, WindowShadesNoLess, unchanged, overhang, right_fin, left_fin, near_obstacle_lem, SectorShadesNoLess}
+use Rattle.shading_laws.specs.Sizes.{asked_at, nothing, NotNegative, ShadesNoLess, same, taller_obstacle, nearer_obstacle, lower_overhang, farther_overhang, ReachesNoLess, deeper, nearer, DarkensNoLess, taller, closer, darker, WindowShadesNoLess, unchanged, overhang, right_fin, left_fin, a_near_obstacle, SectorShadesNoLess}
 use Rattle.shading_laws.proofs.Members.{map_places}
 
 -- ---- surfaces and near obstacles
@@ -95,7 +95,7 @@ module _ (edition : ℕ) (surface : Surface) (t : T (surface_fine surface)) (alt
   at_window_asked o p d (overhang k r) = overhang k (reaches_asked (up.from, inr d) r)
   at_window_asked o p d (right_fin k r) = right_fin k (reaches_asked (inr d) r)
   at_window_asked o p d (left_fin k r) = left_fin k (reaches_asked (inr d) r)
-  at_window_asked o p d (near_obstacle_lem k r) = near_obstacle_lem k (darkens_asked up.from r)
+  at_window_asked o p d (a_near_obstacle k r) = a_near_obstacle k (darkens_asked up.from r)
 
   pub sectors_asked : {ss : List ShadingSegment} (m : List ℕ) → T (sectors_fine m) → PlaceByPlace (SectorShadesNoLess nothing) ss (sectors_of m)
       → PlaceByPlace (SectorShadesNoLess (asked_at surface sun)) ss (sectors_of m)

@@ -32,7 +32,7 @@ use Rattle.segments.proofs.SameWalks.{SameWalk, both_found, both_gap, both_turne
 use Rattle.shading.specs.Factor.{sun_on, has_reveal, factor_in, shading_factor}
 use Rattle.shading.specs.Call.{sun_fine, factor_call}
 use Rattle.shading_laws.specs.Premises.{Doubles, NoNanAt}
-use Rattle.shading_laws.specs.Sizes.{Asked, asked_at, nothing, Both, ShadesNoLess, same, WindowShadesNoLess, unchanged, overhang, right_fin, left_fin, near_obstacle_lem, SectorShadesNoLess, NoLargerAnswer, SizesAtOneStep, SizesInCalls}
+use Rattle.shading_laws.specs.Sizes.{Asked, asked_at, nothing, Both, ShadesNoLess, same, WindowShadesNoLess, unchanged, overhang, right_fin, left_fin, a_near_obstacle, SectorShadesNoLess, NoLargerAnswer, SizesAtOneStep, SizesInCalls}
 use Rattle.shading_laws.proofs.Members.{partner, one_changed}
 use Rattle.shading_laws.proofs.Sizes.{one_kind, factor_no_larger}
 use Rattle.shading_laws.proofs.Accepted.{accepted_surface, accepted_near, sectors_asked, window_asked}
@@ -61,7 +61,7 @@ reveal_same o p (unchanged e) = ap (of_kind Reveal) e
 reveal_same o p (overhang k r) = neither Overhang o p (λ t. t) k
 reveal_same o p (right_fin k r) = neither SideFinRight o p (λ t. t) k
 reveal_same o p (left_fin k r) = neither SideFinLeft o p (λ t. t) k
-reveal_same o p (near_obstacle_lem k r) = neither Obstacle o p (λ t. t) k
+reveal_same o p (a_near_obstacle k r) = neither Obstacle o p (λ t. t) k
 
 reveals_same : {asked : Asked} {ws vs : List WindowShadingObject} → PlaceByPlace (WindowShadesNoLess asked) ws vs → has_reveal ws ≡ has_reveal vs
 unfolding has_reveal

@@ -26,7 +26,7 @@ use Rattle.fins.specs.Fins.{fin_width}
 use Rattle.shading.specs.declared.sun_on_surface.SunOnSurface.{SunOnSurface}
 use Rattle.shading.specs.Factor.{obstacle_extents, overhang_extents, window_overhang_extents, right_fin_extents, left_fin_extents, near_obstacle_height, reduction_factor}
 use Rattle.shading_laws.specs.Premises.{AcceptedSurface, NoNanExtent, AcceptedNear}
-use Rattle.shading_laws.specs.Sizes.{asked_at, TangentUp, NotNegative, Both, ShadesNoLess, same, taller_obstacle, nearer_obstacle, lower_overhang, farther_overhang, ReachesNoLess, deeper, nearer, DarkensNoLess, taller, closer, darker, WindowShadesNoLess, unchanged, overhang, right_fin, left_fin, near_obstacle_lem}
+use Rattle.shading_laws.specs.Sizes.{asked_at, TangentUp, NotNegative, Both, ShadesNoLess, same, taller_obstacle, nearer_obstacle, lower_overhang, farther_overhang, ReachesNoLess, deeper, nearer, DarkensNoLess, taller, closer, darker, WindowShadesNoLess, unchanged, overhang, right_fin, left_fin, a_near_obstacle}
 use Rattle.shading_laws.proofs.Sides.{side_number, near_height, near_between, near_taller, near_darker}
 use Rattle.shading_laws.proofs.Members.{Partner, partners_reach}
 use Rattle.shading_laws.proofs.Bounds.{height_side, near_shade, near_shade_between}
@@ -81,7 +81,7 @@ module _ (surface : Surface) (sun : SunOnSurface) where
   window_overhang_moves o p (overhang k (nearer e h)) t n m = (k.second, inr (size.window_overhang_nearer sun o p n (m k.second) e h))
   window_overhang_moves o p (right_fin k r) t n m = absurd (one_kind Overhang SideFinRight o t k.first)
   window_overhang_moves o p (left_fin k r) t n m = absurd (one_kind Overhang SideFinLeft o t k.first)
-  window_overhang_moves o p (near_obstacle_lem k r) t n m = absurd (one_kind Overhang Obstacle o t k.first)
+  window_overhang_moves o p (a_near_obstacle k r) t n m = absurd (one_kind Overhang Obstacle o t k.first)
 
   -- the fins of one side: what such a fin may be changed by
   abbrev FinChange : WindowShadingType → FinShade → WindowShadingObject → WindowShadingObject → Type 0
@@ -102,7 +102,7 @@ module _ (surface : Surface) (sun : SunOnSurface) where
   right_change o p (right_fin k r) t = inr (k, r)
   right_change o p (overhang k r) t = absurd (one_kind SideFinRight Overhang o t k.first)
   right_change o p (left_fin k r) t = absurd (one_kind SideFinRight SideFinLeft o t k.first)
-  right_change o p (near_obstacle_lem k r) t = absurd (one_kind SideFinRight Obstacle o t k.first)
+  right_change o p (a_near_obstacle k r) t = absurd (one_kind SideFinRight Obstacle o t k.first)
 
   left_change : (o p : WindowShadingObject) → WindowShadesNoLess (asked_at surface sun) o p → T (of_kind SideFinLeft o) → FinChange SideFinLeft sun.fins.left o p
   unfolding kind_number
@@ -110,7 +110,7 @@ module _ (surface : Surface) (sun : SunOnSurface) where
   left_change o p (left_fin k r) t = inr (k, r)
   left_change o p (overhang k r) t = absurd (one_kind SideFinLeft Overhang o t k.first)
   left_change o p (right_fin k r) t = absurd (one_kind SideFinLeft SideFinRight o t k.first)
-  left_change o p (near_obstacle_lem k r) t = absurd (one_kind SideFinLeft Obstacle o t k.first)
+  left_change o p (a_near_obstacle k r) t = absurd (one_kind SideFinLeft Obstacle o t k.first)
 
 -- ---- near obstacles
 
@@ -198,7 +198,7 @@ module _ {surface : Surface} {sun : SunOnSurface} {xs ys : List ShadingObject} {
         of_kind_lem = t;
         lower = λ shade r. le_refl (own shade r);
       }
-      go q (near_obstacle_lem k r) = by q.other q.member k r
+      go q (a_near_obstacle k r) = by q.other q.member k r
       go q (overhang k r) = absurd (one_kind Obstacle Overhang o t k.first)
       go q (right_fin k r) = absurd (one_kind Obstacle SideFinRight o t k.first)
       go q (left_fin k r) = absurd (one_kind Obstacle SideFinLeft o t k.first)

@@ -88,7 +88,7 @@ pub data WindowShadesNoLess (asked : Asked) (o p : WindowShadingObject) : Type 0
   overhang : Both (of_kind Overhang) o p → ReachesNoLess (asked.sun_up × asked.overhang_deepens o) o p → WindowShadesNoLess asked o p
   right_fin : Both (of_kind SideFinRight) o p → ReachesNoLess (asked.right_deepens o) o p → WindowShadesNoLess asked o p
   left_fin : Both (of_kind SideFinLeft) o p → ReachesNoLess (asked.left_deepens o) o p → WindowShadesNoLess asked o p
-  near_obstacle_lem : Both (of_kind Obstacle) o p → DarkensNoLess asked.sun_up o p → WindowShadesNoLess asked o p
+  a_near_obstacle : Both (of_kind Obstacle) o p → DarkensNoLess asked.sun_up o p → WindowShadesNoLess asked o p
 
 -- two sectors bounded alike, each object of the second shading no less than the first one's at its place
 pub record SectorShadesNoLess (asked : Asked) (s t : ShadingSegment) : Type 0 where
