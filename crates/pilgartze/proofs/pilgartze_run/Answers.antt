@@ -14,7 +14,10 @@ returns c =
     let answer = c.answer_for.ensures ∙ ap (λ x. answer_for x.ran.answer) e in
     let days = ap (λ x. x.days) e in
     let totals = ap (λ x. x.totals) e in
-    let results = ap (λ x. x.ran.results) e in record { results_after = λ i. (answer i, days i, totals i, results i); doubles = record {
+    let results = ap (λ x. x.ran.results) e in record {
+      results_after = λ i. (answer i, days i, totals i, results i);
+      doubles = record {
         height_fits = record { holds = passes _ passed.1.0.1 };
         width_fits = record { holds = passes _ passed.1.1.0.1 };
-      } }
+      };
+    }

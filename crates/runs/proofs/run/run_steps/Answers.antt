@@ -176,12 +176,12 @@ kept_now c =
     let both = new_day job l.i l.results a.totals.now (few c.args.site c.args.run c.args.count c.requires.count_value l.i on) (current_hour l.time / 24) l.totals _ _ _ there q.11 stored read in
     (both.0, both.1, ap length stored ∙ length_kept l.totals l.kept_totals ∙ q.10) in
     elim c.if-hour-kept.branch [
-      then-hour-kept w ↦
+      | then-hour-kept w ↦
           let turned : (put_kept c.if-hour-kept.totals c.if-hour-kept.kept_totals ≡ so_far)
           × (c.if-hour-kept.kept_totals ≡ kept_totals leap (current_hour l.time / 24) so_far)
           × (length c.if-hour-kept.totals ≡ length a.totals.now)
           × (c.if-hour-kept.season ≡ table (current_hour l.time / 24)) = elim w.if-hour-day.branch [
-            then-hour-day+then-in_leaf-season v ↦
+            | then-hour-day+then-in_leaf-season v ↦
                 let both = of_new_day _ _ (w.totals-is ∙ v.totals-is ∙ v.store_kept.ensures)
                 (w.kept_totals-is ∙ v.kept_totals-is ∙ v.read_totals-kept_totals-then-hour-day.ensures
                 ∙ ap₂ (λ (h : ℕ) (m : List ℕ). kept_totals leap (h / 24) m) same (sym (w.totals-is ∙ v.totals-is))) in (
@@ -271,7 +271,7 @@ factor_now c =
     let a = c.args in
     let kept = kept_now (record { before = c.before.before; type_inv = record { days = c.type_inv.days; window = c.type_inv.window; winter = c.type_inv.winter; summer = c.type_inv.summer; reflectivity = c.type_inv.reflectivity; direct = c.type_inv.direct; diffuse = c.type_inv.diffuse } }) in
     elim c.if-not-shaded.branch [
-      then-not-shaded w ↦
+      | then-not-shaded w ↦
           kept_factor a.site a.surface _ _ kept.2 a.edition _ a.window.now _ _ _
           (kept_sectors a.summer.now a.winter.now (subst T (sym c.requires.summer_value) tt) (subst T (sym c.requires.winter_value) tt) _ _ kept.1) c.loop-i.invariant.3
           (w.factor-is ∙ w.factor_at-factor.ensures
@@ -294,10 +294,13 @@ returns-in-Refused c =
     let job = job_of c.args.edition c.args.site c.args.run c.args.surface c.args.diffuse.now c.args.direct.now c.args.reflectivity.now c.args.summer.now c.args.winter.now c.args.window.now in
     let q = c.loop-i in
     let e = job_step job q.time _ (by_kept c.args.edition c.args.site c.args.surface (job_sectors job q.time) c.args.window.now q.time (reading_at job q.time) _ _ _ _ q.invariant.2 (kept_now (record { before = c.before.before.before.before.before.before.before.before.before; type_inv = record { days = c.type_inv.days; window = c.type_inv.window; winter = c.type_inv.winter; summer = c.type_inv.summer; reflectivity = c.type_inv.reflectivity; direct = c.type_inv.direct; diffuse = c.type_inv.diffuse } })).2 (factor_now (record { before = c.before.before.before.before.before.before.before.before; type_inv = record { days = c.type_inv.days; window = c.type_inv.window; winter = c.type_inv.winter; summer = c.type_inv.summer; reflectivity = c.type_inv.reflectivity; direct = c.type_inv.direct; diffuse = c.type_inv.diffuse } })) c.step_at-answer.ensures) in
-    let below : q.i < c.args.count = omega (arith, c.loop-i-test.true) in record { results_after = ap (λ (r : RunAnswer). ran r q.results) c.refused_at.ensures
+    let below : q.i < c.args.count = omega (arith, c.loop-i-test.true) in record {
+      results_after = ap (λ (r : RunAnswer). ran r q.results) c.refused_at.ensures
           ∙ refused_here job c.args.count q.i q.time q.sum q.results _ (sym e ∙ c.in-Refused.is) below
-          ∙ q.invariant.9; totals_after = c.store_kept-in-Refused.ensures ∙ (kept_now (record { before = c.before.before.before.before.before.before.before.before.before; type_inv = record { days = c.type_inv.days; window = c.type_inv.window; winter = c.type_inv.winter; summer = c.type_inv.summer; reflectivity = c.type_inv.reflectivity; direct = c.type_inv.direct; diffuse = c.type_inv.diffuse } })).4
-          ∙ ap (λ (r : RunAnswer). with_totals (leap_year_of c.args.site) c.args.run q.results (rows_stored r) c.args.totals.now) (sym c.refused_at.ensures) }
+          ∙ q.invariant.9;
+      totals_after = c.store_kept-in-Refused.ensures ∙ (kept_now (record { before = c.before.before.before.before.before.before.before.before.before; type_inv = record { days = c.type_inv.days; window = c.type_inv.window; winter = c.type_inv.winter; summer = c.type_inv.summer; reflectivity = c.type_inv.reflectivity; direct = c.type_inv.direct; diffuse = c.type_inv.diffuse } })).4
+          ∙ ap (λ (r : RunAnswer). with_totals (leap_year_of c.args.site) c.args.run q.results (rows_stored r) c.args.totals.now) (sym c.refused_at.ensures);
+    }
 
 pub store_kept-requires-in-Refused : goal.store_kept-requires-in-Refused
 store_kept-requires-in-Refused c =
@@ -379,5 +382,8 @@ unfolding rows_stored
 returns c =
     let job = job_of c.args.edition c.args.site c.args.run c.args.surface c.args.diffuse.now c.args.direct.now c.args.reflectivity.now c.args.summer.now c.args.winter.now c.args.window.now in
     let q = c.loop-i in
-    let done : q.i ≡ c.args.count = omega (arith, c.loop-i-test.false, q.invariant.0) in record { results_after = at_end job c.args.count q.i q.time q.sum q.results done ∙ q.invariant.9; totals_after = c.store_kept-2.ensures ∙ q.invariant.11
-          ∙ ap (λ (n : ℕ). with_totals (leap_year_of c.args.site) c.args.run q.results n c.args.totals.now) done }
+    let done : q.i ≡ c.args.count = omega (arith, c.loop-i-test.false, q.invariant.0) in record {
+      results_after = at_end job c.args.count q.i q.time q.sum q.results done ∙ q.invariant.9;
+      totals_after = c.store_kept-2.ensures ∙ q.invariant.11
+          ∙ ap (λ (n : ℕ). with_totals (leap_year_of c.args.site) c.args.run q.results n c.args.totals.now) done;
+    }
