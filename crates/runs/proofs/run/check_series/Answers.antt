@@ -9,7 +9,6 @@ use Rattle.jobs.specs.Run.{lent, room_fine}
 use Rattle.runs.proofs.CheckSteps.{series_refused, reading_refused, results_refused, series_passed}
 use Rattle.runs.proofs.run.check_series.Goals as goal
 use Rattle.runs.proofs.run.check_series.Goals.{Start}
-use Rattle.runs.proofs.run.check_series.Lts as lts
 
 -- the steps that are counted are the run's
 indices : (s : Start) (b : Bool)

@@ -5,7 +5,6 @@ use Rattle.simulation_time.proofs.Times.{count_few}
 use Rattle.jobs.specs.JobChecks.{days_fine, totals_fine, results_fine}
 use Rattle.jobs.specs.Totals.{totals_count}
 use Rattle.jobs.specs.Run.{room_fine}
-use borrow.Author.Rules.{rules}
 use Rattle.runs.proofs.run.room_fine.Goals as goal
 
 pub overflow_add-records : goal.overflow_add-records

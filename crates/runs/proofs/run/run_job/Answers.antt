@@ -11,13 +11,12 @@ use Rattle.days.proofs.TableLaws.{table_read}
 use Rattle.sun.specs.Site.{site_fine, leap_year_of, hours_in_year}
 use Rattle.simulation_time.specs.RunChecks.{run_accepted}
 use Rattle.object_checks.specs.Checks.{sectors_fine, window_fine}
-use Rattle.jobs.specs.Job.{Job, job_of}
-use Rattle.jobs.specs.Run.{Lent, lent, room_for, days_left, totals_left, run_of, run_checked}
+use Rattle.jobs.specs.Job.{job_of}
+use Rattle.jobs.specs.Run.{lent, room_for, days_left, totals_left, run_of, run_checked}
 use Rattle.jobs.proofs.PassedChecks.{passed, days_fit, totals_fit, rows_fit}
 use Rattle.totals.specs.Kept.{emptied}
 use Rattle.totals.proofs.Kept.{length-emptied, emptied_again}
 use Rattle.runs.proofs.StepByStep.{totals_done}
-use borrow.Author.Rules.{rules}
 use Rattle.runs.proofs.run.run_job.Goals as goal
 
 pub fill_days-requires : goal.fill_days-requires

@@ -1,16 +1,8 @@
 -- `series_fine` meets its contract. The loop's invariant: for each of the two tests, whether it has held so far, and what is left.
-use mathlib.Core.Path.{◌≡◌, ◌∙◌, ap}
-use mathlib.Core.Bool.{Bool, ◌&&◌}
-use mathlib.Core.List.{List}
-use Prim.Native.Nat.{ℕ, ◌+◌, ◌-◌, ◌≤◌}
-use Rattle.doubles.specs.Arithmetic.{◌⊕◌}
-use native.Mathlib.Omega.{arith}
-use borrow.Author.Rules.{rules}
-use lib.Ieee.{Float}
+use mathlib.Core.Path.{◌≡◌}
+use mathlib.Core.Bool.{◌&&◌}
+use Prim.Native.Nat.{◌-◌, ◌≤◌}
 use Rattle.simulation_time.specs.Steps.{times_from, at_all}
-use Rattle.simulation_time.specs.Timestep.{series_index}
-use Rattle.weather.specs.Weather.{in_series, read_series, reading_fine}
-use Rattle.jobs.specs.JobChecks.{indices_fine, readings_fine}
 use Rattle.runs.proofs.AllSteps.{left, on_series, in_range}
 use Rattle.runs.proofs.series.series_fine.Given as goal
 
