@@ -6,6 +6,7 @@ ghost use Rattle.listing.specs.Reading.{wants_more, last_printed, reading_of};
 
 use lines::output::put;
 use listing::reader::{Reader, Stage, answer_piece, input_over, line_start, wants_more};
+use std::io::Read;
 
 // The reader after a piece of the input, and whether to go on: only where more is wanted.
 #[derive(Clone, Copy)]
@@ -14,12 +15,14 @@ struct Progress {
     going: bool,
 }
 
-fn write_out(bytes: &[u8]) -> bool {
-    let written = io::write_all(libc::STDOUT_FILENO, bytes);
-    if !written {
-        os::fail(b"standard output");
+fn write_out(rt: &(impl Print + Eprint), bytes: &[u8]) -> bool {
+    match rt.write_all(bytes) {
+        Ok(()) => true,
+        Err(error) => {
+            let _ = eprintln!(rt; "standard output: {error}");
+            false
+        }
     }
-    written
 }
 
 // A read or a write has failed: the listing is over. What was read of the last line may be cut short, and is not answered.
@@ -34,14 +37,14 @@ fn given_up() -> Progress
 
 // Prints what the lines print that end in a piece. A piece of 2,048 bytes has at most as many lines, each answered by at most 19 bytes,
 // so that there is room for all answers.
-fn print_answers(reader: Reader, piece: &[u8]) -> Progress
+fn print_answers(rt: &(impl Print + Eprint), reader: Reader, piece: &[u8]) -> Progress
     ensures { result.going ≡ wants_more result.reader.stage }
 {
-    let mut out = io::large_buffer();
+    let mut out = [0u8; 65536];
     let answered = answer_piece(reader, piece, &mut out, 0);
     let after = answered.reader;
     let used = answered.used;
-    if !write_out(&out[..used]) {
+    if !write_out(rt, &out[..used]) {
         return given_up();
     }
     Progress {
@@ -51,47 +54,46 @@ fn print_answers(reader: Reader, piece: &[u8]) -> Progress
 }
 
 // Reads a piece and answers its lines. After a wrong names line nothing is read: the input may stay open for ever.
-fn read_piece(reader: Reader) -> Progress
+fn read_piece(rt: &(impl Print + Eprint), input: &mut impl Read, reader: Reader) -> Progress
     requires { wants_more reader.stage ≡ true }
     ensures { result.going ≡ true → wants_more result.reader.stage ≡ true }
 {
     let mut piece = [0u8; 2048];
-    let got = libc::read(libc::STDIN_FILENO, &mut piece);
-    if got < 0 {
-        os::fail(b"standard input");
-        return given_up();
-    }
-    if got == 0 {
-        return Progress {
+    match input.read(&mut piece) {
+        Ok(0) => Progress {
             reader: reader,
             going: false,
-        };
+        },
+        Ok(n) => print_answers(rt, reader, &piece[..n]),
+        Err(error) => {
+            let _ = eprintln!(rt; "standard input: {error}");
+            given_up()
+        }
     }
-    let n = io::count(got, &piece);
-    print_answers(reader, &piece[..n])
 }
 
-// Nothing says that the input ends, so the loop counts its turns down from a number that no run uses up.
-fn read_all(first: Reader) -> Reader
+// Nothing says that the input ends, so the loop has a bound, which no run comes to.
+fn read_all(rt: &(impl Print + Eprint), input: &mut impl Read, first: Reader) -> Reader
     requires { wants_more first.stage ≡ true }
 {
     let mut reader = first;
-    let mut going = true;
-    let mut turns = u64::MAX;
-    while turns > 0 && going {
-        let progress = read_piece(reader);
+    for _ in 0..u64::MAX {
+        let progress = read_piece(rt, input, reader);
         reader = progress.reader;
-        going = progress.going;
-        turns -= 1;
+        if !progress.going {
+            break;
+        }
     }
     reader
 }
 
-fn main() {
-    if !write_out(b"number factor\n") {
+fn main(rt: HostRuntime) {
+    if !write_out(&rt, b"number factor\n") {
         return;
     }
-    let mut out = io::buffer();
-    let n = put(&mut out, 0, input_over(read_all(line_start(Stage::Names))));
-    write_out(&out[..n]);
+    let mut out = [0u8; 4096];
+    let mut input = rt.stdin();
+    let last = input_over(read_all(&rt, &mut input, line_start(Stage::Names)));
+    let n = put(&mut out, 0, last);
+    write_out(&rt, &out[..n]);
 }
