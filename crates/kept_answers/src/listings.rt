@@ -11,7 +11,7 @@ use words::word_at;
 fn is_answered_by(text: &[u8], lines: &[u8]) -> bool
     ensures { result ≡ is_answered_by text.now lines.now }
 {
-    let mut out = io::large_buffer();
+    let mut out = [0u8; 65536];
     let used = answer_text(text, &mut out);
     same_text(&out[..used], lines)
 }
