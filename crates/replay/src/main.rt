@@ -2,7 +2,12 @@
 // records it has and how many of them come out otherwise. `oracle/README.md` has the files' format.
 #![tactic(auto)]
 
+ghost use Rattle.std.specs.Io.{ReadsAtMost};
+
 use kept_answers::parts::record_end;
+use std::io::Read;
+use std::rt::Files;
+use std::{fs, io};
 use words::word_at;
 
 // How many records there were, and how many came out otherwise.
@@ -24,11 +29,11 @@ fn with_record(tally: Tally, kept: &[u8]) -> Tally {
     if word_at(kept, 0) == 0 {
         return tally;
     }
-    let count = std::num::wrapping_add_u64(tally.count, 1);
+    let count = tally.count.wrapping_add(1);
     if kept_answers::differs(kept) {
         return Tally {
             count: count,
-            different: std::num::wrapping_add_u64(tally.different, 1),
+            different: tally.different.wrapping_add(1),
         };
     }
     Tally {
@@ -49,54 +54,62 @@ fn with_block(first: Tally, block: &[u8]) -> Tally {
     tally
 }
 
-// Reads a block and replays it. No record lies in two blocks, and only the last one is shorter than the buffer.
-fn read_block(file: i32, tally: Tally) -> Progress {
-    let mut block = io::large_buffer();
-    let n = io::read_full(file, &mut block);
-    Progress {
-        tally: with_block(tally, &block[..n]),
-        going: n > 0,
+// Reads until the block is full or the file ends. Answers how many bytes were read.
+fn read_full(file: &mut impl Read, block: &mut [u8]) -> io::Result<usize>
+    ensures { ReadsAtMost result block.new }
+{
+    let mut done = 0;
+    while done < block.len() {
+        let n = file.read(&mut block[done..])?;
+        if n == 0 {
+            break;
+        }
+        done += n;
     }
+    Ok(done)
 }
 
-// Nothing says that a file ends, so the loop counts its turns down from a number that no file uses up.
-fn replayed(file: i32) -> Tally {
+// Reads a block and replays it. No record lies in two blocks, and only the last one is shorter than the buffer.
+fn read_block(file: &mut impl Read, tally: Tally) -> io::Result<Progress> {
+    let mut block = [0u8; 65536];
+    let n = read_full(file, &mut block)?;
+    Ok(Progress {
+        tally: with_block(tally, &block[..n]),
+        going: n > 0,
+    })
+}
+
+// Nothing says that a file ends, so the loop has a bound, which no file comes to.
+fn replayed(file: &mut impl Read) -> io::Result<Tally> {
     let mut tally = Tally {
         count: 0,
         different: 0,
     };
-    let mut going = true;
-    let mut turns = u64::MAX;
-    while turns > 0 && going {
-        let progress = read_block(file, tally);
+    for _ in 0..u64::MAX {
+        let progress = read_block(file, tally)?;
         tally = progress.tally;
-        going = progress.going;
-        turns -= 1;
+        if !progress.going {
+            break;
+        }
     }
-    tally
+    Ok(tally)
 }
 
-fn report(name: &[u8]) {
-    let file = os::open_read(name);
-    if file < 0 {
-        os::fail(name);
-        return;
-    }
-    let tally = replayed(file);
-    libc::close(file);
-    io::write_all(libc::STDOUT_FILENO, name);
-    io::write_all(libc::STDOUT_FILENO, b" ");
-    io::print_decimal(libc::STDOUT_FILENO, tally.count);
-    io::write_all(libc::STDOUT_FILENO, b", different ");
-    io::print_decimal(libc::STDOUT_FILENO, tally.different);
-    io::write_all(libc::STDOUT_FILENO, b"\n");
+// A file that cannot be opened is named on standard error, and those behind it are replayed all the same.
+fn report(rt: &(impl Files + Print + Eprint), name: &str) -> io::Result<()> {
+    let mut file = match fs::open(rt, name) {
+        Ok(file) => file,
+        Err(error) => return eprintln!(rt; "{name}: {error}"),
+    };
+    let tally = replayed(&mut file)?;
+    println!(rt; "{name} {}, different {}", tally.count, tally.different)
 }
 
-fn main() {
-    report(b"runs");
-    report(b"factors");
-    report(b"leaves");
-    report(b"listings");
-    report(b"days");
-    report(b"strips");
+fn main(rt: HostRuntime) -> io::Result<()> {
+    report(&rt, "runs")?;
+    report(&rt, "factors")?;
+    report(&rt, "leaves")?;
+    report(&rt, "listings")?;
+    report(&rt, "days")?;
+    report(&rt, "strips")
 }
