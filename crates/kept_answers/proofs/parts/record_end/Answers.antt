@@ -1,17 +1,8 @@
 -- `record_end` meets its contract.
-use Rattle.std.proofs.Common.{length, sym, ap, ◌∙◌, arith, eq-eqb, ne_eqb}
+use Rattle.std.proofs.Common.{length, sym, ap, ◌∙◌, eq-eqb, ne_eqb}
 use Rattle.words.specs.Words.{word_at}
 use Rattle.kept_answers.specs.KeptRecords.{list_end, part, record_end}
 use Rattle.kept_answers.proofs.parts.record_end.Goals as goal
-
-pub slice_bounds-record_size-count : goal.slice_bounds-record_size-count
-slice_bounds-record_size-count c = omega arith
-
-pub slice_bounds-record_size-start : goal.slice_bounds-record_size-start
-slice_bounds-record_size-start c = omega arith
-
-pub slice_bounds-record_size-end : goal.slice_bounds-record_size-end
-slice_bounds-record_size-end c = omega arith
 
 pub returns-then-size-eq0 : goal.returns-then-size-eq0
 unfolding record_end
@@ -19,9 +10,6 @@ returns-then-size-eq0 c =
     let a = c.args in
     let l = a.block.now in
     rw (eq-eqb (word_at (part l a.at (length l)) 1) 0 (sym c.record_size-size.ensures ∙ c.if-size-eq0.true))
-
-pub list_end-requires : goal.list_end-requires
-list_end-requires c = omega arith
 
 pub returns : goal.returns
 unfolding record_end

@@ -1,10 +1,7 @@
 -- `is_answered` meets its contract.
-use Rattle.std.proofs.Common.{ap, arith}
+use Rattle.std.proofs.Common.{ap}
 use Rattle.kept_answers.specs.Differs.{run_kept}
 use Rattle.kept_answers.proofs.whole_runs.is_answered.Goals as goal
-
-pub surface_at-requires : goal.surface_at-requires
-surface_at-requires c = omega arith
 
 pub returns : goal.returns
 unfolding run_kept

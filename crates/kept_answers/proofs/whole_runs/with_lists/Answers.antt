@@ -4,14 +4,8 @@ use Rattle.text.proofs.Pieces.{front}
 use Rattle.kept_answers.specs.Differs.{lists_for}
 use Rattle.kept_answers.proofs.whole_runs.with_lists.Goals as goal
 
-pub slice_bounds-totals-end : goal.slice_bounds-totals-end
-slice_bounds-totals-end c = omega (arith, c.least-m.ensures)
-
 pub slice_bounds-is_answered-end-2 : goal.slice_bounds-is_answered-end-2
 slice_bounds-is_answered-end-2 c = sym (length-take-le c.least-m.result (replicate 9080 0xA5) (omega (arith, c.least-m.ensures)))
-
-pub slice_bounds-results-end : goal.slice_bounds-results-end
-slice_bounds-results-end c = omega (arith, c.least-n.ensures)
 
 pub slice_bounds-is_answered-end-3 : goal.slice_bounds-is_answered-end-3
 slice_bounds-is_answered-end-3 c = sym (length-take-le c.least-n.result (replicate 20000 0xA5) (omega (arith, c.least-n.ensures)))
