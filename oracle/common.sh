@@ -50,17 +50,10 @@ need_rustc() {
     rustc_will_do || fail "rustc 1.84 or later is needed; this is $(rustc --version)"
 }
 
-# prove NAME..: these crates and all below them, several at a time; a static library is proved one
-# crate after the other. No two of rt's runs may go side by side: they share the folder target.
-prove() {
-    command -v rt >/dev/null || fail "rt, Rattle's tool, is not installed"
-    rt check "$@" >&2 || fail "not all is proved" 1
-}
-
-# static_library NAME: proves the crate and writes target/staticlib/libNAME.a.
-static_library() {
-    command -v rt >/dev/null || fail "rt, Rattle's tool, is not installed"
-    rt staticlib "$1" >&2 || fail "the library $1 was not built" 1
+# build NAME: proves that crate and all below it; of a static library it writes target/staticlib/libNAME.a, of a
+# program target/bin/NAME. No two of these go side by side: each waits for the crates that the other is at.
+build() {
+    tools/build "$1" || fail "$1 was not built" 1
 }
 
 # has_texts FOLDER: whether the published texts are there, each under either name that oracle/slice takes.
