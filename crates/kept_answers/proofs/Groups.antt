@@ -6,6 +6,12 @@ use Rattle.kept_answers.specs.Leaves.{angle_values, number_values, sun_values, s
 
 -- ---- a number that is none of a group's
 
+pub beyond : {k : ℕ} (n : ℕ) → n ≤ k → (k ≡ n → ⊥) → n + 1 ≤ k
+beyond n h e = omega (arith, h, e)
+
+pub above_zero_lem : {k : ℕ} → (k ≡ 0 → ⊥) → 1 ≤ k
+above_zero_lem e = omega (arith, e)
+
 past_end : (l : List Float) (k : ℕ) → length l ≤ k → get_or l k nan ≡ nan
 past_end [] k h = refl
 past_end (a ∷ l) zero h = absurd (omega (arith, h))
