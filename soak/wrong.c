@@ -551,9 +551,10 @@ static pilgartze_answer run_in_edition(RUN_ARGUMENTS, DAYS_LIST, TOTALS_LIST, RE
     const run_hours hours = {series_step, start, end, step};
     const uint8_t old = results_length > 0 ? results[0] : 0;
     const size_t room = days_length < PILGARTZE_DAYS_LENGTH ? days_length : PILGARTZE_DAYS_LENGTH;
-    pilgartze_day_table former = {{{0.0, 0.0, 0.0}}};
-    pilgartze_year_totals former_totals;
+    static __thread pilgartze_day_table former; /* as below */
+    static __thread pilgartze_year_totals former_totals;
     pilgartze_answer answer, sound;
+    memset(&former, 0, sizeof former);
     memcpy(&former, days, room);
     before_run(direct, direct_length, reflectivity, reflectivity_length, OBJECTS);
     before_days(DAYS);
