@@ -90,8 +90,8 @@ pub fn get_segment(azimuth: f64, sectors: &[ShadingSegment]) -> Place
     walk.place
 }
 
-// The walk along the first n sectors of a table. The table comes by value: nothing else that the checker follows by itself can lend
-// a slice of structs.
+// The walk along the first n sectors of a table. The table comes by value: an older Rattle could not follow a caller that lends a
+// slice of structs.
 pub fn segment_in(azimuth: f64, table: [ShadingSegment; 36], n: usize) -> Place
     requires { n ≤ 36 }
     ensures { result ≡ place_of azimuth (take n table) }
@@ -119,8 +119,8 @@ pub struct FoundSegment {
 }
 
 // The walk along the sectors of a checked list, for a single sun. The table is filled here, since one that comes from a function is
-// copied. A list without a sector is told before the walk: the compiler then sees that the table is always filled, and makes no copy of
-// it.
+// copied once more. A list without a sector is told before the walk: an older compiler then saw that the table is always filled, and
+// made no copy of it for the walk; today's makes one.
 pub fn find_segment(azimuth: f64, sectors: &[u8]) -> FoundSegment
     requires { Readable sectors.now }
     ensures { result ≡ segment_found azimuth (sectors_of sectors.now) }
