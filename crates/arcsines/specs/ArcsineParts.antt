@@ -1,24 +1,13 @@
 -- The arcsine taken apart, so that the series of two can go at once: which argument's series it needs, and what it is by that series.
 -- `arcsine_by_lem` of proofs/ArcsineParts puts it together again.
-use Rattle.std.specs.Prelude.{cond, ◌+◌, Float}
+use Rattle.std.specs.Prelude.{cond, Float}
 use Rattle.std.specs.Float.Ieee.{neg, lt}
 use Rattle.doubles.specs.Arithmetic.{whole}
-use Rattle.doubles.specs.Series.{horner}
-use Rattle.arcsines.specs.Arcsine.{arcsine_step, up_to_half, half_pi, half_angle_sine, upward_by, odd_extension}
+use Rattle.arcsines.specs.Arcsine.{up_to_half, half_pi, half_angle_sine, upward_by, odd_extension}
 use Rattle.arcsines.specs.declared.Both.{Both}
 
 abbrev pub both : Float → Float → Both
 both x y = record { first = x; second = y }
-
--- the series' steps n = 24 down to 13, from h = 1
-unfoldable pub first_steps : Float → Float
-unfolding horner arcsine_step whole
-first_steps t = horner (λ n h. arcsine_step t (12 + n) h) 12 (whole 1)
-
--- n = 12 down to 1, from h
-unfoldable pub last_steps : Float → Float → Float
-unfolding horner arcsine_step whole
-last_steps t h = horner (arcsine_step t) 12 h
 
 unfoldable pub magnitude : Float → Float
 unfolding whole

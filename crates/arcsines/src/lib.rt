@@ -4,7 +4,9 @@
 
 ghost use Rattle.std.specs.Prelude.{◌≡◌};
 ghost use Rattle.arcsines.specs.Arcsine.{arcsine_series, complement, upward_by, arcsine, arccosine};
-ghost use Rattle.arcsines.specs.ArcsineParts.{both, first_steps, last_steps, magnitude, series_argument, arcsine_by};
+ghost use Rattle.arcsines.specs.ArcsineParts.{both, magnitude, series_argument, arcsine_by};
+
+use std::f64::consts::PI;
 
 // Two numbers at once.
 #[derive(Clone, Copy)]
@@ -13,87 +15,49 @@ pub struct Both {
     pub second: f64,
 }
 
-// The series of two arguments with squares t and u, step by step in pairs, so that two divisions go at once and both cost little more
-// than one. Steps 24 to 13.
-fn first_steps_both(t: f64, u: f64) -> Both
-    ensures { result ≡ both (first_steps t) (first_steps u) }
-{
-    let h = 1.0;
-    let k = 1.0;
-    let h = 1.0 + t * 2209.0 / 2352.0 * h;
-    let k = 1.0 + u * 2209.0 / 2352.0 * k;
-    let h = 1.0 + t * 2025.0 / 2162.0 * h;
-    let k = 1.0 + u * 2025.0 / 2162.0 * k;
-    let h = 1.0 + t * 1849.0 / 1980.0 * h;
-    let k = 1.0 + u * 1849.0 / 1980.0 * k;
-    let h = 1.0 + t * 1681.0 / 1806.0 * h;
-    let k = 1.0 + u * 1681.0 / 1806.0 * k;
-    let h = 1.0 + t * 1521.0 / 1640.0 * h;
-    let k = 1.0 + u * 1521.0 / 1640.0 * k;
-    let h = 1.0 + t * 1369.0 / 1482.0 * h;
-    let k = 1.0 + u * 1369.0 / 1482.0 * k;
-    let h = 1.0 + t * 1225.0 / 1332.0 * h;
-    let k = 1.0 + u * 1225.0 / 1332.0 * k;
-    let h = 1.0 + t * 1089.0 / 1190.0 * h;
-    let k = 1.0 + u * 1089.0 / 1190.0 * k;
-    let h = 1.0 + t * 961.0 / 1056.0 * h;
-    let k = 1.0 + u * 961.0 / 1056.0 * k;
-    let h = 1.0 + t * 841.0 / 930.0 * h;
-    let k = 1.0 + u * 841.0 / 930.0 * k;
-    let h = 1.0 + t * 729.0 / 812.0 * h;
-    let k = 1.0 + u * 729.0 / 812.0 * k;
-    let h = 1.0 + t * 625.0 / 702.0 * h;
-    let k = 1.0 + u * 625.0 / 702.0 * k;
-    Both {
-        first: h,
-        second: k,
-    }
-}
+// The factors (2n − 1)² and the divisors 2n(2n + 1) of the series' steps, for n from 24 down to 1.
+const STEPS: [(f64, f64); 24] = [
+    (2209.0, 2352.0),
+    (2025.0, 2162.0),
+    (1849.0, 1980.0),
+    (1681.0, 1806.0),
+    (1521.0, 1640.0),
+    (1369.0, 1482.0),
+    (1225.0, 1332.0),
+    (1089.0, 1190.0),
+    (961.0, 1056.0),
+    (841.0, 930.0),
+    (729.0, 812.0),
+    (625.0, 702.0),
+    (529.0, 600.0),
+    (441.0, 506.0),
+    (361.0, 420.0),
+    (289.0, 342.0),
+    (225.0, 272.0),
+    (169.0, 210.0),
+    (121.0, 156.0),
+    (81.0, 110.0),
+    (49.0, 72.0),
+    (25.0, 42.0),
+    (9.0, 20.0),
+    (1.0, 6.0),
+];
 
-// Steps 12 to 1.
-fn last_steps_both(t: f64, u: f64, h: f64, k: f64) -> Both
-    ensures { result ≡ both (last_steps t h) (last_steps u k) }
-{
-    let h = 1.0 + t * 529.0 / 600.0 * h;
-    let k = 1.0 + u * 529.0 / 600.0 * k;
-    let h = 1.0 + t * 441.0 / 506.0 * h;
-    let k = 1.0 + u * 441.0 / 506.0 * k;
-    let h = 1.0 + t * 361.0 / 420.0 * h;
-    let k = 1.0 + u * 361.0 / 420.0 * k;
-    let h = 1.0 + t * 289.0 / 342.0 * h;
-    let k = 1.0 + u * 289.0 / 342.0 * k;
-    let h = 1.0 + t * 225.0 / 272.0 * h;
-    let k = 1.0 + u * 225.0 / 272.0 * k;
-    let h = 1.0 + t * 169.0 / 210.0 * h;
-    let k = 1.0 + u * 169.0 / 210.0 * k;
-    let h = 1.0 + t * 121.0 / 156.0 * h;
-    let k = 1.0 + u * 121.0 / 156.0 * k;
-    let h = 1.0 + t * 81.0 / 110.0 * h;
-    let k = 1.0 + u * 81.0 / 110.0 * k;
-    let h = 1.0 + t * 49.0 / 72.0 * h;
-    let k = 1.0 + u * 49.0 / 72.0 * k;
-    let h = 1.0 + t * 25.0 / 42.0 * h;
-    let k = 1.0 + u * 25.0 / 42.0 * k;
-    let h = 1.0 + t * 9.0 / 20.0 * h;
-    let k = 1.0 + u * 9.0 / 20.0 * k;
-    let h = 1.0 + t * 1.0 / 6.0 * h;
-    let k = 1.0 + u * 1.0 / 6.0 * k;
-    Both {
-        first: h,
-        second: k,
-    }
-}
-
+// The series of two arguments, step by step in pairs, so that two divisions go at once and both cost little more than one.
 fn arcsine_series_both(a: f64, b: f64) -> Both
     ensures { result ≡ both (arcsine_series a) (arcsine_series b) }
 {
     let t = a * a;
     let u = b * b;
-    let begun = first_steps_both(t, u);
-    let ended = last_steps_both(t, u, begun.first, begun.second);
+    let mut h = 1.0;
+    let mut k = 1.0;
+    for (factor, divisor) in STEPS {
+        h = 1.0 + t * factor / divisor * h;
+        k = 1.0 + u * factor / divisor * k;
+    }
     Both {
-        first: a * ended.first,
-        second: b * ended.second,
+        first: a * h,
+        second: b * k,
     }
 }
 
@@ -121,7 +85,7 @@ fn arcsine_upward(m: f64, series: f64) -> f64
     if m <= 0.5 {
         series
     } else {
-        doubles::PI / 2.0 - 2.0 * series
+        PI / 2.0 - 2.0 * series
     }
 }
 
@@ -129,7 +93,7 @@ fn arcsine_upward(m: f64, series: f64) -> f64
 fn arcsine_by(a: f64, series: f64) -> f64
     ensures { result ≡ arcsine_by a series }
 {
-    let right_angle = doubles::PI / 2.0;
+    let right_angle = PI / 2.0;
     if a > 1.0 {
         right_angle
     } else if a < -1.0 {
@@ -168,7 +132,7 @@ pub fn asin_both(a: f64, b: f64) -> Both
 pub fn acos_by(arc_sine: f64) -> f64
     ensures { result ≡ complement arc_sine }
 {
-    doubles::PI / 2.0 - arc_sine
+    PI / 2.0 - arc_sine
 }
 
 // The arccosine of a, in radians, from 0 to PI; it clamps nothing but by its arcsine.

@@ -15,18 +15,13 @@ pub struct Date {
     pub day: u32,
 }
 
-// Where a day, which counts from 0, stands in the table: a common year passes over 29 February.
+// Where a day, which counts from 0, stands in the table: a common year passes over 29 February. A day is a number and no type of its own:
+// which days there are depends on the year, so a type would have to carry it.
 fn place_of(leap: bool, day: u32) -> u32
     requires { day < days_in_year leap }
     ensures { result ≡ place_of leap day }
 {
-    if leap {
-        return day;
-    }
-    if day < 59 {
-        return day;
-    }
-    day + 1
+    if leap || day < 59 { day } else { day + 1 }
 }
 
 pub fn days_in_year(leap: bool) -> u32

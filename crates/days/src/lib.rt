@@ -34,9 +34,10 @@ fn days_from(k: u64, n: u64) -> f64
     ensures { result ≡ days_from k n }
 {
     if k <= n {
-        return (n - k) as f64;
+        (n - k) as f64
+    } else {
+        -((k - n) as f64)
     }
-    -((k - n) as f64)
 }
 
 // In minutes. NaN after the 366th day.
@@ -50,7 +51,7 @@ pub fn init_equation_of_time(current_day: u32) -> f64
         136..=240 => 1.4 - 5.0 * angles::cos(days_from(135, nday) * 0.0449),
         241..=335 => -6.3 - 10.0 * angles::cos(days_from(306, nday) * 0.036),
         336..=366 => 0.45 * days_from(359, nday),
-        _ => 0.0 / 0.0,
+        _ => f64::NAN,
     }
 }
 

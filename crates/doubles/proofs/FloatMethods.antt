@@ -1,8 +1,7 @@
--- The float methods `min` and `max`, as their code finds them: by one comparison, and a test of the second for a NaN. Assumes nothing.
-use Rattle.std.proofs.Common.{◌≡◌, Bool, true, false, cond, not, T, sym, refl, ap, ◌∙◌}
-use lib.Ieee.{Float, nan, inf, fin, lt, eq, is_nan}
+-- The float methods `min` and `max`, as their code finds them: by one comparison or a test of the second for a NaN. Assumes nothing.
+use Rattle.std.proofs.Common.{◌≡◌, Bool, true, false, cond, ◌||◌, T, refl}
+use lib.Ieee.{Float, nan, inf, fin, lt, is_nan}
 use Rattle.doubles.specs.Functions.{float_min, float_max}
-use Rattle.doubles.proofs.Order.{equals_itself}
 
 no_nan_left : (x y : Float) → T (is_nan x) → T (lt x y) → ⊥
 unfolding is_nan lt
@@ -30,7 +29,7 @@ same_nan (fin s k d) y m n = absurd m
 
 -- p and q: whether x and y are NaN; t: the comparison
 shape : (x y : Float) (p q t : Bool) → (T p → T t → ⊥) → (T p → T q → y ≡ x)
-    → cond p y (cond q x (cond t x y)) ≡ cond t x (cond (not q) y x)
+    → cond p y (cond q x (cond t x y)) ≡ cond (t || q) x y
 shape x y true q true f g = absurd (f tt tt)
 shape x y true true false f g = g tt tt
 shape x y true false false f g = refl
@@ -39,12 +38,10 @@ shape x y false true false f g = refl
 shape x y false false true f g = refl
 shape x y false false false f g = refl
 
-pub min_shape : (x y : Float) → float_min x y ≡ cond (lt x y) x (cond (eq y y) y x)
+pub min_shape : (x y : Float) → float_min x y ≡ cond (lt x y || is_nan y) x y
 unfolding float_min
-min_shape x y =
-    shape x y (is_nan x) (is_nan y) (lt x y) (no_nan_left x y) (λ m n. same_nan y x n m) ∙ ap (λ (b : Bool). cond (lt x y) x (cond b y x)) (sym (equals_itself y))
+min_shape x y = shape x y (is_nan x) (is_nan y) (lt x y) (no_nan_left x y) (λ m n. same_nan y x n m)
 
-pub max_shape : (x y : Float) → float_max x y ≡ cond (lt y x) x (cond (eq y y) y x)
+pub max_shape : (x y : Float) → float_max x y ≡ cond (lt y x || is_nan y) x y
 unfolding float_max
-max_shape x y =
-    shape x y (is_nan x) (is_nan y) (lt y x) (no_nan_right y x) (λ m n. same_nan y x n m) ∙ ap (λ (b : Bool). cond (lt y x) x (cond b y x)) (sym (equals_itself y))
+max_shape x y = shape x y (is_nan x) (is_nan y) (lt y x) (no_nan_right y x) (λ m n. same_nan y x n m)

@@ -1,17 +1,19 @@
 -- What `floor` uses: a fitting double with a fraction is below 2 ^ 52 in size and its digits m are odd, so m / 2 ^ suc k is never
 -- whole; and a double without a fraction is the double of its whole value. Assumes nothing.
 use Rattle.std.proofs.Common.{◌≡◌, ℕ, zero, suc, ◌+◌, ◌-◌, ◌*◌, ◌/◌, ◌%◌, ◌^◌, ◌<◌, ◌≤◌, Bool, true, false, ◌&&◌, T, eqb, ltb, leb, ℤ, pos, negsuc, sym, refl, ap, ◌∙◌, subst, true≢false, mod-lt, div-lt_iff_lt-mul, mul-le-mul_left, pow-suc, div-add-mod', mul-one, arith, le→leb, eqb→eq, lt→ltb, pow_pos, pow_mono}
-use native.Mathlib.Nat.{mod-one, min-eq_left, eq_of_mul-eq-mul_right}
+use native.Mathlib.Nat.{div-one, mod-one, min-eq_left, eq_of_mul-eq-mul_right}
 use lib.Arith.{digits_div}
 use lib.Ieee.{Float, nan, inf, fin, binary64, up, down, neg, lt, eq, le, fits, is_nan, of_int, to_unsigned, in_unsigned}
 use lib.Ieee as Ieee
 use lib.Ieee.Back.{Float-back_unsigned, round_whole}
 use lib.Ieee.Exact.{HasValue}
 use lib.Ieee.Fits.{and_i, and_l, and_r, eq→eqb, down_pos, neg-fits}
+use Rattle.std.specs.Float.{floor, round_with}
 use Rattle.doubles.specs.Arithmetic.{whole}
 use Rattle.doubles.specs.Functions.{floor_of}
 use Rattle.doubles.proofs.Order.{lt→cross, cross→lt, eq→cross, le_lt_trans, lt-le_trans, equals_itself}
-use Rattle.doubles.proofs.Exact.{Digits, digits}
+use Rattle.doubles.proofs.Exact.{Digits, digits, round_own}
+use Rattle.doubles.proofs.Rounding.{round-neg}
 
 -- 2 ^ 52
 abbrev limit : Float
@@ -110,16 +112,6 @@ module _ (x : Float) (h : Small x ≡ true) where
     (lt-le_trans {x = x} {y = limit} {z = fin false 1 (pos 64)} (record { holds = below }) (record { holds = unfold le in tt })).holds,
   )
 
-  pub whole_part_lt : to_unsigned 64 x < 2 ^ 52
-  whole_part_lt = go x above below
-    where
-      go : (x : Float) → T (lt (fin false 0 (pos 0)) x) → T (lt x limit) → to_unsigned 64 x < 2 ^ 52
-      go nan a b = absurd (unfold lt in a)
-      go (inf true) a b = absurd (unfold lt in a)
-      go (inf false) a b = absurd (unfold lt in b)
-      go (fin true m e) a b = absurd (unfold lt in a)
-      go (fin false m e) a b = rw (whole_part m e b) (quotient_lt m e b)
-
 pub floor_positive : (x : Float) → T (fits binary64 x) → Small x ≡ true → whole (to_unsigned 64 x) ≡ floor_of x
 unfolding floor_of
 floor_positive nan f h = absurd (unfold lt in above nan h)
@@ -128,16 +120,6 @@ floor_positive (inf false) f h = absurd (unfold lt in below (inf false) h)
 floor_positive (fin true m e) f h = absurd (unfold lt in above (fin true m e) h)
 floor_positive (fin false m (pos k)) f h = restored m k f (below (fin false m (pos k)) h)
 floor_positive (fin false m (negsuc k)) f h = rw (whole_part m (negsuc k) (below (fin false m (negsuc k)) h), mul-one m)
-
--- neither x nor −x is in the range
-pub floor_whole : (x : Float) → T (fits binary64 x) → Small x ≡ false → Small (neg x) ≡ false → floor_of x ≡ x
-unfolding floor_of neg
-floor_whole nan f p q = refl
-floor_whole (inf s) f p q = refl
-floor_whole (fin s m (pos k)) f p q = refl
-floor_whole (fin s zero (negsuc k)) f p q = absurd (no_zero s k f)
-floor_whole (fin false (suc m) (negsuc k)) f p q = absurd (subst T p (small (suc m) k (digits false m (negsuc k) f)))
-floor_whole (fin true (suc m) (negsuc k)) f p q = absurd (subst T q (small (suc m) k (digits true m (negsuc k) f)))
 
 -- a double of value n that equals m / 2 ^ suc k
 equal_values : (z : Float) (n m k : ℕ) → HasValue z false n 1 → T (eq z (fin false m (negsuc k))) → n * 2 ^ suc k ≡ m
@@ -189,3 +171,20 @@ floor_negative (fin true zero (negsuc k)) f h e = absurd (no_zero true k f)
 floor_negative (fin true (suc m) (negsuc k)) f h e =
     let d = digits true m (negsuc k) f in
     rw (whole_part (suc m) (negsuc k) (below (fin false (suc m) (negsuc k)) h), mul-one (suc m), ceiling (suc m) (2 ^ suc k) (pow_pos (suc k)) (fraction (suc m) k d.is_odd))
+
+-- the library's floor is ours
+pub floor_is : (x : Float) → T (fits binary64 x) → floor binary64 x ≡ floor_of x
+unfolding floor_of round_with whole of_int
+floor_is nan f = refl
+floor_is (inf s) f = refl
+floor_is (fin false m (pos k)) f = rw (div-one (m * 2 ^ k)) (round_own false m (pos k) f)
+floor_is (fin true m (pos k)) f = ap (λ (n : ℕ). Ieee.round binary64 true n 1) (level (m * 2 ^ k)) ∙ round_own true m (pos k) f
+  where
+    level : (n : ℕ) → (n + 1 - 1) / 1 ≡ n
+    level n = omega arith
+floor_is (fin false m (negsuc k)) f = rw (mul-one m) refl
+floor_is (fin true m (negsuc k)) f =
+    rw (mul-one m) (round-neg ((m + 2 ^ suc k - 1) / 2 ^ suc k) 1 ∙ ap (λ (n : ℕ). neg (Ieee.round binary64 false (n / 2 ^ suc k) 1)) (taken m (2 ^ suc k) (pow_pos (suc k))))
+  where
+    taken : (m d : ℕ) → 0 < d → m + d - 1 ≡ m + (d - 1)
+    taken m d h = omega arith

@@ -4,10 +4,11 @@
 ghost use Rattle.std.specs.Prelude.{◌≡◌};
 ghost use Rattle.doubles.specs.Functions.{min_of2, max_of2, float_min, float_max, clamp, floor_of, cube_of, to_radians, to_degrees};
 
-// The double nearest to PI, for every crate.
-pub const PI: f64 = 3.141592653589793;
+// Not the library's `min` and `max`: of two zeros these may give either, and here the definitions say which. The pairs differ in a comparison;
+// one function for both, with the comparison as a parameter, is no plainer.
 
 // The smaller of two, and the second where the comparison fails.
+#[tactic(auto, unfolding(crate::specs::Functions::min_of2))]
 pub fn min_of_2(first: f64, second: f64) -> f64
     ensures { result ≡ min_of2 first second }
 {
@@ -15,6 +16,7 @@ pub fn min_of_2(first: f64, second: f64) -> f64
 }
 
 // The larger of two, and the second where the comparison fails.
+#[tactic(auto, unfolding(crate::specs::Functions::max_of2))]
 pub fn max_of_2(first: f64, second: f64) -> f64
     ensures { result ≡ max_of2 first second }
 {
@@ -22,55 +24,33 @@ pub fn max_of_2(first: f64, second: f64) -> f64
 }
 
 // The float method `min`: it drops a NaN, and is otherwise as min_of_2.
+#[tactic(auto, using(crate::proofs::FloatMethods::min_shape))]
 pub fn float_min(x: f64, y: f64) -> f64
     ensures { result ≡ float_min x y }
 {
-    if x < y {
-        return x;
-    }
-    if y == y { y } else { x }
+    if x < y || y.is_nan() { x } else { y }
 }
 
 // The float method `max`: it drops a NaN, and is otherwise as max_of_2.
+#[tactic(auto, using(crate::proofs::FloatMethods::max_shape))]
 pub fn float_max(x: f64, y: f64) -> f64
     ensures { result ≡ float_max x y }
 {
-    if x > y {
-        return x;
-    }
-    if y == y { y } else { x }
+    if x > y || y.is_nan() { x } else { y }
 }
 
 // Clamped to −1..1; NaN stays NaN.
 pub fn clamped(x: f64) -> f64
     ensures { result ≡ clamp x }
 {
-    if x < -1.0 {
-        -1.0
-    } else if x > 1.0 {
-        1.0
-    } else {
-        x
-    }
+    x.clamp(-1.0, 1.0)
 }
 
 // The largest whole number that is not above x.
 pub fn floor(x: f64) -> f64
     ensures { result ≡ floor_of x }
 {
-    // from 2^52 on every double is whole
-    if (0.0 < x) & (x < 4503599627370496.0) {
-        return std::num::truncating_f64_to_u64(x) as f64;
-    }
-    let y = -x;
-    if (0.0 < y) & (y < 4503599627370496.0) {
-        let n = std::num::truncating_f64_to_u64(y);
-        if n as f64 == y {
-            return x;
-        }
-        return -((n + 1) as f64);
-    }
-    x
+    x.floor()
 }
 
 // The power 3, in the cube of the unit of a.
@@ -84,12 +64,12 @@ pub fn cube(a: f64) -> f64
 pub fn to_radians(degrees: f64) -> f64
     ensures { result ≡ to_radians degrees }
 {
-    degrees * (PI / 180.0)
+    degrees.to_radians()
 }
 
 // Radians in degrees.
 pub fn to_degrees(radians: f64) -> f64
     ensures { result ≡ to_degrees radians }
 {
-    radians * (180.0 / PI)
+    radians.to_degrees()
 }

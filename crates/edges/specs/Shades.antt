@@ -1,9 +1,9 @@
 -- The calls of the examples on shading and on runs, with their lists in bytes.
-use Rattle.std.specs.Prelude.{Bool, cond, List, [], ℕ, pos, replicate, Float}
+use Rattle.std.specs.Prelude.{Bool, cond, List, [], ℕ, pos, replicate, Float, Result}
+use Rattle.objects.specs.declared.answers.Refusal.{Refusal}
 use Rattle.doubles.specs.Arithmetic.{whole, decimal}
 use Rattle.words.specs.Words.{put_word, put_double}
 use Rattle.objects.specs.declared.surface.Surface.{Surface}
-use Rattle.objects.specs.declared.answers.FactorAnswer.{FactorAnswer}
 use Rattle.shading.specs.Call.{factor_call}
 use Rattle.jobs.specs.Job.{Job, job_of}
 use Rattle.lines.specs.Line.{whole_horizon, one_obstacle}
@@ -13,7 +13,7 @@ unfoldable pub south_wall : Surface
 south_wall = record { tilt = whole 90; orientation = whole 180; base_height = whole 0; height = whole 2; width = whole 1 }
 
 -- at altitude 0
-unfoldable pub factor_at : ℕ → Float → List ℕ → List ℕ → FactorAnswer
+unfoldable pub factor_at : ℕ → Float → List ℕ → List ℕ → Result Float Refusal
 factor_at edition azimuth sectors window = factor_call edition (whole 0) azimuth south_wall sectors window
 
 -- one sector, all around, with one object, 10 m away

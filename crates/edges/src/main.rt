@@ -1,31 +1,26 @@
 // Runs the specification's values at the edges, and prints a line for each: its name, and `ok` or what came instead.
 #![tactic(auto)]
 
-ghost use Rattle.std.specs.Prelude.{◌≡◌};
+ghost use Rattle.std.specs.Prelude.{◌≡◌, Ok};
 ghost use Rattle.irradiance.specs.Table.{table_row};
-ghost use Rattle.edges.specs.Values.{accepted as accepted-value};
 
 mod shades;
 mod values;
 
-use objects::answers::FactorAnswer;
+use objects::answers::Refusal;
 use simulation_time::run::Run;
-use simulation_time::steps::check_run;
 use simulation_time::timestep::{current_hour, time_series_idx};
 use std::io;
-use values::{Value, accepted, double_value, factor_value, refused, run_value, same_value};
+use values::{Value, double_value, factor_value, run_value, same_value};
 
 fn write_out(rt: &impl Print, text: &[u8]) -> io::Result<()> {
     rt.write_all(text)
 }
 
 fn write_value(rt: &impl Print, value: Value) -> io::Result<()> {
-    if value.number == 0 {
-        let mut digits = [0u8; 16];
-        hexadecimal::store_digits(&mut digits, 0, value.word);
-        write_out(rt, &digits)
-    } else {
-        print!(rt; "refused {}", value.number)
+    match value {
+        Ok(word) => print!(rt; "{word:016X}"),
+        Err(refusal) => print!(rt; "refused {}", u64::from(refusal)),
     }
 }
 
@@ -45,13 +40,13 @@ fn compare(rt: &impl Print, name: &[u8], came: Value, expected: Value) -> io::Re
 }
 
 fn compare_double(rt: &impl Print, name: &[u8], came: f64, bits: u64) -> io::Result<()> {
-    compare(rt, name, double_value(came), accepted(bits))
+    compare(rt, name, double_value(came), Ok(bits))
 }
 
 fn compare_factor(
     rt: &impl Print,
     name: &[u8],
-    came: FactorAnswer,
+    came: Result<f64, Refusal>,
     expected: Value,
 ) -> io::Result<()> {
     compare(rt, name, factor_value(came), expected)
@@ -103,9 +98,9 @@ fn shifts(rt: &impl Print) -> io::Result<()> {
 
 // The row of Table 8 at a clearness.
 fn row_value(clearness: f64) -> Value
-    ensures { result ≡ accepted-value (table_row clearness) }
+    ensures { result ≡ Ok (table_row clearness) }
 {
-    accepted(irradiance::table::table_row(clearness) as u64)
+    Ok(irradiance::table::table_row(clearness) as u64)
 }
 
 fn sky(rt: &impl Print) -> io::Result<()> {
@@ -120,20 +115,15 @@ fn sky(rt: &impl Print) -> io::Result<()> {
         rt,
         b"diffuse 100, beam 100, altitude 0: row 4",
         row_value(clearness),
-        accepted(4),
+        Ok(4),
     )
 }
 
 fn rows(rt: &impl Print) -> io::Result<()> {
-    compare(rt, b"clearness 2: row 4", row_value(2.0), accepted(4))?;
-    compare(rt, b"clearness 1.065: row 1", row_value(1.065), accepted(1))?;
-    compare(rt, b"clearness 999: row 7", row_value(999.0), accepted(7))?;
-    compare(
-        rt,
-        b"clearness NaN: row 7",
-        row_value(0.0 / 0.0),
-        accepted(7),
-    )
+    compare(rt, b"clearness 2: row 4", row_value(2.0), Ok(4))?;
+    compare(rt, b"clearness 1.065: row 1", row_value(1.065), Ok(1))?;
+    compare(rt, b"clearness 999: row 7", row_value(999.0), Ok(7))?;
+    compare(rt, b"clearness NaN: row 7", row_value(0.0 / 0.0), Ok(7))
 }
 
 fn orientations(rt: &impl Print) -> io::Result<()> {
@@ -156,19 +146,19 @@ fn obstacles(rt: &impl Print) -> io::Result<()> {
         rt,
         b"distant obstacle 1 m gives 0.5",
         shades::distant_factor(0, 1.0, false),
-        accepted(0x3FE0_0000_0000_0000),
+        Ok(0x3FE0_0000_0000_0000),
     )?;
     compare_factor(
         rt,
         b"near obstacle 1 m, transparency 0.5 gives 0.75",
         shades::near_factor(),
-        accepted(0x3FE8_0000_0000_0000),
+        Ok(0x3FE8_0000_0000_0000),
     )?;
     compare_factor(
         rt,
         b"both give 0.5",
         shades::distant_factor(0, 1.0, true),
-        accepted(0x3FE0_0000_0000_0000),
+        Ok(0x3FE0_0000_0000_0000),
     )
 }
 
@@ -177,13 +167,13 @@ fn overhangs(rt: &impl Print) -> io::Result<()> {
         rt,
         b"distant overhang at 1.5 m gives 0.75",
         shades::distant_factor(1, 1.5, false),
-        accepted(0x3FE8_0000_0000_0000),
+        Ok(0x3FE8_0000_0000_0000),
     )?;
     compare_factor(
         rt,
         b"distant overhang at 1.5 m and the near obstacle give 0.5",
         shades::distant_factor(1, 1.5, true),
-        accepted(0x3FE0_0000_0000_0000),
+        Ok(0x3FE0_0000_0000_0000),
     )
 }
 
@@ -192,7 +182,7 @@ fn reveals(rt: &impl Print) -> io::Result<()> {
         rt,
         b"a reveal outside the beam gives 1",
         shades::part_factor(1, 4, 0.25, 180.0),
-        accepted(0x3FF0_0000_0000_0000),
+        Ok(0x3FF0_0000_0000_0000),
     )
 }
 
@@ -202,25 +192,25 @@ fn fins(rt: &impl Print) -> io::Result<()> {
         rt,
         b"right fin, difference -30: edition 1 gives 1",
         shades::part_factor(1, 2, 0.5, -30.0),
-        accepted(0x3FF0_0000_0000_0000),
+        Ok(0x3FF0_0000_0000_0000),
     )?;
     compare_factor(
         rt,
         b"right fin, difference -30: edition 2 gives 0.7113248654051871",
         shades::part_factor(2, 2, 0.5, -30.0),
-        accepted(0x3FE6_C32C_5D37_E672),
+        Ok(0x3FE6_C32C_5D37_E672),
     )?;
     compare_factor(
         rt,
         b"left fin, difference 30: edition 1 gives 0.7113248654051871",
         shades::part_factor(1, 3, 0.5, 30.0),
-        accepted(0x3FE6_C32C_5D37_E672),
+        Ok(0x3FE6_C32C_5D37_E672),
     )?;
     compare_factor(
         rt,
         b"left fin, difference 30: edition 2 gives 0.7113248654051871",
         shades::part_factor(2, 3, 0.5, 30.0),
-        accepted(0x3FE6_C32C_5D37_E672),
+        Ok(0x3FE6_C32C_5D37_E672),
     )
 }
 
@@ -229,13 +219,13 @@ fn editions(rt: &impl Print) -> io::Result<()> {
         rt,
         b"edition 0 refused 14",
         shades::part_factor(0, 2, 0.5, -30.0),
-        refused(14),
+        Err(Refusal::Edition),
     )?;
     compare_factor(
         rt,
         b"edition 3 and azimuth 400 refused 14",
         shades::part_factor(3, 2, 0.5, 400.0),
-        refused(14),
+        Err(Refusal::Edition),
     )
 }
 
@@ -244,19 +234,19 @@ fn sectors(rt: &impl Print) -> io::Result<()> {
         rt,
         b"sectors 0..180, 190..360: azimuth 10 accepted",
         shades::two_sectors_factor(190.0, 10.0),
-        accepted(0x3FF0_0000_0000_0000),
+        Ok(0x3FF0_0000_0000_0000),
     )?;
     compare_factor(
         rt,
         b"sectors 0..180, 190..360: azimuth -20 refused 8",
         shades::two_sectors_factor(190.0, -20.0),
-        refused(8),
+        Err(Refusal::Gap),
     )?;
     compare_factor(
         rt,
         b"sectors 0..180, 180..360: azimuth 0 refused 10",
         shades::two_sectors_factor(180.0, 0.0),
-        refused(10),
+        Err(Refusal::NoSector),
     )
 }
 
@@ -265,7 +255,7 @@ fn steps(rt: &impl Print) -> io::Result<()> {
         rt,
         b"start 0, end 3, step 1: three steps",
         run_value(shades::three_hours(0, 365)),
-        accepted(3),
+        Ok(3),
     )
 }
 
@@ -274,19 +264,19 @@ fn leaf_days(rt: &impl Print) -> io::Result<()> {
         rt,
         b"first leaf day 366 refused 15",
         run_value(shades::three_hours(366, 0)),
-        refused(15),
+        Err(Refusal::LeafDay),
     )?;
     compare(
         rt,
         b"last leaf day 366 refused 15",
         run_value(shades::three_hours(0, 366)),
-        refused(15),
+        Err(Refusal::LeafDay),
     )?;
     compare(
         rt,
         b"leaf days 365 and 365 accepted in a common year",
         run_value(shades::three_hours(365, 365)),
-        accepted(3),
+        Ok(3),
     )
 }
 
@@ -294,7 +284,7 @@ fn leaf_days(rt: &impl Print) -> io::Result<()> {
 fn list_length(first: u64, last: u64, day: u64) -> Value {
     let summer = [0u8; 500];
     let winter = [0u8; 216];
-    accepted(seasons::sectors_for(&summer, &winter, first, last, day).len() as u64)
+    Ok(seasons::sectors_for(&summer, &winter, first, last, day).len() as u64)
 }
 
 fn seasons_of_days(rt: &impl Print) -> io::Result<()> {
@@ -302,25 +292,25 @@ fn seasons_of_days(rt: &impl Print) -> io::Result<()> {
         rt,
         b"leaf days 109 to 303: winter on day 108",
         list_length(109, 303, 108),
-        accepted(216),
+        Ok(216),
     )?;
     compare(
         rt,
         b"leaf days 109 to 303: summer on day 109",
         list_length(109, 303, 109),
-        accepted(432),
+        Ok(432),
     )?;
     compare(
         rt,
         b"leaf days 109 to 303: summer on day 303",
         list_length(109, 303, 303),
-        accepted(432),
+        Ok(432),
     )?;
     compare(
         rt,
         b"leaf days 109 to 303: winter on day 304",
         list_length(109, 303, 304),
-        accepted(216),
+        Ok(216),
     )
 }
 
@@ -330,25 +320,25 @@ fn turned_seasons(rt: &impl Print) -> io::Result<()> {
         rt,
         b"leaf days 303 to 109: summer on day 109",
         list_length(303, 109, 109),
-        accepted(432),
+        Ok(432),
     )?;
     compare(
         rt,
         b"leaf days 303 to 109: winter on day 110",
         list_length(303, 109, 110),
-        accepted(216),
+        Ok(216),
     )?;
     compare(
         rt,
         b"leaf days 303 to 109: winter on day 302",
         list_length(303, 109, 302),
-        accepted(216),
+        Ok(216),
     )?;
     compare(
         rt,
         b"leaf days 303 to 109: summer on day 303",
         list_length(303, 109, 303),
-        accepted(432),
+        Ok(432),
     )
 }
 
@@ -358,24 +348,23 @@ fn always_summer(rt: &impl Print) -> io::Result<()> {
         rt,
         b"leaf days 10 to 9: summer on day 9",
         list_length(10, 9, 9),
-        accepted(432),
+        Ok(432),
     )?;
     compare(
         rt,
         b"leaf days 10 to 9: summer on day 10",
         list_length(10, 9, 10),
-        accepted(432),
+        Ok(432),
     )
 }
 
-// How many steps a run has, in a year of 8760 hours.
+// How many steps a run has.
 fn step_count(start: f64, end: f64, step: f64) -> Value {
-    let run = Run {
-        start: start,
-        end: end,
-        step: step,
-    };
-    accepted(check_run(run, 8760).count)
+    let run = Run { start, end, step };
+    match simulation_time::steps::step_count(run) {
+        Some(count) => Ok(count),
+        None => Err(Refusal::Run),
+    }
 }
 
 fn step_counts(rt: &impl Print) -> io::Result<()> {
@@ -383,19 +372,19 @@ fn step_counts(rt: &impl Print) -> io::Result<()> {
         rt,
         b"start 0, end 3, step 0.3: eleven steps",
         step_count(0.0, 3.0, 0.3),
-        accepted(11),
+        Ok(11),
     )?;
     compare(
         rt,
         b"start 3, end 3, step 1: no step",
         step_count(3.0, 3.0, 1.0),
-        accepted(0),
+        Ok(0),
     )?;
     compare(
         rt,
         b"start 5, end 3, step 1: one step",
         step_count(5.0, 3.0, 1.0),
-        accepted(1),
+        Ok(1),
     )
 }
 
@@ -404,20 +393,20 @@ fn hours_and_places(rt: &impl Print) -> io::Result<()> {
     compare(
         rt,
         b"time 24.75 is in hour 24",
-        accepted(current_hour(24.75) as u64),
-        accepted(24),
+        Ok(current_hour(24.75) as u64),
+        Ok(24),
     )?;
     compare(
         rt,
         b"time 24.75 has place 1",
-        accepted(time_series_idx(24.75, 1, 0.5) as u64),
-        accepted(1),
+        Ok(time_series_idx(24.75, 1, 0.5) as u64),
+        Ok(1),
     )?;
     compare(
         rt,
         b"time 0 has place 0",
-        accepted(time_series_idx(0.0, 1, 0.5) as u64),
-        accepted(0),
+        Ok(time_series_idx(0.0, 1, 0.5) as u64),
+        Ok(0),
     )
 }
 

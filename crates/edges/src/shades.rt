@@ -6,12 +6,14 @@ ghost use Rattle.jobs.specs.Run.{lent, run_of};
 ghost use Rattle.lines.specs.Line.{whole_horizon};
 ghost use Rattle.edges.specs.Shades.{south_wall, factor_at, horizon_with, two_sectors, near_obstacle, window_with, one_part, three_hours};
 
-use jobs::answers::RunAnswer;
+use jobs::answers::{Accepted, RefusedAt};
 use lines::line::{listed_factor, one_obstacle, whole_horizon};
-use objects::answers::FactorAnswer;
+use objects::answers::Refusal;
 use objects::surface::Surface;
+use runs::job::Job;
 use simulation_time::run::Run;
 use sun::site::Site;
+use weather::Series;
 
 fn south_wall() -> Surface
     ensures { result ≡ south_wall }
@@ -25,14 +27,14 @@ fn south_wall() -> Surface
     }
 }
 
-fn factor_at(edition: u64, azimuth: f64, sectors: &[u8], window: &[u8]) -> FactorAnswer
+fn factor_at(edition: u64, azimuth: f64, sectors: &[u8], window: &[u8]) -> Result<f64, Refusal>
     ensures { result ≡ factor_at edition azimuth sectors.now window.now }
 {
     shading::step::factor_call(edition, 0.0, azimuth, south_wall(), sectors, window)
 }
 
 // The sun in the south, and a near obstacle of 1 m and transparency 0.5 or nothing at the window.
-fn factor_near(sectors: &[u8], near: bool) -> FactorAnswer
+fn factor_near(sectors: &[u8], near: bool) -> Result<f64, Refusal>
     ensures { result ≡ factor_at 1 (whole 0) sectors.now (window_with near) }
 {
     if near {
@@ -43,14 +45,14 @@ fn factor_near(sectors: &[u8], near: bool) -> FactorAnswer
 }
 
 // The near obstacle and no distant object: what a line of the shade listing stands for.
-pub fn near_factor() -> FactorAnswer
+pub fn near_factor() -> Result<f64, Refusal>
     ensures { result ≡ factor_at 1 (whole 0) whole_horizon near_obstacle }
 {
     listed_factor(0.0, 0.0, south_wall(), 1.0, 3.0, 0.5)
 }
 
-// One distant object: 0 obstacle, 1 overhang.
-pub fn distant_factor(kind: u64, height: f64, near: bool) -> FactorAnswer
+// One distant object: 0 obstacle, 1 overhang, as the word that its record has.
+pub fn distant_factor(kind: u64, height: f64, near: bool) -> Result<f64, Refusal>
     ensures { result ≡ factor_at 1 (whole 0) (horizon_with kind height) (window_with near) }
 {
     let mut sectors = whole_horizon();
@@ -62,7 +64,7 @@ pub fn distant_factor(kind: u64, height: f64, near: bool) -> FactorAnswer
 }
 
 // One object right at the window: 1 overhang, 2 right fin, 3 left fin, 4 reveal.
-pub fn part_factor(edition: u64, kind: u64, depth: f64, azimuth: f64) -> FactorAnswer
+pub fn part_factor(edition: u64, kind: u64, depth: f64, azimuth: f64) -> Result<f64, Refusal>
     ensures { result ≡ factor_at edition azimuth whole_horizon (one_part kind depth) }
 {
     let sectors = whole_horizon();
@@ -73,7 +75,7 @@ pub fn part_factor(edition: u64, kind: u64, depth: f64, azimuth: f64) -> FactorA
 }
 
 // Sectors 0..180 and start..360, without objects.
-pub fn two_sectors_factor(start: f64, azimuth: f64) -> FactorAnswer
+pub fn two_sectors_factor(start: f64, azimuth: f64) -> Result<f64, Refusal>
     ensures { result ≡ factor_at 1 azimuth (two_sectors start) [] }
 {
     let mut sectors = [0u8; 432];
@@ -84,7 +86,7 @@ pub fn two_sectors_factor(start: f64, azimuth: f64) -> FactorAnswer
 }
 
 // A run from 0 to 3 by steps of 1.
-pub fn three_hours(first_leaf_day: u64, last_leaf_day: u64) -> RunAnswer
+pub fn three_hours(first_leaf_day: u64, last_leaf_day: u64) -> Result<Accepted, RefusedAt>
     ensures { result ≡ (run_of (three_hours first_leaf_day last_leaf_day) (lent (replicate 8784 0) (replicate 9048 0) (replicate 144 0))).ran.answer }
 {
     let site = Site {
@@ -95,32 +97,32 @@ pub fn three_hours(first_leaf_day: u64, last_leaf_day: u64) -> RunAnswer
         time_series_step: 1.0,
         leap_year: 0,
         direct_beam_conversion: 0,
-        first_leaf_day: first_leaf_day,
-        last_leaf_day: last_leaf_day,
+        first_leaf_day,
+        last_leaf_day,
     };
     let run = Run {
         start: 0.0,
         end: 3.0,
         step: 1.0,
     };
-    let series = [0u8; 24];
+    let values = [0u8; 24];
     let sectors = whole_horizon();
+    let job = Job {
+        edition: 1,
+        site,
+        run,
+        surface: south_wall(),
+        series: Series {
+            diffuse: &values,
+            direct: &values,
+            reflectivity: &values,
+        },
+        summer: &sectors,
+        winter: &sectors,
+        window: b"",
+    };
     let mut days = [0u8; 8784];
     let mut totals = [0u8; 9048];
     let mut results = [0u8; 144];
-    runs::run::run_job(
-        1,
-        site,
-        run,
-        south_wall(),
-        &series,
-        &series,
-        &series,
-        &sectors,
-        &sectors,
-        b"",
-        &mut days,
-        &mut totals,
-        &mut results,
-    )
+    runs::run::run_job(&job, &mut days, &mut totals, &mut results)
 }

@@ -1,72 +1,45 @@
 // What an example comes to.
-ghost use Rattle.std.specs.Prelude.{◌≡◌};
+ghost use Rattle.std.specs.Prelude.{◌≡◌, ◌↔◌, Ok, IsTrue};
 ghost use Rattle.std.specs.Float.{binary64};
 ghost use Rattle.std.specs.Float.Ieee.{to_bits};
-ghost use Rattle.edges.specs.Values.{factor_value, run_value, same_value, accepted as accepted-value, refused as refused-value};
+ghost use Rattle.edges.specs.Values.{factor_value, run_value};
 
-use jobs::answers::RunAnswer;
-use objects::answers::{FactorAnswer, number_of};
+use jobs::answers::{Accepted, RefusedAt};
+use objects::answers::Refusal;
+use std::num::f64_to_bits_with_nan;
 
-// A refusal's number, or 0 and the bits of a double or a count.
-#[derive(Clone, Copy)]
-pub struct Value {
-    pub number: u64,
-    pub word: u64,
-}
-
-// A double's bits or a count.
-pub fn accepted(word: u64) -> Value
-    ensures { result ≡ accepted-value word }
-{
-    Value {
-        number: 0,
-        word: word,
-    }
-}
-
-// A refusal by its number.
-pub fn refused(number: u64) -> Value
-    ensures { result ≡ refused-value number }
-{
-    Value {
-        number: number,
-        word: 0,
-    }
-}
+// The bits of a double or a count, or why there is none.
+pub type Value = Result<u64, Refusal>;
 
 // A double, by its bits.
 pub fn double_value(x: f64) -> Value
-    ensures { result ≡ accepted-value (to_bits binary64 x) }
+    ensures { result ≡ Ok (to_bits binary64 x) }
 {
-    accepted(words::bits_of_double(x))
+    Ok(f64_to_bits_with_nan(x))
 }
 
 // A factor by its bits, or the refusal.
-pub fn factor_value(answer: FactorAnswer) -> Value
+#[tactic(auto, unfolding(crate::specs::Values::factor_value))]
+pub fn factor_value(answer: Result<f64, Refusal>) -> Value
     ensures { result ≡ factor_value answer }
 {
-    match answer {
-        FactorAnswer::Factor(x) => double_value(x),
-        FactorAnswer::Refused(refusal) => refused(number_of(refusal)),
-    }
+    double_value(answer?)
 }
 
 // A run's count of steps, or the refusal.
-pub fn run_value(answer: RunAnswer) -> Value
+#[tactic(auto, unfolding(crate::specs::Values::run_value))]
+pub fn run_value(answer: Result<Accepted, RefusedAt>) -> Value
     ensures { result ≡ run_value answer }
 {
     match answer {
-        RunAnswer::Accepted { count, sum: _sum } => accepted(count),
-        RunAnswer::Refused {
-            refusal,
-            step: _step,
-        } => refused(number_of(refusal)),
+        Ok(run) => Ok(run.count),
+        Err(fault) => Err(fault.refusal),
     }
 }
 
-// The same number and the same word.
+// The same word, or the same refusal.
 pub fn same_value(a: Value, b: Value) -> bool
-    ensures { result ≡ same_value a b }
+    ensures { IsTrue result ↔ a ≡ b }
 {
-    (a.number == b.number) & (a.word == b.word)
+    a == b
 }

@@ -15,6 +15,7 @@ pub fn obstacle_shading_height(
     ensures { result ≡ obstacle_height base_height height distance tan_altitude }
 {
     let hshade = height - base_height - distance * tan_altitude;
+    // not `max`, by which a NaN would become 0: `obstacle_height` keeps it
     if hshade < 0.0 { 0.0 } else { hshade }
 }
 

@@ -1,57 +1,33 @@
 -- Laws of hexadecimal digits in a list of bytes: what is written is read back, all else stays as it was, and nothing but what is written for a word is read as it.
 use mathlib.Core.Path.{◌≡◌, refl, sym, ◌∙◌, ap, ap₂}
-use mathlib.Core.List.{List, ◌∷◌}
-use Prim.Native.Nat.{ℕ, zero, suc, ◌+◌, ◌-◌, ◌*◌, ◌/◌, ◌%◌, ◌^◌, ◌≤◌, ◌<◌}
+use mathlib.Core.List.{List, [], ◌∷◌, ◌++◌}
+use Prim.Native.Nat.{ℕ, zero, suc, ◌+◌, ◌*◌, ◌/◌, ◌%◌, ◌^◌, ◌≤◌, ◌<◌}
 use native.Mathlib.Nat.{div-one, mod-lt, mod-eq_of_lt, div-div-eq-div-mul, pow-suc}
 use native.Mathlib.Decide.{dec_lt}
 use native.Mathlib.Omega.{arith}
-use borrow.Author.Tests.{lt-ltb, le-ltb}
+use borrow.Author.Tests.{le-leb, lt-leb}
 use lib.Dec.{leb, lit<}
-use lib.ListN.{length, get_or, set, take, drop, length-set}
-use lib.Seq.{sets, get_or-set_same, drop-cons}
-use Rattle.hexadecimal.specs.declared.Digits.TheVariants.{Word, NotDigits}
+use lib.ListN.{length, get_or, take, drop, length-take, length-drop}
+use lib.Seq.{sets, sets-eq, drop-append_seam, take-append_seam, length-take-le}
+use Rattle.std.proofs.Common.{Some, append_assoc}
+use Rattle.std.proofs.lemmas.Bool.Decides.{nat_tests}
+use Rattle.std.proofs.lemmas.Option.{none-some, same_Some, option_and_then_some}
 use Rattle.hexadecimal.specs.Hexadecimal.{digit, digits, digits_of, put_digits, digit_value, read_digits, digits_at}
 use Rattle.words.proofs.Bases.{cut_highest}
-use Rattle.words.proofs.Stores.{get_d_sets_before, length_tested, before_tested, behind_tested}
-use Rattle.hexadecimal.proofs.DigitSteps.{digits_in, digits_out, put_in, more, no_more, value_below, value_decimal, value_between, value_letter, value_above}
+use Rattle.words.proofs.Stores.{length_tested, before_tested, behind_tested}
+use Rattle.hexadecimal.proofs.DigitSteps.{length_digits, digit_below}
 
 -- ---- a digit and what it counts
 
-digit_low : (d : ℕ) → d < 10 → digit d ≡ 48 + d
-unfolding digit
-digit_low d h = rw (lt-ltb d 10 h)
+pub value_of_digit : (d : ℕ) → d < 16 → digit_value (digit d) ≡ Some d
+unfolding digit_value digit
+value_of_digit d h = grind (arith, nat_tests)
 
-digit_high : (d : ℕ) → 10 ≤ d → digit d ≡ 55 + d
-unfolding digit
-digit_high d h = rw (le-ltb d 10 h)
-
-pub value_of_digit : (d : ℕ) → d < 16 → digit_value (digit d) ≡ d
-value_of_digit d h = elim (dec_lt d 10) [
-  | yes a ↦ rw (digit_low d a) (value_decimal (48 + d) (omega arith) (omega arith) ∙ omega arith)
-  | no a ↦ rw (digit_high d (omega arith)) (value_letter (55 + d) (omega arith) (omega arith) ∙ omega arith)
-]
-
-pub digit_of_value : (b : ℕ) → digit_value b < 16 → digit (digit_value b) ≡ b
-digit_of_value b h = elim (dec_lt b 48) [
-  | yes p ↦ let e : digit_value b ≡ 16 = value_below b p in omega arith
-  | no p ↦ elim (dec_lt b 58) [
-    | yes q ↦ rw (value_decimal b (omega arith) (omega arith)) (digit_low (b - 48) (omega arith) ∙ omega arith)
-    | no q ↦ elim (dec_lt b 65) [
-      | yes r ↦ let e : digit_value b ≡ 16 = value_between b (omega arith) r in omega arith
-      | no r ↦ elim (dec_lt b 71) [
-        | yes t ↦ rw (value_letter b (omega arith) (omega arith)) (digit_high (b - 55) (omega arith) ∙ omega arith)
-        | no t ↦ let e : digit_value b ≡ 16 = value_above b (omega arith) in omega arith
-      ]
-    ]
-  ]
-]
+pub digit_of_value : (b d : ℕ) → digit_value b ≡ Some d → digit d ≡ b
+unfolding digit_value digit
+digit_of_value b d e = grind (arith, nat_tests)
 
 -- ---- what a store keeps
-
-length_digits : (n w : ℕ) → length (digits n w) ≡ n
-unfolding digits
-length_digits zero w = refl
-length_digits (suc n) w = ap suc (length_digits n w)
 
 pub length-digits_of : (w : ℕ) → length (digits_of w) ≡ 16
 unfolding digits_of
@@ -75,60 +51,67 @@ module _ (l : List ℕ) (i w : ℕ) where
 count : (v d p r : ℕ) → (16 * v + d) * p + r ≡ v * (p * 16) + (d * p + r)
 count v d p r = omega arith
 
-read_back : (l : List ℕ) (i n v w : ℕ) → i + n ≤ length l → read_digits (sets l i (digits n w)) i n v ≡ Word (v * 16 ^ n + w % 16 ^ n)
+read_back : (n v w : ℕ) → read_digits v (digits n w) ≡ Some (v * 16 ^ n + w % 16 ^ n)
 unfolding digits read_digits
-read_back l i zero v w h = ap Word (omega arith)
-read_back l i (suc n) v w h =
+read_back zero v w = ap Some (omega arith)
+read_back (suc n) v w =
     let d : ℕ = w / 16 ^ n % 16 in
-    let d-lt : d < 16 = mod-lt (w / 16 ^ n) (lit< tt) in
-    let m : List ℕ = sets (set l i (digit d)) (suc i) (digits n w) in
-    let b : get_or m i 0 ≡ digit d =
-    get_d_sets_before (set l i (digit d)) i (suc i) (digits n w) (omega arith) ∙ get_or-set_same l i (digit d) 0 (omega arith) in
-    let e : digit_value (get_or m i 0) ≡ d = ap digit_value b ∙ value_of_digit d d-lt in
-    more m i n v (omega arith)
-    ∙ ap (λ (x : ℕ). read_digits m (suc i) n (16 * v + x)) e
-    ∙ read_back (set l i (digit d)) (suc i) n (16 * v + d) w (rw length-set (omega arith))
-    ∙ ap Word (rw (cut_highest 16 (lit< tt) n w, pow-suc 16 n) (count v d (16 ^ n) (w % 16 ^ n)))
+    rw (value_of_digit d (mod-lt (w / 16 ^ n) (lit< tt)))
+    (read_back n (16 * v + d) w
+    ∙ ap Some (rw (cut_highest 16 (lit< tt) n w, pow-suc 16 n) (count v d (16 ^ n) (w % 16 ^ n))))
 
--- as far as sixteen digits hold it
-pub read_low : (l : List ℕ) (i w : ℕ) → i + 16 ≤ length l → digits_at (put_digits l i w) i ≡ Word (w % 2 ^ 64)
-unfolding digits_of
-read_low l i w h =
-    digits_in (put_digits l i w) i (rw length_put_digits h)
-    ∙ ap (λ (m : List ℕ). read_digits m i 16 0) (put_in l i w h)
-    ∙ read_back l i 16 0 w h
-    ∙ ap Word (omega arith)
+-- what stands where a run was stored
+there : (l vs : List ℕ) (i n : ℕ) → n ≡ length vs → i + n ≤ length l → take n (drop i (sets l i vs)) ≡ vs
+there l vs i n e h =
+    let r = drop (i + n) l in
+    let s : sets l i vs ≡ take i l ++ (vs ++ r) = sets-eq vs l i (omega arith) ∙ rw (e, append_assoc) in
+    let d : length (take i l) ≡ i = length-take-le i l (omega arith) in
+    ap (λ (m : List ℕ). take n (drop i m)) s
+    ∙ ap (take n) (rw d at (drop-append_seam (take i l) (vs ++ r)))
+    ∙ (ap (λ (m : ℕ). take m (vs ++ r)) e ∙ take-append_seam vs r)
 
-pub read_written : (l : List ℕ) (i w : ℕ) → i + 16 ≤ length l → w < 2 ^ 64 → digits_at (put_digits l i w) i ≡ Word w
-read_written l i w h f = read_low l i w h ∙ ap Word (mod-eq_of_lt f)
+module _ (l : List ℕ) (i w : ℕ) (h : i + 16 ≤ length l) where
+  stored : put_digits l i w ≡ sets l i (digits 16 w)
+  unfolding put_digits digits_of
+  stored = rw (le-leb (i + 16) (length l) h)
+
+  -- as far as sixteen digits hold it
+  pub read_low : digits_at (put_digits l i w) i ≡ Some (w % 2 ^ 64)
+  unfolding digits_at
+  read_low =
+      let n : i + 16 ≤ length (put_digits l i w) = rw length_put_digits h in
+      rw (le-leb (i + 16) (length (put_digits l i w)) n, stored, there l (digits 16 w) i 16 (sym (length_digits 16 w)) h) (read_back 16 0 w ∙ ap Some (omega arith))
+
+  pub read_written : w < 2 ^ 64 → digits_at (put_digits l i w) i ≡ Some w
+  read_written f = read_low ∙ ap Some (mod-eq_of_lt f)
 
 -- ---- nothing else is read as a word
 
 next : (w n v d : ℕ) → w / 16 ^ n ≡ 16 * v + d → d < 16 → w / 16 ^ suc n ≡ v
 next w n v d e h = rw (pow-suc 16 n, ← div-div-eq-div-mul w (16 ^ n) 16) (omega arith)
 
-read_only : (l : List ℕ) (i n v w : ℕ) → i + n ≤ length l → read_digits l i n v ≡ Word w → (take n (drop i l) ≡ digits n w) × (w / 16 ^ n ≡ v)
+read_only : (l : List ℕ) (v w : ℕ) → read_digits v l ≡ Some w → (l ≡ digits (length l) w) × (w / 16 ^ length l ≡ v)
 unfolding digits read_digits
-read_only l i zero v w h e = (refl, div-one w ∙ cc)
-read_only l i (suc n) v w h e = elim (dec_lt (digit_value (get_or l i 0)) 16) [
-  | no g ↦ let z : read_digits l i (suc n) v ≡ NotDigits = no_more l i n v (omega arith) in (cc, cc)
-  | yes g ↦
-      let b : ℕ = get_or l i 0 in
-      let q : (take n (drop (suc i) l) ≡ digits n w) × (w / 16 ^ n ≡ 16 * v + digit_value b) =
-      read_only l (suc i) n (16 * v + digit_value b) w (omega arith) (sym (more l i n v g) ∙ e) in
-      let d : digit_value b ≡ w / 16 ^ n % 16 = omega arith in
-      (rw (drop-cons l i 0 (omega arith)) (ap₂ ◌∷◌ (sym (digit_of_value b g) ∙ ap digit d) q.0), next w n v (digit_value b) q.1 g)
-]
+read_only [] v w e = let z : v ≡ w = same_Some v w e in (refl, div-one w ∙ sym z)
+read_only (b ∷ l) v w e = option_and_then_some (λ (d : ℕ). read_digits (16 * v + d) l) (digit_value b) w e (λ d i r.
+    let q = read_only l (16 * v + d) w r in
+    let f : d < 16 = digit_below b d i in
+    let g : d ≡ w / 16 ^ length l % 16 = omega (arith, q.1) in
+    (ap₂ ◌∷◌ (sym (digit_of_value b d i) ∙ ap digit g) q.0, next w (length l) v d q.1 f))
 
-module _ (l : List ℕ) (i w : ℕ) (e : digits_at l i ≡ Word w) where
+module _ (l : List ℕ) (i w : ℕ) (e : digits_at l i ≡ Some w) where
   pub read_room : i + 16 ≤ length l
+  unfolding digits_at
   read_room = elim (dec_lt (length l) (i + 16)) [
     | no n ↦ omega arith
-    | yes h ↦ let o : digits_at l i ≡ NotDigits = digits_out l i h in let z : ◌≡◌ {A = ℕ} 0 1 = cc in omega arith
+    | yes h ↦ absurd (none-some w (rw (lt-leb (i + 16) (length l) h) at e))
   ]
 
   only_written : (take 16 (drop i l) ≡ digits 16 w) × (w / 16 ^ 16 ≡ 0)
-  only_written = read_only l i 16 0 w read_room (sym (digits_in l i read_room) ∙ e)
+  unfolding digits_at
+  only_written =
+      let n : length (take 16 (drop i l)) ≡ 16 = simp (length-take, length-drop) (omega (arith, read_room)) in
+      rw n at (read_only (take 16 (drop i l)) 0 w (rw (le-leb (i + 16) (length l) read_room) at e))
 
   pub read_digits_lem : take 16 (drop i l) ≡ digits_of w
   unfolding digits_of

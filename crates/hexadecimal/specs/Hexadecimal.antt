@@ -1,8 +1,7 @@
 -- A word as sixteen upper-case hexadecimal digits, highest first, in a list of bytes.
-use Rattle.std.specs.Prelude.{cond, ◌&&◌, List, [], ◌∷◌, ℕ, zero, suc, ◌+◌, ◌-◌, ◌*◌, ◌/◌, ◌%◌, ◌^◌, leb, ltb, length, get_or}
+use Rattle.std.specs.Prelude.{cond, ◌&&◌, List, [], ◌∷◌, ℕ, zero, suc, ◌+◌, ◌-◌, ◌*◌, ◌/◌, ◌%◌, ◌^◌, leb, ltb, length, take, drop, Option, Some, None}
+use Rattle.std.specs.Option.{option_and_then}
 use Rattle.std.proofs.lemmas.List.Edits.{sets}
-use Rattle.hexadecimal.specs.declared.Digits.{Digits}
-use Rattle.hexadecimal.specs.declared.Digits.TheVariants.{Word, NotDigits}
 
 -- the ASCII byte of a digit below 16: '0' is 48, 'A' is 65
 unfoldable pub digit : ℕ → ℕ
@@ -20,16 +19,15 @@ digits_of w = digits 16 w
 unfoldable pub put_digits : List ℕ → ℕ → ℕ → List ℕ
 put_digits l i w = cond (leb (i + 16) (length l)) (sets l i (digits_of w)) l
 
--- what the byte b counts as a digit, and 16 where it is none
-unfoldable pub digit_value : ℕ → ℕ
-digit_value b = cond (leb 48 b && leb b 57) (b - 48) (cond (leb 65 b && leb b 70) (b - 55) 16)
+-- what the byte b counts as a digit
+unfoldable pub digit_value : ℕ → Option ℕ
+digit_value b = cond (leb 48 b && leb b 57) (Some (b - 48)) (cond (leb 65 b && leb b 70) (Some (b - 55)) None)
 
--- the n digits from place i on, behind digits that count v
-unfoldable pub read_digits : List ℕ → ℕ → ℕ → ℕ → Digits
-read_digits l i zero v = Word v
-read_digits l i (suc n) v =
-    cond (ltb (digit_value (get_or l i 0)) 16) (read_digits l (suc i) n (16 * v + digit_value (get_or l i 0))) NotDigits
+-- what digits count, behind others that count v
+unfoldable pub read_digits : ℕ → List ℕ → Option ℕ
+read_digits v [] = Some v
+read_digits v (b ∷ rest) = option_and_then (λ (d : ℕ). read_digits (16 * v + d) rest) (digit_value b)
 
 -- the word whose sixteen digits stand in l from place i on
-unfoldable pub digits_at : List ℕ → ℕ → Digits
-digits_at l i = cond (leb (i + 16) (length l)) (read_digits l i 16 0) NotDigits
+unfoldable pub digits_at : List ℕ → ℕ → Option ℕ
+digits_at l i = cond (leb (i + 16) (length l)) (read_digits 0 (take 16 (drop i l))) None

@@ -1,12 +1,15 @@
 -- The row of Table 8: `table_row_is_row`, the whole claim of specs/Table.antt, and that only one number meets it (`row_unique`). Assumes
 -- nothing.
-use mathlib.Core.Path.{◌≡◌, refl, sym, ◌∙◌}
-use mathlib.Core.Bool.{Bool, true, false, cond, true≢false}
+use Rattle.std.specs.List.{position_or_len}
+use Rattle.std.specs.Option.{unwrap_or}
+use Rattle.std.proofs.Common.{Option, Some, None, le_trans, le_of_eq}
+use mathlib.Core.Path.{◌≡◌, refl, sym, ap, ◌∙◌}
+use mathlib.Core.Bool.{Bool, true, false, cond, not, true≢false}
 use mathlib.Core.List.{List, [], ◌∷◌}
-use Prim.Native.Nat.{ℕ, zero, suc, ◌≤◌, ◌<◌, zero-le, suc-le-suc}
+use Prim.Native.Nat.{ℕ, zero, suc, ◌+◌, ◌≤◌, ◌<◌, zero-le, suc-le-suc}
 use native.Mathlib.Nat.{le_of_suc-le-suc, not-suc-le-zero, le_antisymm, lt_of_not-le}
 use native.Mathlib.Omega.{arith}
-use lib.Dec.{T}
+use lib.Dec.{T, ltb, nltb→le}
 use lib.ListN.{length, get_or}
 use lib.Ieee.{Float, nan, inf, fin, lt, is_nan}
 use Rattle.irradiance.specs.Table.{limits, first_above, table_row, IsTableRow}
@@ -67,3 +70,25 @@ apart {e} {r} {s} p q h = true≢false (sym (p.below (before_last h q.within)) �
 
 pub row_unique : {e : Float} {r s : ℕ} → IsTableRow e r → IsTableRow e s → r ≡ s
 row_unique p q = le_antisymm (le_of_suc-le-suc (lt_of_not-le (apart q p))) (le_of_suc-le-suc (lt_of_not-le (apart p q)))
+
+-- ---- the row by the library's search of a slice
+first_place : (ls : List Float) (x : Float) → position_or_len (lt x) ls ≡ first_above ls x
+unfolding first_above
+first_place [] x = refl
+first_place (l ∷ ls) x = go (lt x l) (first_place ls x)
+  where
+    go : (b : Bool) → position_or_len (lt x) ls ≡ first_above ls x → cond (not b) (1 + position_or_len (lt x) ls) 0 ≡ cond b 0 (suc (first_above ls x))
+    go true e = refl
+    go false e = omega (arith, e)
+
+-- a place that is not found is the length
+place_or : (n m : ℕ) → n ≤ m → unwrap_or (cond (ltb n m) (Some n) None) m ≡ n
+place_or n m h = go (ltb n m) (nltb→le n m)
+  where
+    go : (b : Bool) → (T (not b) → m ≤ n) → unwrap_or (cond b (Some n) None) m ≡ n
+    go true f = refl
+    go false f = le_antisymm (f tt) h
+
+pub row_found : (e : Float) (o : Option ℕ) → (let n = position_or_len (lt e) limits in o ≡ cond (ltb n (length limits)) (Some n) None) → unwrap_or o 7 ≡ table_row e
+unfolding table_row limits
+row_found e o h = ap (λ (r : Option ℕ). unwrap_or r 7) h ∙ place_or _ 7 (le_trans (le_of_eq (first_place limits e)) (first_le limits e)) ∙ first_place limits e

@@ -60,12 +60,12 @@ pub fn calculated_direct_diffuse_total_irradiance(
     let direct = direct_irradiance(sky.beam, incidence.cos) + circumsolar;
     let diffuse = sky_part + circumsolar + horizontal - circumsolar + from_ground;
     Irradiance {
-        direct: direct,
-        diffuse: diffuse,
+        direct,
+        diffuse,
         total: direct + diffuse,
         sky: sky_part,
-        circumsolar: circumsolar,
-        horizontal: horizontal,
-        from_ground: from_ground,
+        circumsolar,
+        horizontal,
+        from_ground,
     }
 }

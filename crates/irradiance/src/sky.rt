@@ -4,6 +4,7 @@ ghost use Rattle.irradiance.specs.Sky.{direct_beam, altitude_term, clearness, sk
 ghost use Rattle.irradiance.specs.Sky.{brightness_in, cut_brightness, circumsolar_brightness, horizontal_brightness, sky_of};
 
 use crate::table::coefficients_at;
+use std::f64::consts::PI;
 use sun::hour::Hour;
 
 // The beam at normal incidence, in W/m², by the series' value in W/m² and the sine of the sun's altitude.
@@ -14,18 +15,17 @@ pub fn init_direct_beam_radiation(
 ) -> f64
     ensures { result ≡ direct_beam direct_beam_conversion_needed raw_value sin_altitude }
 {
-    if direct_beam_conversion_needed {
-        if sin_altitude > 0.0 {
-            return raw_value / sin_altitude;
-        }
+    if direct_beam_conversion_needed && sin_altitude > 0.0 {
+        raw_value / sin_altitude
+    } else {
+        raw_value
     }
-    raw_value
 }
 
 fn altitude_term(solar_altitude: f64) -> f64
     ensures { result ≡ altitude_term solar_altitude }
 {
-    1.014 * doubles::cube(doubles::PI / 180.0 * solar_altitude)
+    1.014 * doubles::cube(PI / 180.0 * solar_altitude)
 }
 
 // The clearness, a number: diffuse and beam in W/m², altitude in degrees.
@@ -59,7 +59,7 @@ pub fn init_dimensionless_sky_brightness_parameter(
 fn brightness_of(a: f64, b: f64, c: f64, delta: f64, solar_zenith_angle: f64) -> f64
     ensures { result ≡ brightness_of a b c delta solar_zenith_angle }
 {
-    a + b * delta + c * (doubles::PI * solar_zenith_angle / 180.0)
+    a + b * delta + c * (PI * solar_zenith_angle / 180.0)
 }
 
 fn circumsolar_brightness(row: [f64; 6], delta: f64, solar_zenith_angle: f64) -> f64
@@ -128,8 +128,8 @@ pub fn sky_of(
     // One search of Table 8 for both F1 and F2.
     let row = coefficients_at(e);
     Sky {
-        diffuse: diffuse,
-        beam: beam,
+        diffuse,
+        beam,
         f1: circumsolar_brightness(row, delta, hour.zenith),
         f2: horizontal_brightness(row, delta, hour.zenith),
     }

@@ -14,32 +14,17 @@ const BRIGHTNESS_COEFFICIENTS: [[f64; 6]; 8] = [
     [0.678, -0.327, -0.25, 0.156, -1.377, 0.251],
 ];
 
+// Below these limits of clearness hold the rows 0 to 6.
+const LIMITS: [f64; 7] = [1.065, 1.23, 1.5, 1.95, 2.8, 4.5, 6.2];
+
 // The row at a clearness, 0 to 7: the first whose limit is above it, and the last for the rest, NaN among it.
 pub fn table_row(clearness_parameter: f64) -> usize
     ensures { result ≡ table_row clearness_parameter }
 {
-    if clearness_parameter < 1.065 {
-        return 0;
-    }
-    if clearness_parameter < 1.23 {
-        return 1;
-    }
-    if clearness_parameter < 1.5 {
-        return 2;
-    }
-    if clearness_parameter < 1.95 {
-        return 3;
-    }
-    if clearness_parameter < 2.8 {
-        return 4;
-    }
-    if clearness_parameter < 4.5 {
-        return 5;
-    }
-    if clearness_parameter < 6.2 {
-        return 6;
-    }
-    7
+    LIMITS
+        .iter()
+        .position(|limit| clearness_parameter < *limit)
+        .unwrap_or(7)
 }
 
 // The six coefficients of the row at a clearness.

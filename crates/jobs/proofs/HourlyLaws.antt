@@ -1,5 +1,7 @@
 -- Runs of one-hour steps: the claim, proved. A double times 1 is that double, so that the step leaves a product as it is. Assumes
 -- nothing.
+use Rattle.std.specs.Prelude.{Err, Ok, Result, ℕ}
+use Rattle.objects.specs.declared.answers.Refusal.{Refusal}
 use mathlib.Core.Path.{◌≡◌, refl, ap, ◌∙◌}
 use mathlib.Core.List.{List}
 use Prim.Native.Nat.{ℕ, zero, suc, ◌+◌}
@@ -8,10 +10,6 @@ use lib.Ieee.Fits.{mul-fits}
 use Rattle.doubles.specs.Arithmetic.{◌⊕◌, ◌⊗◌, whole}
 use Rattle.doubles.proofs.Exact.{times_one}
 use Rattle.jobs.specs.declared.answers.Row.{Row}
-use Rattle.jobs.specs.declared.answers.StepAnswer.{StepAnswer}
-use Rattle.jobs.specs.declared.answers.StepAnswer.TheVariants as step
-use Rattle.jobs.specs.declared.answers.Checked.{Checked}
-use Rattle.jobs.specs.declared.answers.Checked.TheVariants as check
 use Rattle.jobs.specs.Job.{Job}
 use Rattle.jobs.specs.JobChecks.{checked}
 use Rattle.jobs.specs.Step.{step_at}
@@ -39,20 +37,20 @@ module _ (job : Job) (hour : job.run.step ≡ whole 1) where
       ∙ same_steps n (i + 1) later (with_product sum row) (put_row results i row) in
       ap (on_row (step_at job time) i results) (λ x (row : Row). on row x)
 
-  same_checked : (c : Checked) (results : List ℕ) → run_checked c job results ≡ products_checked c job results
+  same_checked : (c : Result ℕ Refusal) (results : List ℕ) → run_checked c job results ≡ products_checked c job results
   unfolding run_checked products_checked
-  same_checked (check.Steps n) results = same_steps n 0 job.run.start (whole 0) results
-  same_checked (check.Refused r) results = refl
+  same_checked (Ok n) results = same_steps n 0 job.run.start (whole 0) results
+  same_checked (Err r) results = refl
 
 -- ---- any step
 
 itself : (a : Ran) → AllButSum a a
 itself a = record { numbers = refl; steps = refl; counts = refl; results = refl }
 
-on_row_lem : (f g : Row → Ran) (a : StepAnswer) (i : ℕ) (results : List ℕ) → ((row : Row) → AllButSum (f row) (g row)) → AllButSum (on_row a i results f) (on_row a i results g)
+on_row_lem : (f g : Row → Ran) (a : Result Row Refusal) (i : ℕ) (results : List ℕ) → ((row : Row) → AllButSum (f row) (g row)) → AllButSum (on_row a i results f) (on_row a i results g)
 unfolding on_row
-on_row_lem f g (step.Refused r) i results h = itself _
-on_row_lem f g (step.Row row) i results h = h row
+on_row_lem f g (Err r) i results h = itself _
+on_row_lem f g (Ok row) i results h = h row
 
 module _ (job : Job) where
   but_sum : (n i : ℕ) (time s t : Float) (results : List ℕ) → AllButSum (run_from n job i time s results) (products_from n job i time t results)
@@ -66,10 +64,10 @@ module _ (job : Job) where
       (step_at job time) i results
       (λ row. but_sum n (i + 1) later (with_row job.run.step s row) (with_product t row) (put_row results i row))
 
-  but_sum_checked : (c : Checked) (results : List ℕ) → AllButSum (run_checked c job results) (products_checked c job results)
+  but_sum_checked : (c : Result ℕ Refusal) (results : List ℕ) → AllButSum (run_checked c job results) (products_checked c job results)
   unfolding run_checked products_checked
-  but_sum_checked (check.Steps n) results = but_sum n 0 job.run.start (whole 0) (whole 0) results
-  but_sum_checked (check.Refused r) results = itself _
+  but_sum_checked (Ok n) results = but_sum n 0 job.run.start (whole 0) (whole 0) results
+  but_sum_checked (Err r) results = itself _
 
 -- ---- the claim
 

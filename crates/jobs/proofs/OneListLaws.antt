@@ -1,4 +1,6 @@
 -- An older job is a job with two equal lists: the claim, proved. Assumes nothing.
+use Rattle.std.specs.Prelude.{Err, Ok, Result, ℕ}
+use Rattle.objects.specs.declared.answers.Refusal.{Refusal}
 use mathlib.Core.Path.{◌≡◌, refl, sym, ap, ◌∙◌, subst}
 use mathlib.Core.Bool.{Bool, true, false, ◌&&◌}
 use mathlib.Core.List.{List}
@@ -13,9 +15,6 @@ use Rattle.simulation_time.specs.Timestep.{current_hour}
 use Rattle.object_checks.specs.Checks.{sectors_fine, window_fine}
 use Rattle.seasons.proofs.Parts.{all_whole, one_list}
 use Rattle.jobs.specs.declared.answers.Row.{Row}
-use Rattle.jobs.specs.declared.answers.StepAnswer.{StepAnswer}
-use Rattle.jobs.specs.declared.answers.Checked.{Checked}
-use Rattle.jobs.specs.declared.answers.Checked.TheVariants as check
 use Rattle.jobs.specs.Job.{Job, index_at, reading_at}
 use Rattle.jobs.specs.JobChecks.{tried, checked}
 use Rattle.jobs.specs.Step.{sun_at, irradiance_by_day, irradiance_at, sectors_at, job_sectors, step_with, step_at}
@@ -49,13 +48,13 @@ module _ (job : Job) (lists : Lent) (sectors : List ℕ) (s : job.summer ≡ sec
   same_steps t (suc n) i time sum results =
       let later : Float = time ⊕ job.run.step in
       let next : Row → Ran = λ (row : Row). run_from n job (i + 1) later (with_row job.run.step sum row) (put_row results i row) in
-      ap (λ (a : StepAnswer). on_row a i results next) (same_step t time)
+      ap (λ (a : Result Row Refusal). on_row a i results next) (same_step t time)
       ∙ ap (on_row (one_list_step job sectors time) i results) (λ x (row : Row). same_steps t n (i + 1) later (with_row job.run.step sum row) (put_row results i row) x)
 
-  same_ran : (c : Checked) → checked job (room_for job lists) ≡ c → run_checked c job lists.results ≡ one_list_ran c job sectors lists.results
+  same_ran : (c : Result ℕ Refusal) → checked job (room_for job lists) ≡ c → run_checked c job lists.results ≡ one_list_ran c job sectors lists.results
   unfolding run_checked one_list_ran
-  same_ran (check.Refused r) e = refl
-  same_ran (check.Steps n) e =
+  same_ran (Err r) e = refl
+  same_ran (Ok n) e =
       same_steps (subst (λ (l : List ℕ). T (sectors_fine l)) s (passed job (room_for job lists) n e).0.summer_fine) n 0 job.run.start (whole 0) lists.results
 
 pub older_jobs : OlderJobs
@@ -63,7 +62,7 @@ unfolding run_of one_list_run
 older_jobs job lists sectors s w t =
     let room = room_for job lists in
     let checks = same_checks job lists sectors s w t room in
-    let ran = same_ran job lists sectors s w (checked job room) refl ∙ ap (λ (c : Checked). one_list_ran c job sectors lists.results) checks in
+    let ran = same_ran job lists sectors s w (checked job room) refl ∙ ap (λ (c : Result ℕ Refusal). one_list_ran c job sectors lists.results) checks in
     λ x. record { ran = ran x; days = days_left (checks x) lists.days; totals = totals_left (checks x) job (ran x) lists.totals }
 
 -- ---- the run with one list looks at no leaf day
@@ -82,22 +81,22 @@ module _ (job : Job) (first last : ℕ) (sectors : List ℕ) where
   steps_by_other (suc n) i time sum results =
       let later : Float = time ⊕ job.run.step in
       let next : Row → Ran = λ (row : Row). one_list_from n other sectors (i + 1) later (with_row job.run.step sum row) (put_row results i row) in
-      ap (λ (a : StepAnswer). on_row a i results next) (step_by_other time)
+      ap (λ (a : Result Row Refusal). on_row a i results next) (step_by_other time)
       ∙ ap (on_row (one_list_step job sectors time) i results) (λ x (row : Row). steps_by_other n (i + 1) later (with_row job.run.step sum row) (put_row results i row) x)
 
-  ran_by_other : (c : Checked) (results : List ℕ) → one_list_ran c other sectors results ≡ one_list_ran c job sectors results
+  ran_by_other : (c : Result ℕ Refusal) (results : List ℕ) → one_list_ran c other sectors results ≡ one_list_ran c job sectors results
   unfolding one_list_ran with_leaf_days
-  ran_by_other (check.Refused r) results = refl
-  ran_by_other (check.Steps n) results = steps_by_other n 0 job.run.start (whole 0) results
+  ran_by_other (Err r) results = refl
+  ran_by_other (Ok n) results = steps_by_other n 0 job.run.start (whole 0) results
 
   checks_by_other : (lists : Lent) → one_list_checked other sectors (room_for other lists) ≡ one_list_checked job sectors (room_for job lists)
   unfolding one_list_checked site_fine hours_in_year with_leaf_days
   checks_by_other lists = refl
 
-  totals_by_other : (c : Checked) (ran : Ran) (totals : List ℕ) → totals_left c other ran totals ≡ totals_left c job ran totals
+  totals_by_other : (c : Result ℕ Refusal) (ran : Ran) (totals : List ℕ) → totals_left c other ran totals ≡ totals_left c job ran totals
   unfolding totals_left with_leaf_days
-  totals_by_other (check.Refused r) ran totals = refl
-  totals_by_other (check.Steps n) ran totals = refl
+  totals_by_other (Err r) ran totals = refl
+  totals_by_other (Ok n) ran totals = refl
 
   run_by_other : (lists : Lent) → one_list_run other sectors lists ≡ one_list_run job sectors lists
   unfolding one_list_run

@@ -1,4 +1,5 @@
 -- What a job has that passes the checks before the first step. Assumes nothing.
+use Rattle.std.specs.Prelude.{Err, Ok, Result, ℕ}
 use mathlib.Core.Path.{◌≡◌, sym, ap, subst}
 use mathlib.Core.Bool.{Bool, true, false, cond, ◌&&◌}
 use mathlib.Core.List.{List, [], ◌∷◌}
@@ -34,8 +35,6 @@ use Rattle.shading_laws.specs.Premises.{AcceptedSurface, Doubles, AcceptedNear}
 use Rattle.shading_laws.proofs.Accepted.{accepted_surface, accepted_near}
 use Rattle.weather.specs.declared.Reading.{Reading}
 use Rattle.weather.specs.Weather.{reading_fine}
-use Rattle.jobs.specs.declared.answers.Checked.{Checked}
-use Rattle.jobs.specs.declared.answers.Checked.TheVariants.{Steps, Refused}
 use Rattle.jobs.specs.Job.{Job, index_at, reading_at}
 use Rattle.jobs.specs.JobChecks.{indices_fine, readings_fine, days_fine, totals_fine, results_fine, tried, checked}
 use Rattle.jobs.specs.Totals.{day_of_step, totals_count}
@@ -43,20 +42,20 @@ use Rattle.jobs.specs.Run.{Lent, room_fine, room_for}
 
 -- ---- the tests, one by one
 
-passes : Checked → Bool
-passes (Steps n) = true
-passes (Refused r) = false
+passes : Result ℕ Refusal → Bool
+passes (Ok n) = true
+passes (Err r) = false
 
-pub not_passed : {A : Type 0} {r : Refusal} {n : ℕ} → Refused r ≡ Steps n → A
+pub not_passed : {A : Type 0} {r : Refusal} {n : ℕ} → Err r ≡ Ok n → A
 unfolding passes
 not_passed e = absurd (subst T (sym (ap passes e)) tt)
 
 -- the number of steps where there is one
-unfoldable steps_in : Checked → ℕ
-steps_in (Steps n) = n
-steps_in (Refused r) = 0
+unfoldable steps_in : Result ℕ Refusal → ℕ
+steps_in (Ok n) = n
+steps_in (Err r) = 0
 
-passed_test : (b : Bool) (r : Refusal) (next : Checked) (n : ℕ) → tried Refused b r next ≡ Steps n → T b × (next ≡ Steps n)
+passed_test : (b : Bool) (r : Refusal) (next : Result ℕ Refusal) (n : ℕ) → tried Err b r next ≡ Ok n → T b × (next ≡ Ok n)
 unfolding tried
 passed_test true r next n e = (tt, e)
 passed_test false r next n e = not_passed e
@@ -71,7 +70,7 @@ pub record Passed (job : Job) (room : Bool) : Type 0 where
   pub readings_fine_lem : T (at_all (λ (time : Float). reading_fine (reading_at job time)) (times job.run))
   pub room_fine_lem : T room
 
-pub passed : (job : Job) (room : Bool) (n : ℕ) → checked job room ≡ Steps n → Passed job room × (n ≡ step_count job.run)
+pub passed : (job : Job) (room : Bool) (n : ℕ) → checked job room ≡ Ok n → Passed job room × (n ≡ step_count job.run)
 unfolding checked steps_in indices_fine readings_fine reading_at index_at
 passed job room n e =
     let p0 = passed_test (edition_fine job.edition) refusal.Edition _ n e in

@@ -1,5 +1,7 @@
 -- What a run comes to: the rows of the steps before the one that is refused, or of all; and of an accepted run, that every step has a
 -- row, which its results hold, and that its sum is that of factor times direct times step over them. Assumes nothing.
+use Rattle.std.specs.Prelude.{Err, Ok, Result, ℕ}
+use Rattle.jobs.specs.Run.{Ran, ran, on_row, run_from, run_checked, Lent, room_for, rows_stored, totals_left, run_of, number_for, accepted, refused_at}
 use mathlib.Core.Path.{◌≡◌, refl, sym, ap, ◌∙◌, subst}
 use mathlib.Core.List.{List}
 use Prim.Native.Nat.{ℕ, zero, suc, ◌+◌, ◌*◌, ◌≤◌, ◌<◌}
@@ -17,16 +19,10 @@ use Rattle.objects.specs.declared.answers.Refusal.{Refusal}
 use Rattle.objects.specs.declared.answers.Refusal.TheVariants as refusal
 use Rattle.objects.specs.Refusals.{number_of}
 use Rattle.jobs.specs.declared.answers.Row.{Row}
-use Rattle.jobs.specs.declared.answers.StepAnswer.{StepAnswer}
-use Rattle.jobs.specs.declared.answers.StepAnswer.TheVariants as step
-use Rattle.jobs.specs.declared.answers.Checked.{Checked}
-use Rattle.jobs.specs.declared.answers.Checked.TheVariants as check
-use Rattle.jobs.specs.declared.answers.RunAnswer.TheVariants.{Accepted, Refused}
 use Rattle.jobs.specs.Job.{Job}
 use Rattle.jobs.specs.JobChecks.{checked}
 use Rattle.jobs.specs.Step.{step_at}
 use Rattle.jobs.specs.Rows.{put_row, with_row}
-use Rattle.jobs.specs.Run.{Ran, ran, on_row, run_from, run_checked, Lent, room_for, rows_stored, totals_left, run_of, number_for}
 use Rattle.jobs.specs.Totals.{with_totals}
 use Rattle.jobs.proofs.RowStores.{Holding, length_put_row, word_count_put_row, byte_put_row, stored_row_lem, kept_row}
 use Rattle.jobs.proofs.StepRows.{row_of, step_row, row_fits}
@@ -35,16 +31,16 @@ use Rattle.jobs.proofs.PassedChecks.{Passed, passed, rows_fit}
 -- ---- one step of the run, for a loop
 
 module _ (job : Job) (i : ℕ) (time sum : Float) (results : List ℕ) where
-  pub run_ended : run_from 0 job i time sum results ≡ ran (Accepted i sum) results
+  pub run_ended : run_from 0 job i time sum results ≡ ran (accepted i sum) results
   unfolding run_from
   run_ended = refl
 
   module _ (n : ℕ) where
-    pub run_refused : (r : Refusal) → step_at job time ≡ step.Refused r → run_from (suc n) job i time sum results ≡ ran (Refused r i) results
+    pub run_refused : (r : Refusal) → step_at job time ≡ Err r → run_from (suc n) job i time sum results ≡ ran (refused_at r i) results
     unfolding run_from on_row
     run_refused r e = rw e
 
-    pub run_onward : (row : Row) → step_at job time ≡ step.Row row
+    pub run_onward : (row : Row) → step_at job time ≡ Ok row
         → run_from (suc n) job i time sum results ≡ run_from n job (i + 1) (time ⊕ job.run.step) (with_row job.run.step sum row) (put_row results i row)
     unfolding run_from on_row
     run_onward row e = rw e
@@ -57,7 +53,7 @@ row_at job i = row_of (step_at job (time_at job.run i))
 
 -- it has one
 abbrev pub HasRow : Job → ℕ → Type 0
-HasRow job i = step_at job (time_at job.run i) ≡ step.Row (row_at job i)
+HasRow job i = step_at job (time_at job.run i) ≡ Ok (row_at job i)
 
 -- the results with the first n rows
 unfoldable pub with_rows : Job → ℕ → List ℕ → List ℕ
@@ -73,9 +69,9 @@ sum_to job (suc n) = with_row job.run.step (sum_to job n) (row_at job n)
 
 -- `n` steps done: all have rows, or one is refused, and the rows before it are stored
 pub data Outcome (job : Job) (results : List ℕ) (n : ℕ) : Ran → Type 0 where
-  all_rows : ((j : ℕ) → j < n → HasRow job j) → Outcome job results n (ran (Accepted n (sum_to job n)) (with_rows job n results))
-  cut_short : (k : ℕ) (r : Refusal) → k < n → ((j : ℕ) → j < k → HasRow job j) → step_at job (time_at job.run k) ≡ step.Refused r
-      → Outcome job results n (ran (Refused r k) (with_rows job k results))
+  all_rows : ((j : ℕ) → j < n → HasRow job j) → Outcome job results n (ran (accepted n (sum_to job n)) (with_rows job n results))
+  cut_short : (k : ℕ) (r : Refusal) → k < n → ((j : ℕ) → j < k → HasRow job j) → step_at job (time_at job.run k) ≡ Err r
+      → Outcome job results n (ran (refused_at r k) (with_rows job k results))
 
 module _ (job : Job) (results : List ℕ) where
   from_step : (n i : ℕ) → ((j : ℕ) → j < i → HasRow job j)
@@ -90,14 +86,14 @@ module _ (job : Job) (results : List ℕ) where
       after : Row → Ran
       after row = run_from n job (i + 1) (time_at job.run i ⊕ job.run.step) (with_row job.run.step (sum_to job i) row) (put_row (with_rows job i results) i row)
 
-      go : (a : StepAnswer) → step_at job (time_at job.run i) ≡ a
+      go : (a : Result Row Refusal) → step_at job (time_at job.run i) ≡ a
           → (HasRow job i → Outcome job results (suc i + n) (run_from n job (suc i) (time_at job.run (suc i)) (sum_to job (suc i)) (with_rows job (suc i) results)))
           → Outcome job results (i + suc n) (on_row a i (with_rows job i results) after)
-      go (step.Refused r) e next = unfold on_row in cut_short i r (omega arith) h e
-      go (step.Row row) e next = unfold on_row in
+      go (Err r) e next = unfold on_row in cut_short i r (omega arith) h e
+      go (Ok row) e next = unfold on_row in
           let same : row ≡ row_at job i = sym (ap row_of e) in
           let k : suc i + n ≡ i + suc n = omega arith in
-          rw (add-one i, ← k, same) (next (e ∙ ap step.Row same))
+          rw (add-one i, ← k, same) (next (e ∙ ap Ok same))
 
   -- a run whose checks pass
   from_start : (n : ℕ) → Outcome job results n (run_from n job 0 job.run.start (whole 0) results)
@@ -106,19 +102,19 @@ module _ (job : Job) (results : List ℕ) where
 
 -- any run: turned down by the checks, or where its steps have brought it
 pub data Finished (job : Job) (lists : Lent) : Ran → Type 0 where
-  turned_down : (r : Refusal) → checked job (room_for job lists) ≡ check.Refused r → Finished job lists (ran (Refused r 0) lists.results)
-  stepped : {run : Ran} → Passed job (room_for job lists) → checked job (room_for job lists) ≡ check.Steps (step_count job.run) → Outcome job lists.results (step_count job.run) run → Finished job lists run
+  turned_down : (r : Refusal) → checked job (room_for job lists) ≡ Err r → Finished job lists (ran (refused_at r 0) lists.results)
+  stepped : {run : Ran} → Passed job (room_for job lists) → checked job (room_for job lists) ≡ Ok (step_count job.run) → Outcome job lists.results (step_count job.run) run → Finished job lists run
 
 pub finished : (job : Job) (lists : Lent) → Finished job lists (run_of job lists).ran
 unfolding run_of
 finished job lists = go (checked job (room_for job lists)) refl
   where
-    go : (c : Checked) → checked job (room_for job lists) ≡ c → Finished job lists (run_checked c job lists.results)
-    go (check.Refused r) e = unfold run_checked in turned_down r e
-    go (check.Steps n) e = unfold run_checked in
+    go : (c : Result ℕ Refusal) → checked job (room_for job lists) ≡ c → Finished job lists (run_checked c job lists.results)
+    go (Err r) e = unfold run_checked in turned_down r e
+    go (Ok n) e = unfold run_checked in
         let p = passed job (room_for job lists) n e in
         let results = lists.results in
-        stepped p.0 (e ∙ ap check.Steps p.1) (subst (λ (m : ℕ). Outcome job results m (run_from n job 0 job.run.start (whole 0) results)) p.1 (from_start job results n))
+        stepped p.0 (e ∙ ap Ok p.1) (subst (λ (m : ℕ). Outcome job results m (run_from n job 0 job.run.start (whole 0) results)) p.1 (from_start job results n))
 
 -- ---- what a run leaves of the results list
 
@@ -217,21 +213,21 @@ number_above refusal.LeafDay = omega arith
 
 -- its steps all have rows, and it comes to this
 unfoldable pub done : Job → List ℕ → Ran
-done job results = let n = step_count job.run in ran (Accepted n (sum_to job n)) (with_rows job n results)
+done job results = let n = step_count job.run in ran (accepted n (sum_to job n)) (with_rows job n results)
 
 pub record AcceptedRun (job : Job) (lists : Lent) : Type 0 where
   pub checks : Passed job (room_for job lists)
-  pub steps : checked job (room_for job lists) ≡ check.Steps (step_count job.run)
+  pub steps : checked job (room_for job lists) ≡ Ok (step_count job.run)
   pub has_rows : (i : ℕ) → i < step_count job.run → HasRow job i
   pub comes_to : (run_of job lists).ran ≡ done job lists.results
 
 pub accepted_run : (job : Job) (lists : Lent) → number_for (run_of job lists).ran.answer ≡ 0 → AcceptedRun job lists
 accepted_run job lists e = go refl (finished job lists) e
   where
-    refused : (r : Refusal) (i : ℕ) → number_for (Refused r i) ≡ 0 → ⊥
+    refused : (r : Refusal) (i : ℕ) → number_for (refused_at r i) ≡ 0 → ⊥
     refused r i e = unfold number_for in let h = number_above r in omega arith
 
-    by_outcome : {run : Ran} → (run_of job lists).ran ≡ run → Passed job (room_for job lists) → checked job (room_for job lists) ≡ check.Steps (step_count job.run)
+    by_outcome : {run : Ran} → (run_of job lists).ran ≡ run → Passed job (room_for job lists) → checked job (room_for job lists) ≡ Ok (step_count job.run)
         → Outcome job lists.results (step_count job.run) run → number_for run.answer ≡ 0 → AcceptedRun job lists
     by_outcome k p c (all_rows h) e = record { checks = p; steps = c; has_rows = h; comes_to = unfold done in k }
     by_outcome k p c (cut_short i r l h s) e = absurd (refused r i e)
@@ -248,8 +244,8 @@ done_rows {job} {lists} a i h = rows_held job lists.results (step_count job.run)
 -- ---- totals
 
 -- those of the rows that are stored, where the checks have passed
-pub totals_stepped : (job : Job) (lists : Lent) (n : ℕ) → checked job (room_for job lists) ≡ check.Steps n
+pub totals_stepped : (job : Job) (lists : Lent) (n : ℕ) → checked job (room_for job lists) ≡ Ok n
     → (run_of job lists).totals
     ≡ with_totals (leap_year_of job.site) job.run (run_of job lists).ran.results (rows_stored (run_of job lists).ran.answer) lists.totals
 unfolding run_of totals_left
-totals_stepped job lists n e = ap (λ (c : Checked). totals_left c job (run_checked (checked job (room_for job lists)) job lists.results) lists.totals) e
+totals_stepped job lists n e = ap (λ (c : Result ℕ Refusal). totals_left c job (run_checked (checked job (room_for job lists)) job lists.results) lists.totals) e

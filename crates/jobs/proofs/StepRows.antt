@@ -1,5 +1,6 @@
 -- What a step's row has: its six doubles are those of the sun, the irradiance and the factor, and all are doubles of binary64.
 -- Assumes nothing.
+use Rattle.std.specs.Prelude.{Err, Float, Ok, Result}
 use mathlib.Core.Path.{◌≡◌, refl, sym, ap, ◌∙◌, subst}
 use mathlib.Core.Bool.{Bool, true, false, ◌&&◌}
 use lib.Dec.{T}
@@ -17,38 +18,34 @@ use Rattle.irradiance.specs.declared.parts.Irradiance.{Irradiance}
 use Rattle.irradiance.specs.Parts.{irradiance_of}
 use Rattle.objects.specs.declared.answers.Refusal.{Refusal}
 use Rattle.objects.specs.declared.surface.Surface.{Surface}
-use Rattle.objects.specs.declared.answers.FactorAnswer.{FactorAnswer}
-use Rattle.objects.specs.declared.answers.FactorAnswer.TheVariants as factor
 use Rattle.objects.specs.Records.{sectors_of, window_objects_of}
 use Rattle.shading_laws.proofs.Answers.{answer_fits}
 use Rattle.weather.specs.declared.Reading.{Reading}
 use Rattle.jobs.specs.declared.answers.Row.{Row}
-use Rattle.jobs.specs.declared.answers.StepAnswer.{StepAnswer}
-use Rattle.jobs.specs.declared.answers.StepAnswer.TheVariants as step
 use Rattle.jobs.specs.Job.{Job, reading_at}
 use Rattle.jobs.specs.Step.{sun_at, irradiance_at, job_sectors, shading_at, row_with, step_with, step_at}
 use Rattle.jobs.proofs.RowStores.{RowFits}
 
 -- ---- a step's answer is a row or a refusal
 
-is_row : StepAnswer → Bool
-is_row (step.Row row) = true
-is_row (step.Refused r) = false
+is_row : Result Row Refusal → Bool
+is_row (Ok row) = true
+is_row (Err r) = false
 
 no_row : Row
 no_row = record { altitude = whole 0; azimuth = whole 0; direct = whole 0; diffuse = whole 0; total = whole 0; factor = whole 0 }
 
 -- the row of a step that has one
-unfoldable pub row_of : StepAnswer → Row
+unfoldable pub row_of : Result Row Refusal → Row
 unfolding no_row
-row_of (step.Row row) = row
-row_of (step.Refused r) = no_row
+row_of (Ok row) = row
+row_of (Err r) = no_row
 
-pub not_refused : {A : Type 0} {r : Refusal} {row : Row} → step.Refused r ≡ step.Row row → A
+pub not_refused : {A : Type 0} {r : Refusal} {row : Row} → ◌≡◌ {A = Result Row Refusal} (Err r) (Ok row) → A
 unfolding is_row
 not_refused e = absurd (subst T (sym (ap is_row e)) tt)
 
-pub same_row : {x y : Row} → step.Row x ≡ step.Row y → x ≡ y
+pub same_row : {x y : Row} → ◌≡◌ {A = Result Row Refusal} (Ok x) (Ok y) → x ≡ y
 unfolding row_of
 same_row e = ap row_of e
 
@@ -61,9 +58,9 @@ pub record StepRow (job : Job) (time : Float) (row : Row) : Type 0 where
   pub direct : row.direct ≡ (irradiance_at job.site job.surface time (reading_at job time)).direct
   pub diffuse : row.diffuse ≡ (irradiance_at job.site job.surface time (reading_at job time)).diffuse
   pub total : row.total ≡ (irradiance_at job.site job.surface time (reading_at job time)).total
-  pub factor : shading_at job.edition job.surface (sun_at job.site time) (job_sectors job time) job.window ≡ factor.Factor row.factor
+  pub factor : shading_at job.edition job.surface (sun_at job.site time) (job_sectors job time) job.window ≡ Ok row.factor
 
-pub step_row : (job : Job) (time : Float) (row : Row) → step_at job time ≡ step.Row row → StepRow job time row
+pub step_row : (job : Job) (time : Float) (row : Row) → step_at job time ≡ Ok row → StepRow job time row
 unfolding step_at step_with
 step_row job time row e = go (shading_at job.edition job.surface (sun_at job.site time) (job_sectors job time) job.window) refl e
   where
@@ -73,15 +70,15 @@ step_row job time row e = go (shading_at job.edition job.surface (sun_at job.sit
     parts : Irradiance
     parts = irradiance_at job.site job.surface time (reading_at job time)
 
-    go : (f : FactorAnswer) → shading_at job.edition job.surface sun (job_sectors job time) job.window ≡ f → row_with sun parts f ≡ step.Row row → StepRow job time row
-    go (factor.Refused r) s e = unfold row_with in not_refused e
-    go (factor.Factor f) s e = unfold row_with in let p = same_row e in record {
+    go : (f : Result Float Refusal) → shading_at job.edition job.surface sun (job_sectors job time) job.window ≡ f → row_with sun parts f ≡ Ok row → StepRow job time row
+    go (Err r) s e = unfold row_with in not_refused e
+    go (Ok f) s e = unfold row_with in let p = same_row e in record {
       altitude = sym (ap (λ (x : Row). x.altitude) p);
       azimuth = sym (ap (λ (x : Row). x.azimuth) p);
       direct = sym (ap (λ (x : Row). x.direct) p);
       diffuse = sym (ap (λ (x : Row). x.diffuse) p);
       total = sym (ap (λ (x : Row). x.total) p);
-      factor = s ∙ ap factor.Factor (ap (λ (x : Row). x.factor) p);
+      factor = s ∙ ap Ok (ap (λ (x : Row). x.factor) p);
     }
 
 -- ---- all six are doubles

@@ -1,5 +1,6 @@
 -- Two jobs compared: the claim, proved. The laws at one step (`Answers` of `shading_laws`) go through the rows that an accepted run leaves
 -- to the factors in its results list, and by the order of sums to its sum. Assumes nothing.
+use Rattle.std.specs.Prelude.{Ok}
 use mathlib.Core.Path.{◌≡◌, refl, sym, ap, ap₂, ◌∙◌, subst, subst₂}
 use mathlib.Core.Bool.{Bool, true}
 use mathlib.Core.List.{List, []}
@@ -21,7 +22,6 @@ use Rattle.simulation_time.proofs.Accepted.{step_nonneg, step_finite}
 use Rattle.simulation_time.proofs.Times.{count_few}
 use Rattle.objects.specs.declared.sectors.ShadingSegment.{ShadingSegment}
 use Rattle.objects.specs.declared.window.WindowShadingObject.{WindowShadingObject}
-use Rattle.objects.specs.declared.answers.FactorAnswer.TheVariants.{Factor}
 use Rattle.objects.specs.Objects.{counted}
 use Rattle.shading.specs.Factor.{shading_factor}
 use Rattle.objects.specs.Records.{sectors_of, window_objects_of}
@@ -98,7 +98,7 @@ module _ {job : Job} {lists : Lent} (a : AcceptedRun job lists) where
   -- its factor is the answer of the lists' records
   factor_answer : (i : ℕ) → i < step_count job.run
       → shading_factor job.edition job.surface (sun_at job.site (time_at job.run i)).altitude (sun_at job.site (time_at job.run i)).azimuth (sectors_of (job_sectors job (time_at job.run i))) (window_objects_of job.window)
-      ≡ Factor (row_at job i).factor
+      ≡ Ok (row_at job i).factor
   unfolding shading_at
   factor_answer i h = (row_of i h).factor
 
@@ -124,7 +124,7 @@ module _ {job : Job} {lists : Lent} (a : AcceptedRun job lists) (d : Doubles job
       answer_no_objects job.edition sun.altitude sun.azimuth (sectors_of sectors) (surface_accepted a.checks d)
       (found_has (λ (s : ShadingSegment). counted s ≡ []) sun.azimuth (sectors_of sectors) (none_counted sectors (none_today o (time_at job.run i))))
       (row_at job i).factor
-      (subst (λ (ws : List WindowShadingObject). shading_factor job.edition job.surface sun.altitude sun.azimuth (sectors_of sectors) ws ≡ Factor (row_at job i).factor)
+      (subst (λ (ws : List WindowShadingObject). shading_factor job.edition job.surface sun.altitude sun.azimuth (sectors_of sectors) ws ≡ Ok (row_at job i).factor)
       (no_window job.window o.at_window) (factor_answer a i h))
 
   -- its direct value is finite and not negative
@@ -214,7 +214,7 @@ module _ {j k : Job} {r s : Lent} (l : Alike j k) (a : AcceptedRun j r) (b : Acc
   module _ (d : Doubles j.surface) (n : NoNan j) (m : NoNan k) (c : SeasonsBoundedAlike j k) where
     second_answer : (i : ℕ) → i < step_count j.run
         → shading_factor j.edition j.surface (sun_at j.site (time_at j.run i)).altitude (sun_at j.site (time_at j.run i)).azimuth (sectors_of (sectors_at j.site k.summer k.winter (time_at j.run i))) (window_objects_of k.window)
-        ≡ Factor (row_at k i).factor
+        ≡ Ok (row_at k i).factor
     second_answer i h = rw (l.editions, l.sites, l.runs, l.surfaces) (factor_answer b i (rw (← counts_alike) h))
 
     second_extents : (i : ℕ) → i < step_count j.run

@@ -1,4 +1,5 @@
 -- Days worked out once: the claim, proved. Assumes nothing.
+use Rattle.std.specs.Prelude.{Err, Ok, Result, ℕ}
 use mathlib.Core.Path.{◌≡◌, refl, sym, ap, ap₂, ◌∙◌, subst}
 use mathlib.Core.Bool.{Bool, ◌&&◌}
 use mathlib.Core.List.{List}
@@ -19,9 +20,6 @@ use Rattle.simulation_time.specs.Steps.{step_count, time_at}
 use Rattle.simulation_time.specs.Timestep.{current_hour}
 use Rattle.objects.specs.declared.answers.Refusal.{Refusal}
 use Rattle.jobs.specs.declared.answers.Row.{Row}
-use Rattle.jobs.specs.declared.answers.StepAnswer.{StepAnswer}
-use Rattle.jobs.specs.declared.answers.Checked.{Checked}
-use Rattle.jobs.specs.declared.answers.Checked.TheVariants.{Steps, Refused}
 use Rattle.jobs.specs.Job.{Job}
 use Rattle.jobs.specs.JobChecks.{days_fine, totals_fine, results_fine, checked}
 use Rattle.jobs.specs.Step.{sun_at, irradiance_at, step_with, step_at}
@@ -49,7 +47,7 @@ runs_alike days job (suc n) i sum results h =
     let on : (row : Row) → run_by_table n days job (i + 1) (time ⊕ job.run.step) (with_row job.run.step sum row) (put_row results i row)
     ≡ run_from n job (i + 1) (time ⊕ job.run.step) (with_row job.run.step sum row) (put_row results i row) =
     λ (row : Row). rw (add-one i) (runs_alike days job n (suc i) (with_row job.run.step sum row) (put_row results i row) (λ k l. h k (omega (arith, l)))) in
-    ap (λ (a : StepAnswer). on_row a i results next) (h i (omega arith)) ∙ ap (on_row (step_at job time) i results) (λ x (row : Row). on row x)
+    ap (λ (a : Result Row Refusal). on_row a i results next) (h i (omega arith)) ∙ ap (on_row (step_at job time) i results) (λ x (row : Row). on row x)
 
 module _ (job : Job) (lists : Lent) where
   pub same_without : T (days_fine lists.days) → T (totals_fine (leap_year_of job.site) lists.totals) → (run_of job lists).ran ≡ plain_run job lists.results
@@ -60,19 +58,19 @@ module _ (job : Job) (lists : Lent) where
       (is_true (days_fine lists.days) d) (is_true (totals_fine (leap_year_of job.site) lists.totals) t)
 
   -- the list that a run leaves whose checks have passed
-  pub days_filled : (n : ℕ) → checked job (room_for job lists) ≡ Steps n → (run_of job lists).days ≡ with_day_table lists.days
+  pub days_filled : (n : ℕ) → checked job (room_for job lists) ≡ Ok n → (run_of job lists).days ≡ with_day_table lists.days
   unfolding run_of days_left
-  days_filled n e = ap (λ (checks : Checked). days_left checks lists.days) e
+  days_filled n e = ap (λ (checks : Result ℕ Refusal). days_left checks lists.days) e
 
   -- the record of a step's day
-  days_read : (n : ℕ) → checked job (room_for job lists) ≡ Steps n → Passed job (room_for job lists) → (i : ℕ) → i < step_count job.run
+  days_read : (n : ℕ) → checked job (room_for job lists) ≡ Ok n → Passed job (room_for job lists) → (i : ℕ) → i < step_count job.run
       → day_at (run_of job lists).days (day_of_step job.run i) ≡ day_of (day_of_step job.run i + 1)
   days_read n e p i h =
       ap (λ (days : List ℕ). day_at days (day_of_step job.run i)) (days_filled n e)
       ∙ (table_read lists.days (days_fit job lists p)).day (day_of_step job.run i) (omega (arith, hour_below p i h))
 
   -- the run whose hours read the list that it leaves
-  runs_the_same : (n : ℕ) → checked job (room_for job lists) ≡ Steps n
+  runs_the_same : (n : ℕ) → checked job (room_for job lists) ≡ Ok n
       → run_by_table n (run_of job lists).days job 0 job.run.start (whole 0) lists.results ≡ (run_of job lists).ran
   unfolding run_of run_checked time_at
   runs_the_same n e =
@@ -80,19 +78,19 @@ module _ (job : Job) (lists : Lent) where
       let same : (k : ℕ) → k < 0 + n → step_by_table (run_of job lists).days job (time_at job.run k) ≡ step_at job (time_at job.run k) =
       λ k l. step_by_table_lem (run_of job lists).days job (time_at job.run k) (days_read n e p.0 k (omega (arith, l, p.1))) in
       runs_alike (run_of job lists).days job n 0 (whole 0) lists.results same
-      ∙ sym (ap (λ (checks : Checked). run_checked checks job lists.results) e)
+      ∙ sym (ap (λ (checks : Result ℕ Refusal). run_checked checks job lists.results) e)
 
-  days_untouched : (r : Refusal) → checked job (room_for job lists) ≡ Refused r → (run_of job lists).days ≡ lists.days
+  days_untouched : (r : Refusal) → checked job (room_for job lists) ≡ Err r → (run_of job lists).days ≡ lists.days
   unfolding run_of days_left
-  days_untouched r e = ap (λ (checks : Checked). days_left checks lists.days) e
+  days_untouched r e = ap (λ (checks : Result ℕ Refusal). days_left checks lists.days) e
 
   -- filled or not: what holds of the list as it was, and of it with the table, holds of the list that is left
   of_either : (P : List ℕ → Type 0) → P lists.days → (8784 ≤ length lists.days → P (with_day_table lists.days)) → P (run_of job lists).days
   of_either P old new = go (checked job (room_for job lists)) refl
     where
-      go : (c : Checked) → checked job (room_for job lists) ≡ c → P (run_of job lists).days
-      go (Steps n) e = subst P (sym (days_filled n e)) (new (days_fit job lists (passed job (room_for job lists) n e).0))
-      go (Refused r) e = subst P (sym (days_untouched r e)) old
+      go : (c : Result ℕ Refusal) → checked job (room_for job lists) ≡ c → P (run_of job lists).days
+      go (Ok n) e = subst P (sym (days_filled n e)) (new (days_fit job lists (passed job (room_for job lists) n e).0))
+      go (Err r) e = subst P (sym (days_untouched r e)) old
 
 pub days_worked_out_once : DaysWorkedOutOnce
 days_worked_out_once job lists = record {

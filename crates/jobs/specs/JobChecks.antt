@@ -1,5 +1,5 @@
 -- The checks before the first step: the edition (refusal 14), the site (1), its leaf days (15), then 2 to 7 in number order.
-use Rattle.std.specs.Prelude.{Bool, cond, ◌&&◌, List, ℕ, ◌*◌, leb, length, Float}
+use Rattle.std.specs.Prelude.{Bool, cond, ◌&&◌, List, ℕ, ◌*◌, leb, length, Float, Err, Ok, Result}
 use Rattle.words.specs.Words.{word_count}
 use Rattle.weather.specs.Weather.{in_series, read_series, reading_fine}
 use Rattle.fins.specs.Fins.{edition_fine}
@@ -12,8 +12,6 @@ use Rattle.objects.specs.declared.answers.Refusal.{Refusal}
 use Rattle.objects.specs.declared.answers.Refusal.TheVariants as refusal
 use Rattle.objects.specs.Surface.{surface_fine}
 use Rattle.object_checks.specs.Checks.{sectors_fine, window_fine}
-use Rattle.jobs.specs.declared.answers.Checked.{Checked}
-use Rattle.jobs.specs.declared.answers.Checked.TheVariants.{Steps, Refused}
 use Rattle.jobs.specs.Job.{Job}
 use Rattle.jobs.specs.Totals.{totals_count}
 
@@ -45,25 +43,25 @@ unfoldable pub results_fine : Run → List ℕ → Bool
 results_fine run results = leb (6 * step_count run) (word_count results)
 
 -- `room` says whether the lists that are lent have it
-unfoldable pub series_checked : ℕ → Float → Run → List ℕ → List ℕ → List ℕ → Bool → Checked
+unfoldable pub series_checked : ℕ → Float → Run → List ℕ → List ℕ → List ℕ → Bool → Result ℕ Refusal
 unfolding tried
 series_checked day step run diffuse direct reflectivity room =
-    tried Refused (indices_fine day step diffuse direct reflectivity (times run)) refusal.Series
-    (tried Refused (readings_fine day step diffuse direct reflectivity (times run)) refusal.Reading
-    (tried Refused room refusal.Results
-    (Steps (step_count run))))
+    tried Err (indices_fine day step diffuse direct reflectivity (times run)) refusal.Series
+    (tried Err (readings_fine day step diffuse direct reflectivity (times run)) refusal.Reading
+    (tried Err room refusal.Results
+    (Ok (step_count run))))
 
 -- ---- all nine
 
 -- the number of steps, or the first refusal; the objects of both seasons are tried, whether or not a step falls there
-unfoldable pub checked : Job → Bool → Checked
+unfoldable pub checked : Job → Bool → Result ℕ Refusal
 unfolding tried series_checked
 checked job room =
     let site = job.site in
-    tried Refused (edition_fine job.edition) refusal.Edition
-    (tried Refused (site_fine site) refusal.Site
-    (tried Refused (leaf_days_fine site) refusal.LeafDay
-    (tried Refused (run_accepted (hours_in_year site) job.run) refusal.Run
-    (tried Refused (surface_fine job.surface) refusal.Surface
-    (tried Refused (sectors_fine job.summer && sectors_fine job.winter && window_fine job.window) refusal.Object
+    tried Err (edition_fine job.edition) refusal.Edition
+    (tried Err (site_fine site) refusal.Site
+    (tried Err (leaf_days_fine site) refusal.LeafDay
+    (tried Err (run_accepted (hours_in_year site) job.run) refusal.Run
+    (tried Err (surface_fine job.surface) refusal.Surface
+    (tried Err (sectors_fine job.summer && sectors_fine job.winter && window_fine job.window) refusal.Object
     (series_checked site.start_day site.time_series_step job.run job.diffuse job.direct job.reflectivity room))))))

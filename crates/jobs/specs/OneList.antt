@@ -1,6 +1,8 @@
 -- An older job, with one list of sectors and no leaf days, is a job with two equal lists: the run of an older job, and what is claimed.
 -- `older_jobs` and `leaf_days_change_nothing` (proofs/OneListLaws.antt) prove it.
-use Rattle.std.specs.Prelude.{◌≡◌, Bool, ◌&&◌, List, ℕ, zero, suc, ◌+◌, T, Float}
+use Rattle.std.specs.Prelude.{◌≡◌, Bool, ◌&&◌, List, ℕ, zero, suc, ◌+◌, T, Float, Err, Ok, Result}
+use Rattle.objects.specs.declared.answers.Refusal.{Refusal}
+use Rattle.jobs.specs.Run.{Ran, ran, on_row, Lent, Left, room_for, days_left, totals_left, run_of, accepted, refused_at}
 use Rattle.doubles.specs.Arithmetic.{◌⊕◌, whole}
 use Rattle.sun.specs.declared.site.Site.{Site}
 use Rattle.sun.specs.Site.{site_fine, leaf_days_fine, hours_in_year}
@@ -10,44 +12,39 @@ use Rattle.fins.specs.Fins.{edition_fine}
 use Rattle.objects.specs.Surface.{surface_fine}
 use Rattle.object_checks.specs.Checks.{sectors_fine, window_fine}
 use Rattle.jobs.specs.declared.answers.Row.{Row}
-use Rattle.jobs.specs.declared.answers.StepAnswer.{StepAnswer}
-use Rattle.jobs.specs.declared.answers.Checked.{Checked}
-use Rattle.jobs.specs.declared.answers.Checked.TheVariants as check
-use Rattle.jobs.specs.declared.answers.RunAnswer.TheVariants.{Accepted, Refused}
 use Rattle.jobs.specs.Job.{Job, job_of, reading_at}
 use Rattle.jobs.specs.JobChecks.{tried, series_checked}
 use Rattle.jobs.specs.Step.{step_with}
 use Rattle.jobs.specs.Rows.{put_row, with_row}
-use Rattle.jobs.specs.Run.{Ran, ran, on_row, Lent, Left, room_for, days_left, totals_left, run_of}
 
 -- ---- the run with one list; of the job neither its two lists nor its leaf days are looked at
 
 -- 14, then 1 to 7
-unfoldable pub one_list_checked : Job → List ℕ → Bool → Checked
+unfoldable pub one_list_checked : Job → List ℕ → Bool → Result ℕ Refusal
 unfolding tried series_checked
 one_list_checked job sectors room =
     let site = job.site in
-    tried check.Refused (edition_fine job.edition) refusal.Edition
-    (tried check.Refused (site_fine site) refusal.Site
-    (tried check.Refused (run_accepted (hours_in_year site) job.run) refusal.Run
-    (tried check.Refused (surface_fine job.surface) refusal.Surface
-    (tried check.Refused (sectors_fine sectors && window_fine job.window) refusal.Object
+    tried Err (edition_fine job.edition) refusal.Edition
+    (tried Err (site_fine site) refusal.Site
+    (tried Err (run_accepted (hours_in_year site) job.run) refusal.Run
+    (tried Err (surface_fine job.surface) refusal.Surface
+    (tried Err (sectors_fine sectors && window_fine job.window) refusal.Object
     (series_checked site.start_day site.time_series_step job.run job.diffuse job.direct job.reflectivity room)))))
 
 -- the same list on every day
-unfoldable pub one_list_step : Job → List ℕ → Float → StepAnswer
+unfoldable pub one_list_step : Job → List ℕ → Float → Result Row Refusal
 one_list_step job sectors time = step_with job.edition job.site job.surface sectors job.window time (reading_at job time)
 
 -- as `run_from`
 unfoldable pub one_list_from : ℕ → Job → List ℕ → ℕ → Float → Float → List ℕ → Ran
-one_list_from zero job sectors i time sum results = ran (Accepted i sum) results
+one_list_from zero job sectors i time sum results = ran (accepted i sum) results
 one_list_from (suc n) job sectors i time sum results =
     on_row (one_list_step job sectors time) i results
     (λ (row : Row). one_list_from n job sectors (i + 1) (time ⊕ job.run.step) (with_row job.run.step sum row) (put_row results i row))
 
-unfoldable pub one_list_ran : Checked → Job → List ℕ → List ℕ → Ran
-one_list_ran (check.Steps n) job sectors results = one_list_from n job sectors 0 job.run.start (whole 0) results
-one_list_ran (check.Refused refusal) job sectors results = ran (Refused refusal 0) results
+unfoldable pub one_list_ran : Result ℕ Refusal → Job → List ℕ → List ℕ → Ran
+one_list_ran (Ok n) job sectors results = one_list_from n job sectors 0 job.run.start (whole 0) results
+one_list_ran (Err refusal) job sectors results = ran (refused_at refusal 0) results
 
 -- as `run_of`
 unfoldable pub one_list_run : Job → List ℕ → Lent → Left

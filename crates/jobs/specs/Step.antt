@@ -1,5 +1,7 @@
 -- One step: the sun in its hour, the irradiance by the series' values, and the factor, by the sectors of its day.
-use Rattle.std.specs.Prelude.{List, ℕ, ◌+◌, ◌/◌, eqb, Float}
+use Rattle.std.specs.Prelude.{List, ℕ, ◌+◌, ◌/◌, eqb, Float, Err, Ok, Result}
+use Rattle.objects.specs.declared.answers.Refusal.{Refusal}
+use Rattle.jobs.specs.declared.answers.Row.{Row}
 use Rattle.sun.specs.declared.site.Site.{Site}
 use Rattle.sun.specs.declared.hour.Hour.{Hour}
 use Rattle.days.specs.declared.Day.{Day}
@@ -12,14 +14,10 @@ use Rattle.irradiance.specs.Surface.{incidence_of}
 use Rattle.irradiance.specs.Parts.{irradiance_of}
 use Rattle.simulation_time.specs.Timestep.{current_hour}
 use Rattle.objects.specs.declared.surface.Surface.{Surface}
-use Rattle.objects.specs.declared.answers.FactorAnswer.{FactorAnswer}
-use Rattle.objects.specs.declared.answers.FactorAnswer.TheVariants as factor
 use Rattle.seasons.specs.Seasons.{sectors_for}
 use Rattle.shading.specs.Factor.{shading_factor}
 use Rattle.objects.specs.Records.{sectors_of, window_objects_of}
 use Rattle.weather.specs.declared.Reading.{Reading}
-use Rattle.jobs.specs.declared.answers.StepAnswer.{StepAnswer}
-use Rattle.jobs.specs.declared.answers.StepAnswer.TheVariants as step
 use Rattle.jobs.specs.Job.{Job, reading_at}
 
 -- the sun at a time: that of its hour
@@ -48,12 +46,12 @@ abbrev pub job_sectors : Job → Float → List ℕ
 job_sectors job time = sectors_at job.site job.summer job.winter time
 
 -- the factor by an edition, of lists of bytes
-unfoldable pub shading_at : ℕ → Surface → Hour → List ℕ → List ℕ → FactorAnswer
+unfoldable pub shading_at : ℕ → Surface → Hour → List ℕ → List ℕ → Result Float Refusal
 shading_at edition surface sun sectors window = shading_factor edition surface sun.altitude sun.azimuth (sectors_of sectors) (window_objects_of window)
 
 -- a step has a row where it has a factor
-unfoldable pub row_with : Hour → Irradiance → FactorAnswer → StepAnswer
-row_with sun parts (factor.Factor f) = step.Row (record {
+unfoldable pub row_with : Hour → Irradiance → Result Float Refusal → Result Row Refusal
+row_with sun parts (Ok f) = Ok (record {
   altitude = sun.altitude;
   azimuth = sun.azimuth;
   direct = parts.direct;
@@ -61,13 +59,13 @@ row_with sun parts (factor.Factor f) = step.Row (record {
   total = parts.total;
   factor = f;
 })
-row_with sun parts (factor.Refused r) = step.Refused r
+row_with sun parts (Err r) = Err r
 
 -- the step at a time, the sectors of its day and the values of its series being given
-unfoldable pub step_with : ℕ → Site → Surface → List ℕ → List ℕ → Float → Reading → StepAnswer
+unfoldable pub step_with : ℕ → Site → Surface → List ℕ → List ℕ → Float → Reading → Result Row Refusal
 step_with edition site surface sectors window time reading =
     row_with (sun_at site time) (irradiance_at site surface time reading) (shading_at edition surface (sun_at site time) sectors window)
 
 -- a job's step at a time
-unfoldable pub step_at : Job → Float → StepAnswer
+unfoldable pub step_at : Job → Float → Result Row Refusal
 step_at job time = step_with job.edition job.site job.surface (job_sectors job time) job.window time (reading_at job time)

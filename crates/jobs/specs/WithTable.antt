@@ -1,6 +1,7 @@
 -- Days worked out once: what is claimed of a run that fills a table of days and whose hours read it. `days_worked_out_once`
 -- (proofs/WithTableLaws.antt) proves it.
-use Rattle.std.specs.Prelude.{◌≡◌, List, ℕ, zero, suc, ◌+◌, ◌/◌, ◌%◌, ◌≤◌, ◌<◌, T, length, get_or, Float}
+use Rattle.std.specs.Prelude.{◌≡◌, List, ℕ, zero, suc, ◌+◌, ◌/◌, ◌%◌, ◌≤◌, ◌<◌, T, length, get_or, Float, Err, Ok, Result}
+use Rattle.jobs.specs.Run.{Ran, ran, on_row, Lent, room_for, run_of, plain_run, accepted}
 use Rattle.doubles.specs.Arithmetic.{◌⊕◌, whole}
 use Rattle.calendar.specs.Calendar.{days_in_year}
 use Rattle.days.specs.declared.Day.{Day}
@@ -15,15 +16,11 @@ use Rattle.simulation_time.specs.Steps.{time_at}
 use Rattle.simulation_time.specs.Timestep.{current_hour}
 use Rattle.objects.specs.declared.answers.Refusal.{Refusal}
 use Rattle.jobs.specs.declared.answers.Row.{Row}
-use Rattle.jobs.specs.declared.answers.StepAnswer.{StepAnswer}
-use Rattle.jobs.specs.declared.answers.RunAnswer.TheVariants as run
-use Rattle.jobs.specs.declared.answers.Checked.TheVariants.{Steps, Refused}
 use Rattle.jobs.specs.Job.{Job, reading_at}
 use Rattle.jobs.specs.JobChecks.{days_fine, totals_fine, checked}
 use Rattle.jobs.specs.Step.{irradiance_by_day, job_sectors, shading_at, row_with, step_at}
 use Rattle.jobs.specs.Rows.{put_row, with_row}
 use Rattle.jobs.specs.Totals.{day_of_step}
-use Rattle.jobs.specs.Run.{Ran, ran, on_row, Lent, room_for, run_of, plain_run}
 
 -- ---- a step whose hour reads its day from a list
 
@@ -33,7 +30,7 @@ sun_by_day site day hour =
     let shift = time_shift_of site.timezone site.longitude in
     hour_by (sin_cos_of site.latitude) (sin_cos_of day.declination) day.equation_of_time shift (hour % 24)
 
-unfoldable pub step_by_table : List ℕ → Job → Float → StepAnswer
+unfoldable pub step_by_table : List ℕ → Job → Float → Result Row Refusal
 step_by_table days job time =
     let day = day_at days (current_hour time / 24) in
     let sun = sun_by_day job.site day (current_hour time) in
@@ -41,7 +38,7 @@ step_by_table days job time =
 
 -- n steps like that, from the i-th on: as `run_from`, but for the table
 unfoldable pub run_by_table : ℕ → List ℕ → Job → ℕ → Float → Float → List ℕ → Ran
-run_by_table zero days job i time sum results = ran (run.Accepted i sum) results
+run_by_table zero days job i time sum results = ran (accepted i sum) results
 run_by_table (suc n) days job i time sum results =
     on_row (step_by_table days job time) i results
     (λ (row : Row). run_by_table n days job (i + 1) (time ⊕ job.run.step) (with_row job.run.step sum row) (put_row results i row))
@@ -62,9 +59,9 @@ pub record TableFilled (job : Job) (lists : Lent) (n : ℕ) : Type 0 where
 -- every result of a run is the one without the table, in either year
 pub record WithTable (job : Job) (lists : Lent) : Type 0 where
   pub same_results : T (days_fine lists.days) → T (totals_fine (leap_year_of job.site) lists.totals) → (run_of job lists).ran ≡ plain_run job lists.results
-  pub table_filled : (n : ℕ) → checked job (room_for job lists) ≡ Steps n → TableFilled job lists n
+  pub table_filled : (n : ℕ) → checked job (room_for job lists) ≡ Ok n → TableFilled job lists n
   -- a job that is turned down leaves the list as it was
-  pub untouched : (r : Refusal) → checked job (room_for job lists) ≡ Refused r → (run_of job lists).days ≡ lists.days
+  pub untouched : (r : Refusal) → checked job (room_for job lists) ≡ Err r → (run_of job lists).days ≡ lists.days
   pub same_length : length (run_of job lists).days ≡ length lists.days
   pub bytes_behind : (b : ℕ) → 8784 ≤ b → get_or (run_of job lists).days b 0 ≡ get_or lists.days b 0
 

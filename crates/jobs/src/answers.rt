@@ -1,4 +1,6 @@
 // What comes out of a step, of the checks and of a run.
+ghost use Rattle.std.specs.Prelude.{◌≡◌};
+
 use objects::answers::Refusal;
 
 // A step's six results, in the order in which they are stored.
@@ -12,13 +14,6 @@ pub struct Row {
     pub factor: f64,
 }
 
-// A step's row, or why it has none (8 to 11).
-#[derive(Clone, Copy)]
-pub enum StepAnswer {
-    Row(Row),
-    Refused(Refusal),
-}
-
 // What is kept of one day or of one month: how many steps start in it, the largest total among their rows (NaN while there is none)
 // and the sum of factor times direct times step, in Wh/m².
 #[derive(Clone, Copy)]
@@ -28,18 +23,25 @@ pub struct Totals {
     pub sum: f64,
 }
 
-// How many steps a job has that passes the checks before the first step, or why it is turned down (14, 1, 15 or
-// 2 to 7).
+// What an accepted run comes to: its step count and the sum of factor times direct times step, in Wh/m².
 #[derive(Clone, Copy)]
-pub enum Checked {
-    Steps(u64),
-    Refused(Refusal),
+pub struct Accepted {
+    pub count: u64,
+    pub sum: f64,
 }
 
-// What a run answers: its step count and the sum of factor times direct times step, in Wh/m², or why and at which step it was turned
-// down.
+// Why and at which step a run is turned down; the checks before the first step say step 0, as the C struct has it.
 #[derive(Clone, Copy)]
-pub enum RunAnswer {
-    Accepted { count: u64, sum: f64 },
-    Refused { refusal: Refusal, step: u64 },
+pub struct RefusedAt {
+    pub refusal: Refusal,
+    pub step: u64,
+}
+
+// The checks before the first step turn a job down at step 0.
+impl From<Refusal> for RefusedAt {
+    ghost from_gives = { λ refusal fault. fault ≡ record { refusal = refusal; step = 0 } };
+
+    fn from(refusal: Refusal) -> RefusedAt {
+        RefusedAt { refusal, step: 0 }
+    }
 }

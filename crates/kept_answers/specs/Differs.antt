@@ -1,11 +1,12 @@
 -- When a kept answer differs from what the definitions say. A record that is cut short differs too.
-use Rattle.std.specs.Prelude.{ℕ, ◌^◌, Bool, true, cond, not, ◌&&◌, ◌||◌, List, length, take, replicate, ℤ, pos, ◌==◌, nat_lt, to_bits, Float}
+use Rattle.std.specs.Prelude.{ℕ, ◌^◌, Bool, true, cond, not, ◌&&◌, ◌||◌, List, length, take, replicate, ℤ, pos, ◌==◌, nat_lt, to_bits, Float, Err, Ok, Result}
+use Rattle.objects.specs.declared.answers.Refusal.{Refusal}
+use Rattle.jobs.specs.declared.answers.Accepted.{Accepted}
+use Rattle.jobs.specs.declared.answers.RefusedAt.{RefusedAt}
 use Rattle.std.specs.Float.{binary64}
 use Rattle.std.specs.Float.Ieee.{to_signed, le, lt, neg}
 use Rattle.doubles.specs.Arithmetic.{whole}
 use Rattle.words.specs.Words.{word_at, double_at}
-use Rattle.objects.specs.declared.answers.FactorAnswer.{FactorAnswer}
-use Rattle.objects.specs.declared.answers.FactorAnswer.TheVariants.{Factor, Refused}
 use Rattle.days.specs.Table.{with_day_table}
 use Rattle.objects.specs.Refusals.{number_of}
 use Rattle.shading.specs.Call.{factor_call}
@@ -15,7 +16,6 @@ use Rattle.sun.specs.declared.site.Site.{Site}
 use Rattle.simulation_time.specs.declared.run.Run.{Run}
 use Rattle.jobs.specs.Job.{Job, job_of}
 use Rattle.jobs.specs.Run.{Lent, lent, Left, run_of, number_for, step_for, count_for, sum_for}
-use Rattle.jobs.specs.declared.answers.RunAnswer.{RunAnswer}
 use Rattle.text.specs.Text.{same_text, lines_of}
 use Rattle.listing.specs.Listing.{body}
 use Rattle.kept_answers.specs.KeptRecords.{list_end, part, surface_at}
@@ -32,9 +32,9 @@ unfoldable pub is_factor : List ℕ → ℕ → Float → Bool
 is_factor l number factor = word_at l 12 == number && word_at l 13 == to_bits binary64 factor
 
 -- the factor is 0 where refused
-unfoldable pub factor_kept : List ℕ → FactorAnswer → Bool
-factor_kept l (Factor factor) = is_factor l 0 factor
-factor_kept l (Refused refusal) = is_factor l (number_of refusal) (whole 0)
+unfoldable pub factor_kept : List ℕ → Result Float Refusal → Bool
+factor_kept l (Ok factor) = is_factor l 0 factor
+factor_kept l (Err refusal) = is_factor l (number_of refusal) (whole 0)
 
 unfoldable pub factor_differs : List ℕ → Bool
 factor_differs l =
@@ -97,7 +97,7 @@ unfoldable pub is_run : List ℕ → ℕ → ℕ → ℕ → Float → Bool
 is_run l number step count sum =
     (word_at l 28 == number) && word_at l 29 == step && (word_at l 30 == count && word_at l 31 == to_bits binary64 sum)
 
-unfoldable pub answer_kept : List ℕ → RunAnswer → Bool
+unfoldable pub answer_kept : List ℕ → Result Accepted RefusedAt → Bool
 answer_kept l answer = is_run l (number_for answer) (step_for answer) (count_for answer) (sum_for answer)
 
 -- a record that does not keep the totals has an empty list; any other has all that were lent, and so as many bytes

@@ -3,23 +3,24 @@ ghost use Rattle.std.specs.Prelude.{◌≡◌};
 ghost use Rattle.kept_answers.specs.Differs.{is_factor, factor_kept, factor_differs};
 
 use crate::parts::{list_end, surface_at};
-use objects::answers::{FactorAnswer, number_of};
+use objects::answers::Refusal;
 use shading::step::factor_call;
-use words::{bits_of_double, double_at, word_at};
+use std::num::f64_to_bits_with_nan;
+use words::{double_at, word_at};
 
 fn is_answer(kept: &[u8], number: u64, factor: f64) -> bool
     ensures { result ≡ is_factor kept.now number factor }
 {
-    (word_at(kept, 12) == number) & (word_at(kept, 13) == bits_of_double(factor))
+    (word_at(kept, 12) == number) & (word_at(kept, 13) == f64_to_bits_with_nan(factor))
 }
 
 // Whether an answer that is a factor or a refusal is the record's, in its words 12 and 13.
-pub fn answers(kept: &[u8], answer: FactorAnswer) -> bool
+pub fn answers(kept: &[u8], answer: Result<f64, Refusal>) -> bool
     ensures { result ≡ factor_kept kept.now answer }
 {
     match answer {
-        FactorAnswer::Factor(factor) => is_answer(kept, 0, factor),
-        FactorAnswer::Refused(refusal) => is_answer(kept, number_of(refusal), 0.0),
+        Ok(factor) => is_answer(kept, 0, factor),
+        Err(refusal) => is_answer(kept, u64::from(refusal), 0.0),
     }
 }
 

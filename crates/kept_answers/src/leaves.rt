@@ -5,8 +5,10 @@ ghost use Rattle.std.specs.Float.{nan};
 ghost use Rattle.kept_answers.specs.Leaves.{angle_values, number_values, sun_values, sky_values, leaf_of};
 ghost use Rattle.kept_answers.specs.Differs.{leaf_differs};
 
-use words::{bits_of_double, double_at, word_at};
+use std::num::f64_to_bits_with_nan;
+use words::{double_at, word_at};
 
+#[tactic(auto, unfolding(crate::specs::Leaves::angle_values))]
 fn angle(k: u64, x: f64) -> f64
     ensures { result ≡ slice_index_or (angle_values x) k nan }
 {
@@ -18,10 +20,11 @@ fn angle(k: u64, x: f64) -> f64
         5 => arcsines::acos(x),
         6 => powers::pow_minus_1_253(x),
         7 => roots::sqrt(x),
-        _ => 0.0 / 0.0,
+        _ => f64::NAN,
     }
 }
 
+#[tactic(auto, unfolding(crate::specs::Leaves::number_values))]
 fn number(k: u64, x: f64, y: f64) -> f64
     ensures { result ≡ slice_index_or (number_values x y) k nan }
 {
@@ -34,10 +37,11 @@ fn number(k: u64, x: f64, y: f64) -> f64
         5 => doubles::max_of_2(x, y),
         6 => doubles::float_min(x, y),
         7 => doubles::float_max(x, y),
-        _ => 0.0 / 0.0,
+        _ => f64::NAN,
     }
 }
 
+#[tactic(auto, unfolding(crate::specs::Leaves::sun_values))]
 fn of_the_sun(k: u64, x: f64, y: f64, z: f64) -> f64
     ensures { result ≡ slice_index_or (sun_values x y z) k nan }
 {
@@ -48,10 +52,11 @@ fn of_the_sun(k: u64, x: f64, y: f64, z: f64) -> f64
         3 => sun::hour::init_solar_altitude(x, y, z),
         4 => sun::hour::init_solar_zenith_angle(x),
         5 => sun::hour::init_air_mass(x),
-        _ => 0.0 / 0.0,
+        _ => f64::NAN,
     }
 }
 
+#[tactic(auto, unfolding(crate::specs::Leaves::sky_values))]
 fn of_the_sky(k: u64, x: f64, y: f64, z: f64) -> f64
     ensures { result ≡ slice_index_or (sky_values x y z) k nan }
 {
@@ -60,23 +65,20 @@ fn of_the_sky(k: u64, x: f64, y: f64, z: f64) -> f64
         1 => irradiance::sky::init_dimensionless_sky_brightness_parameter(x, y, z),
         2 => irradiance::sky::init_f1_circumsolar_brightness_coefficient(x, y, z),
         3 => irradiance::sky::init_f2_horizontal_brightness_coefficient(x, y, z),
-        _ => 0.0 / 0.0,
+        _ => f64::NAN,
     }
 }
 
+#[tactic(auto, using(crate::proofs::Groups::angle_leaf, crate::proofs::Groups::number_leaf, crate::proofs::Groups::sun_leaf, crate::proofs::Groups::sky_leaf))]
 fn leaf(function: u64, x: f64, y: f64, z: f64) -> f64
     ensures { result ≡ leaf_of function x y z }
 {
-    if function < 8 {
-        return angle(function, x);
+    match function {
+        0..8 => angle(function, x),
+        8..16 => number(function - 8, x, y),
+        16..22 => of_the_sun(function - 16, x, y, z),
+        22.. => of_the_sky(function - 22, x, y, z),
     }
-    if function < 16 {
-        return number(function - 8, x, y);
-    }
-    if function < 22 {
-        return of_the_sun(function - 16, x, y, z);
-    }
-    of_the_sky(function - 22, x, y, z)
 }
 
 // Whether a function comes out otherwise than its record says.
@@ -86,5 +88,5 @@ pub fn differs(kept: &[u8]) -> bool
     let x = double_at(kept, 3);
     let y = double_at(kept, 4);
     let z = double_at(kept, 5);
-    bits_of_double(leaf(word_at(kept, 2), x, y, z)) != word_at(kept, 6)
+    f64_to_bits_with_nan(leaf(word_at(kept, 2), x, y, z)) != word_at(kept, 6)
 }

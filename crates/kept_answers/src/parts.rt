@@ -27,7 +27,8 @@ fn record_size(kept: &[u8]) -> u64
 // Where the record that starts at that place ends; the end of the block where its size cannot be. It is never empty.
 pub fn record_end(block: &[u8], at: usize) -> usize
     requires { at < length block.now }
-    ensures { result ≡ record_end block.now at }
+    ensures value { result ≡ record_end block.now at }
+    ensures within { (at < result) × (result ≤ length block.now) }
 {
     let size = record_size(&block[at..]);
     if size == 0 {

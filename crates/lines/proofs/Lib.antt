@@ -1,1 +1,2 @@
 pub mod Numerals
+mod Values

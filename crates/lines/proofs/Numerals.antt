@@ -1,6 +1,8 @@
 -- A refusal's number in decimal digits.
-use mathlib.Core.Path.{◌≡◌, refl}
-use mathlib.Core.List.{[], ◌∷◌, ◌++◌}
+use mathlib.Core.Path.{◌≡◌}
+use lib.ListN.{take}
+use Rattle.std.proofs.lemmas.Bool.Decides.{nat_tests}
+use mathlib.Core.List.{List, [], ◌∷◌, ◌++◌}
 use Prim.Native.Nat.{ℕ, ◌+◌, ◌/◌, ◌%◌, ◌≤◌, ◌<◌}
 use native.Mathlib.Omega.{arith}
 use borrow.Author.Tests.{lt-ltb, le-ltb}
@@ -29,13 +31,18 @@ below_hundred refusal.Edition = omega arith
 below_hundred refusal.LeafDay = omega arith
 
 module _ (n : ℕ) where
-  pub one_digit : n < 10 → (48 + n) ∷ 32 ∷ 45 ∷ 10 ∷ [] ≡ numeral n ++ ascii " -\n"
-  unfolding numeral digit ascii
-  one_digit h = rw (lt-ltb _ _ h) refl
+  pub one_digit : n < 10 → (48 + n % 10) ∷ [] ≡ numeral n
+  unfolding numeral digit
+  one_digit h = let z : n % 10 ≡ n = omega arith in rw (lt-ltb n 10 h, z)
 
-  pub two_digits : 10 ≤ n → n < 100 → (48 + n / 10) ∷ (48 + n % 10) ∷ 32 ∷ 45 ∷ 10 ∷ [] ≡ numeral n ++ ascii " -\n"
-  unfolding numeral digit ascii
+  pub two_digits : 10 ≤ n → n < 100 → (48 + n / 10) ∷ (48 + n % 10) ∷ [] ≡ numeral n
+  unfolding numeral digit
   two_digits h k =
       let tens : n / 10 < 10 = omega arith in
       let ones : n % 10 < 10 = omega arith in
-      rw (le-ltb _ _ h, lt-ltb _ _ tens, lt-ltb _ _ ones) refl
+      rw (le-ltb n 10 h, lt-ltb (n / 10) 10 tens, lt-ltb (n % 10) 10 ones)
+
+-- a line of 19 bytes holds a number below 100 and what follows it
+pub refused : (l : List ℕ) (n : ℕ) → n < 100 → l ≡ numeral n → take 19 (l ++ 32 ∷ 45 ∷ 10 ∷ []) ≡ numeral n ++ ascii " -\n"
+unfolding numeral ascii
+refused l n h e = rw e (grind (arith, nat_tests))

@@ -1,68 +1,36 @@
 // One line with values.
-ghost use Rattle.std.specs.Prelude.{◌≡◌, ◌<◌, length};
-ghost use Rattle.words.specs.Lists.{first_fine};
+ghost use Rattle.std.specs.Prelude.{◌≡◌, length};
+ghost use Rattle.std.specs.List.{list_all, range_with_len};
 ghost use Rattle.shading.specs.Call.{factor_call};
-ghost use Rattle.lines.specs.Line.{value_fine, parted, line_fine, value_at, whole_horizon, one_obstacle, line_answer};
+ghost use Rattle.lines.specs.Line.{parted, values, whole_horizon, one_obstacle, line_answer};
 
-use hexadecimal::Digits;
-use objects::answers::{FactorAnswer, Refusal};
+use objects::answers::Refusal;
 use objects::surface::Surface;
+use std::num::f64_from_bits_with_nan;
 
-// Whether sixteen digits stand in the k-th value's place.
-fn value_fine(line: &[u8], k: usize) -> bool
-    requires { k < 10 }
-    ensures { result ≡ value_fine line.now k }
-{
-    match hexadecimal::digits_at(line, 17 * k) {
-        Digits::Word(_w) => true,
-        Digits::NotDigits => false,
-    }
-}
-
-fn values_fine(line: &[u8]) -> bool
-    ensures { result ≡ first_fine (value_fine line.now) 10 }
-{
-    let mut fine = true;
-    let mut k = 0;
-    while k < 10 {
-        fine = value_fine(line, k) & fine;
-        k += 1;
-    }
-    fine
-}
+// Ten values of sixteen digits, and nine spaces between them.
+const LINE_LENGTH: usize = 169;
 
 // Whether a space stands behind each of the first nine values.
+#[tactic(auto, unfolding(crate::specs::Line::parted))]
 fn spaces_fine(line: &[u8]) -> bool
-    requires { length line.now ≡ 169 }
-    ensures { result ≡ first_fine (parted line.now) 9 }
+    ensures { result ≡ list_all (parted line.now) (range_with_len 0 9) }
 {
-    let mut fine = true;
-    let mut k = 0;
-    while k < 9 {
-        fine = (line[17 * k + 16] == 32) & fine;
-        k += 1;
-    }
-    fine
+    (0..9).all(|k| line.get(17 * k + 16) == Some(&b' '))
 }
 
-// Whether a line has ten values with single spaces between.
-fn line_fine(line: &[u8]) -> bool
-    ensures { result ≡ line_fine line.now }
+// The ten values, where a line has them with single spaces between.
+fn values(line: &[u8]) -> Option<[f64; 10]>
+    ensures { result ≡ values line.now }
 {
-    if line.len() != 169 {
-        return false;
+    if line.len() != LINE_LENGTH || !spaces_fine(line) {
+        return None;
     }
-    values_fine(line) & spaces_fine(line)
-}
-
-fn value_at(line: &[u8], k: usize) -> f64
-    requires { k < 10 }
-    ensures { result ≡ value_at line.now k }
-{
-    match hexadecimal::digits_at(line, 17 * k) {
-        Digits::Word(w) => words::double_of_bits(w),
-        Digits::NotDigits => 0.0,
+    let mut values = [0.0; 10];
+    for k in 0..10 {
+        values[k] = f64_from_bits_with_nan(hexadecimal::digits_at(line, 17 * k)?);
     }
+    Some(values)
 }
 
 // The sector list: one sector from 0 to 360 degrees without an object.
@@ -75,6 +43,7 @@ pub fn whole_horizon() -> [u8; 216]
 }
 
 // The window list: one near obstacle.
+#[tactic(auto, unfolding(crate::specs::Line::one_obstacle))]
 pub fn one_obstacle(height: f64, distance: f64, transparency: f64) -> [u8; 32]
     ensures { (result ≡ one_obstacle height distance transparency) × (32 ≡ length result) }
 {
@@ -93,7 +62,7 @@ pub fn listed_factor(
     shade: f64,
     distance: f64,
     transparency: f64,
-) -> FactorAnswer
+) -> Result<f64, Refusal>
     ensures { result ≡ factor_call 1 altitude azimuth surface whole_horizon (one_obstacle shade distance transparency) }
 {
     let sectors = whole_horizon();
@@ -102,25 +71,30 @@ pub fn listed_factor(
 }
 
 // The answer to a line without its line feed.
-pub fn line_answer(line: &[u8]) -> FactorAnswer
+pub fn line_answer(line: &[u8]) -> Result<f64, Refusal>
     ensures { result ≡ line_answer line.now }
 {
-    if !line_fine(line) {
-        return FactorAnswer::Refused(Refusal::Line);
-    }
-    let surface = Surface {
-        tilt: value_at(line, 5),
-        orientation: value_at(line, 6),
-        base_height: value_at(line, 2),
-        height: value_at(line, 3),
-        width: value_at(line, 4),
+    let Some(values) = values(line) else {
+        return Err(Refusal::Line);
     };
-    listed_factor(
-        value_at(line, 0),
-        value_at(line, 1),
-        surface,
-        value_at(line, 7),
-        value_at(line, 8),
-        value_at(line, 9),
-    )
+    let [
+        altitude,
+        azimuth,
+        base_height,
+        height,
+        width,
+        tilt,
+        orientation,
+        shade,
+        distance,
+        transparency,
+    ] = values;
+    let surface = Surface {
+        tilt,
+        orientation,
+        base_height,
+        height,
+        width,
+    };
+    listed_factor(altitude, azimuth, surface, shade, distance, transparency)
 }

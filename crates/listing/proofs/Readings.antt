@@ -1,4 +1,5 @@
 -- A listing read piece by piece prints what its definition says of the whole text.
+use Rattle.std.specs.Prelude.{Err}
 use mathlib.Core.Path.{◌≡◌, refl, sym, ◌∙◌, ap, ap₂}
 use mathlib.Core.Logic.{◌≢◌}
 use mathlib.Core.Bool.{Bool, true, false, cond, true≢false}
@@ -11,7 +12,6 @@ use lib.Seq.{take_all}
 use lib.ListN.{length, take, length-take}
 use Rattle.listing.specs.declared.reader.Stage.{Stage}
 use Rattle.listing.specs.declared.reader.Stage.TheVariants.{Names, Values, Over}
-use Rattle.objects.specs.declared.answers.FactorAnswer.TheVariants.{Refused}
 use Rattle.objects.specs.declared.answers.Refusal.TheVariants as refusal
 use Rattle.text.specs.Text.{ascii, same_text, last_line, lines_from, lines_of}
 use Rattle.lines.specs.Line.{output_line}
@@ -21,20 +21,18 @@ use Rattle.listing.specs.Reading.{Reading, line_start, with_part, printed, after
 
 -- ---- a last line that lacks its line feed
 
-pub names_last : (s : Stage) (l : List ℕ) → s ≡ Names → printed s l ≡ last_printed s l
+-- but for an empty one among lines with values it prints what any line does
+pub last_is_printed : (s : Stage) (l : List ℕ) → (s ≡ Values → length l ≡ 0 → ⊥) → printed s l ≡ last_printed s l
+unfolding last_printed printed
+last_is_printed Names l h = refl
+last_is_printed Values [] h = absurd (h refl refl)
+last_is_printed Values (a ∷ l) h = refl
+last_is_printed Over l h = refl
+
+pub none_printed : (s : Stage) (l : List ℕ) → s ≡ Values → length l ≡ 0 → [] ≡ last_printed s l
 unfolding last_printed
-names_last s l e = ap (λ (t : Stage). printed t l) e ∙ sym (ap (λ (t : Stage). last_printed t l) e)
-
-not_empty : (l : List ℕ) → length l ≢ 0 → printed Values l ≡ last_printed Values l
-unfolding last_printed
-not_empty [] h = absurd (h refl)
-not_empty (a ∷ l) h = refl
-
-pub values_last : (s : Stage) (l : List ℕ) → s ≡ Values → length l ≢ 0 → printed s l ≡ last_printed s l
-values_last s l e h = ap (λ (t : Stage). printed t l) e ∙ not_empty l h ∙ sym (ap (λ (t : Stage). last_printed t l) e)
-
-pub some_kept : (l : List ℕ) (n : ℕ) → length l ≡ 170 → n ≢ 0 → length (take n l) ≢ 0
-some_kept l n g h e = let z = length-take n l in h (omega (arith, g, e, z))
+none_printed s [] e h = rw e refl
+none_printed s (a ∷ l) e h = absurd (omega (arith, h))
 
 -- ---- by the byte that comes
 
@@ -85,18 +83,18 @@ values l (b ∷ rest) =
 
 -- the names line
 last_names : (l : List ℕ) → last_printed Names (take 170 l) ≡ body (last_line l)
-unfolding last_printed printed body last_line answered same_text names ascii
+unfolding last_printed printed body last_line answered names ascii
 last_names [] = refl
-last_names (a ∷ l) = ap (λ (b : Bool). cond b [] (output_line (Refused refusal.Line))) (cut_names (a ∷ l))
+last_names (a ∷ l) = ap (λ (b : Bool). cond b [] (output_line (Err refusal.Line))) (cut_names (a ∷ l))
 
 names_over : (l rest : List ℕ) → printed Names (take 170 l) ++ from_here (line_over (at Names (take 170 l))) rest ≡ body (l ∷ lines_from [] rest)
 unfolding printed line_over line_start after body
 names_over l rest = rw (cut_names l) (go (same_text l names))
   where
-    go : (b : Bool) → cond b [] (output_line (Refused refusal.Line)) ++ from_here (at (cond b Values Over) []) rest
-        ≡ cond b (answered (lines_from [] rest)) (output_line (Refused refusal.Line))
+    go : (b : Bool) → cond b [] (output_line (Err refusal.Line)) ++ from_here (at (cond b Values Over) []) rest
+        ≡ cond b (answered (lines_from [] rest)) (output_line (Err refusal.Line))
     go true = values [] rest
-    go false = ap (λ (l : List ℕ). output_line (Refused refusal.Line) ++ l) (over [] rest) ∙ append-nil _
+    go false = ap (λ (l : List ℕ). output_line (Err refusal.Line) ++ l) (over [] rest) ∙ append-nil _
 
 named : (l text : List ℕ) → from_here (at Names (take 170 l)) text ≡ body (lines_from l text)
 unfolding from_here lines_from

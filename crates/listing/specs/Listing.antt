@@ -1,6 +1,5 @@
 -- What the shade listing prints for a whole text.
-use Rattle.std.specs.Prelude.{cond, List, [], ◌∷◌, ◌++◌, ℕ}
-use Rattle.objects.specs.declared.answers.FactorAnswer.TheVariants.{Refused}
+use Rattle.std.specs.Prelude.{cond, List, [], ◌∷◌, ◌++◌, ℕ, Err}
 use Rattle.objects.specs.declared.answers.Refusal.TheVariants as refusal
 use Rattle.text.specs.Text.{ascii, same_text, lines_of}
 use Rattle.lines.specs.Line.{line_answer, output_line}
@@ -17,8 +16,8 @@ answered (l ∷ rest) = output_line (line_answer l) ++ answered rest
 
 -- the names line, then the lines with values; without the names line 12 and no more
 unfoldable pub body : List (List ℕ) → List ℕ
-body [] = output_line (Refused refusal.Line)
-body (l ∷ rest) = cond (same_text l names) (answered rest) (output_line (Refused refusal.Line))
+body [] = output_line (Err refusal.Line)
+body (l ∷ rest) = cond (same_text l names) (answered rest) (output_line (Err refusal.Line))
 
 unfoldable pub listing_of : List ℕ → List ℕ
 listing_of text = header ++ body (lines_of text)

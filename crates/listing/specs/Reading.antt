@@ -1,7 +1,6 @@
 -- A listing read piece by piece. Of a line that is not yet whole the first 170 bytes are kept: one more than a line with values has, so
 -- that a line that is too long shows.
-use Rattle.std.specs.Prelude.{Bool, true, false, cond, List, [], ◌∷◌, ◌++◌, ℕ, eqb, take}
-use Rattle.objects.specs.declared.answers.FactorAnswer.TheVariants.{Refused}
+use Rattle.std.specs.Prelude.{Bool, true, false, cond, List, [], ◌∷◌, ◌++◌, ℕ, eqb, take, Err}
 use Rattle.objects.specs.declared.answers.Refusal.TheVariants as refusal
 use Rattle.listing.specs.declared.reader.Stage.{Stage}
 use Rattle.listing.specs.declared.reader.Stage.TheVariants.{Names, Values, Over}
@@ -25,7 +24,7 @@ with_part r part = record { stage = r.stage; held = take 170 (r.held ++ part) }
 
 -- what a line prints, and what comes after it
 unfoldable pub printed : Stage → List ℕ → List ℕ
-printed Names l = cond (same_text l names) [] (output_line (Refused refusal.Line))
+printed Names l = cond (same_text l names) [] (output_line (Err refusal.Line))
 printed Values l = output_line (line_answer l)
 printed Over l = []
 
@@ -65,6 +64,6 @@ unfoldable pub printed_on : Reading → List ℕ → List ℕ
 printed_on r [] = []
 printed_on r (b ∷ rest) = cond (eqb b 10) (printed r.stage r.held ++ printed_on (line_over r) rest) (printed_on (with_part r (b ∷ [])) rest)
 
--- a reader stands for a reading: the first `count` bytes of its line are kept
-unfoldable pub reading_of : Reader → Reading
-reading_of r = record { stage = r.stage; held = take r.count r.line }
+-- a reader stands for a reading, by the first 170 bytes of its line, which has no more
+abbrev pub reading_of : Reader → Reading
+reading_of r = record { stage = r.stage; held = take 170 r.line.items }

@@ -1,15 +1,14 @@
 // A listing read piece by piece. All that is kept of the input is a part of one line, so a line may have any length.
-ghost use Rattle.std.specs.Prelude.{◌≡◌};
-ghost use Rattle.listing.specs.declared.reader.Stage.TheVariants.{Names};
-ghost use Rattle.text.specs.Text.{same_text, lines_of, filled, used_after};
+ghost use Rattle.std.specs.Prelude.{◌≡◌, take};
+ghost use Rattle.text.specs.Text.{same_text, lines_of};
 ghost use Rattle.listing.specs.Listing.{names, body};
-ghost use Rattle.lines.specs.Line.{bytes_of};
 ghost use Rattle.listing.specs.Reading.{line_start, with_part, after, line_over, printed, wants_more, last_printed, read_on, printed_on, reading_of};
 
+use arrayvec::ArrayVec;
 use lines::line::line_answer;
-use lines::output::{OutputLine, nothing, output_line, put};
-use objects::answers::{FactorAnswer, Refusal};
-use text::{append, least, line_end, same_text};
+use lines::output::{OutputLine, output_line};
+use objects::answers::Refusal;
+use text::{append, line_end, same_text};
 
 // The names line is awaited, or a line with values, or the listing has ended.
 #[derive(Clone, Copy)]
@@ -19,19 +18,11 @@ pub enum Stage {
     Over,
 }
 
-// What is kept between two pieces: the first `count` bytes of a line.
-#[derive(Clone, Copy)]
+// What is kept between two pieces: the first bytes of a line.
+#[derive(Drop)]
 pub struct Reader {
     pub stage: Stage,
-    pub count: usize,
-    pub line: [u8; 170],
-}
-
-// What the end of a line brings: the reader after it, and what is printed.
-#[derive(Clone, Copy)]
-pub struct Turn {
-    pub reader: Reader,
-    pub output: OutputLine,
+    pub line: ArrayVec<u8, 170>,
 }
 
 fn is_names(line: &[u8]) -> bool
@@ -43,144 +34,117 @@ fn is_names(line: &[u8]) -> bool
     )
 }
 
-// At the start of a line: of the names line, to begin with.
-pub fn line_start(stage: Stage) -> Reader
-    ensures { reading_of result ≡ line_start stage }
-{
-    Reader {
-        stage: stage,
-        count: 0,
-        line: [0; 170],
-    }
-}
-
-// More of the line that is being read.
-pub fn with_part(reader: Reader, part: &[u8]) -> Reader
-    ensures { reading_of result ≡ with_part (reading_of reader) part.now }
-{
-    let stage = reader.stage;
-    let mut line = reader.line;
-    let count = append(&mut line, reader.count, part);
-    Reader {
-        stage: stage,
-        count: count,
-        line: line,
-    }
-}
-
-// The names line has ended.
-fn names_over(line: &[u8]) -> Turn
-    ensures { (reading_of result.reader ≡ line_start (after Names line.now))
-        × (bytes_of result.output ≡ printed Names line.now) }
-{
-    if is_names(line) {
-        return Turn {
-            reader: line_start(Stage::Values),
-            output: nothing(),
-        };
-    }
-    Turn {
-        reader: line_start(Stage::Over),
-        output: output_line(FactorAnswer::Refused(Refusal::Line)),
-    }
-}
-
-// A line has ended.
-fn turn_at(stage: Stage, line: &[u8]) -> Turn
-    ensures { (reading_of result.reader ≡ line_start (after stage line.now))
-        × (bytes_of result.output ≡ printed stage line.now) }
+// What a line prints.
+fn printed(stage: Stage, line: &[u8]) -> OutputLine
+    ensures { result.items ≡ printed stage line.now }
 {
     match stage {
-        Stage::Names => names_over(line),
-        Stage::Values => Turn {
-            reader: line_start(Stage::Values),
-            output: output_line(line_answer(line)),
-        },
-        Stage::Over => Turn {
-            reader: line_start(Stage::Over),
-            output: nothing(),
-        },
-    }
-}
-
-// The line that is being read has ended.
-pub fn line_over(reader: Reader) -> Turn
-    ensures { (reading_of result.reader ≡ line_over (reading_of reader))
-        × (bytes_of result.output ≡ printed reader.stage (reading_of reader).held) }
-{
-    let stage = reader.stage;
-    let line = reader.line;
-    let n = least(reader.count, 170);
-    turn_at(stage, &line[..n])
-}
-
-// Whether anything that follows can still be answered: nothing is after a wrong names line.
-pub fn wants_more(reader: Reader) -> bool
-    ensures { result ≡ wants_more reader.stage }
-{
-    let stage = reader.stage;
-    match stage {
-        Stage::Names => true,
-        Stage::Values => true,
-        Stage::Over => false,
-    }
-}
-
-// What a piece brings: the reader after it, and how many bytes of the output list are used then.
-#[derive(Clone, Copy)]
-pub struct Answered {
-    pub reader: Reader,
-    pub used: usize,
-}
-
-// Answers the lines that end in a piece: puts what they print behind the first `used` bytes of a list, as far as there is room.
-pub fn answer_piece(reader: Reader, piece: &[u8], list: &mut [u8], used: usize) -> Answered
-    ensures { (reading_of result.reader ≡ read_on (reading_of reader) piece.now)
-        × (result.used ≡ used_after list.old used (printed_on (reading_of reader) piece.now))
-        × (list.new ≡ filled list.old used (printed_on (reading_of reader) piece.now)) }
-{
-    let mut current = reader;
-    let mut count = used;
-    let mut at = 0;
-    while at < piece.len() {
-        let end = line_end(piece, at);
-        current = with_part(current, &piece[at..end]);
-        at = end;
-        if end < piece.len() {
-            let turn = line_over(current);
-            current = turn.reader;
-            count = put(list, count, turn.output);
-            at = end + 1;
-        }
-    }
-    Answered {
-        reader: current,
-        used: count,
-    }
-}
-
-// The input has ended. Its last line may lack a line feed.
-pub fn input_over(reader: Reader) -> OutputLine
-    ensures { bytes_of result ≡ last_printed reader.stage (reading_of reader).held }
-{
-    let stage = reader.stage;
-    match stage {
-        Stage::Names => line_over(reader).output,
-        Stage::Values => {
-            if reader.count == 0 {
-                return nothing();
+        Stage::Names => {
+            if is_names(line) {
+                ArrayVec::new()
+            } else {
+                output_line(Err(Refusal::Line))
             }
-            line_over(reader).output
         }
-        Stage::Over => nothing(),
+        Stage::Values => output_line(line_answer(line)),
+        Stage::Over => ArrayVec::new(),
     }
 }
 
-// Answers a whole text: puts the lines that answer it at the start of a list, as far as there is room. Answers how many bytes they are.
-pub fn answer_text(text: &[u8], list: &mut [u8]) -> usize
-    ensures { (result ≡ used_after list.old 0 (body (lines_of text.now)))
-        × (list.new ≡ filled list.old 0 (body (lines_of text.now))) }
+// What comes after a line.
+fn after(stage: Stage, line: &[u8]) -> Stage
+    ensures { result ≡ after stage line.now }
 {
-    let answered = answer_piece(line_start(Stage::Names), text, list, 0);
-    put(list, answered.used, input_over(answered.reader))
+    match stage {
+        Stage::Names => {
+            if is_names(line) {
+                Stage::Values
+            } else {
+                Stage::Over
+            }
+        }
+        Stage::Values => Stage::Values,
+        Stage::Over => Stage::Over,
+    }
+}
+
+impl Reader {
+    // At the start of a line: of the names line, to begin with.
+    pub fn line_start(stage: Stage) -> Self
+        ensures { reading_of result ≡ line_start stage }
+    {
+        Reader {
+            stage,
+            line: ArrayVec::new(),
+        }
+    }
+
+    // More of the line that is being read.
+    pub fn take_part(&mut self, part: &[u8])
+        ensures { reading_of self.new ≡ with_part (reading_of self.old) part.now }
+    {
+        append(&mut self.line, part);
+    }
+
+    // The line that is being read has ended. Answers what is printed.
+    pub fn line_over(&mut self) -> OutputLine
+        ensures { (reading_of self.new ≡ line_over (reading_of self.old))
+            × (result.items ≡ printed self.old.stage (reading_of self.old).held) }
+    {
+        let output = printed(self.stage, self.line.as_slice());
+        self.stage = after(self.stage, self.line.as_slice());
+        self.line.clear();
+        output
+    }
+
+    // Whether anything that follows can still be answered: nothing is after a wrong names line.
+    pub fn wants_more(&self) -> bool
+        ensures { result ≡ wants_more self.now.stage }
+    {
+        match self.stage {
+            Stage::Names | Stage::Values => true,
+            Stage::Over => false,
+        }
+    }
+
+    // Leaves in a list what the lines print that end in a piece, as far as there is room.
+    pub fn answer_piece<const N: usize>(&mut self, piece: &[u8], list: &mut ArrayVec<u8, N>)
+        ensures { (reading_of self.new ≡ read_on (reading_of self.old) piece.now)
+            × (list.new.items ≡ take N (printed_on (reading_of self.old) piece.now)) }
+    {
+        list.clear();
+        let mut rest = piece;
+        // No index: what is left of the piece goes down a line at a time.
+        while let Some(end) = line_end(rest) {
+            self.take_part(&rest[..end]);
+            append(list, self.line_over().as_slice());
+            rest = &rest[end + 1..];
+        }
+        self.take_part(rest);
+    }
+
+    // The input has ended. Its last line may lack a line feed.
+    pub fn input_over(mut self) -> OutputLine
+        ensures { result.items ≡ last_printed self.stage (reading_of self).held }
+    {
+        match self.stage {
+            Stage::Values => {
+                if self.line.is_empty() {
+                    ArrayVec::new()
+                } else {
+                    self.line_over()
+                }
+            }
+            Stage::Names | Stage::Over => self.line_over(),
+        }
+    }
+}
+
+// Leaves in a list the lines that answer a whole text, as far as there is room.
+pub fn answer_text<const N: usize>(text: &[u8], list: &mut ArrayVec<u8, N>)
+    ensures { list.new.items ≡ take N (body (lines_of text.now)) }
+{
+    let mut reader = Reader::line_start(Stage::Names);
+    reader.answer_piece(text, list);
+    append(list, reader.input_over().as_slice());
 }

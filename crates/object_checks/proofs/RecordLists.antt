@@ -7,6 +7,7 @@ use Prim.Native.Nat.{ℕ, zero, suc, min, ◌+◌, ◌-◌, ◌*◌, ◌/◌, �
 use native.Mathlib.Omega.{arith}
 use borrow.Author.Tests.{eq-eqb, ne_eqb, le-leb, lt-leb, lt-ltb, le-ltb}
 use lib.Dec.{eqb}
+use Rattle.std.proofs.Math.Bool.{and-true}
 use lib.ListN.{length}
 use Rattle.words.specs.Lists.{first_fine}
 use Rattle.words.specs.Words.{word_at}
@@ -53,10 +54,6 @@ three_turned false true false rest = refl
 three_turned false false true rest = refl
 three_turned false false false rest = refl
 
-and-true : (a : Bool) → a ≡ a && true
-and-true true = refl
-and-true false = refl
-
 alike : (f g : ℕ → Bool) (n : ℕ) → ((j : ℕ) → j < n → f j ≡ g j) → first_fine f n ≡ first_fine g n
 unfolding first_fine
 alike f g zero h = refl
@@ -83,7 +80,7 @@ module _ (l : List ℕ) (k : ℕ) where
   unfolding counted_fine words_zero first_fine
   parted f n zero t e few h g =
       let all : n ≡ t = omega (arith, e) in
-      sym (and-true (counted_fine l k n)) ∙ alike (λ (j : ℕ). object_fine l (k + 3 * j)) f n h ∙ ap (first_fine f) all
+      and-true (counted_fine l k n) ∙ alike (λ (j : ℕ). object_fine l (k + 3 * j)) f n h ∙ ap (first_fine f) all
   parted f n (suc m) zero e few h g = absurd (omega (arith, e))
   parted f n (suc m) (suc t) e few h g =
       let rest : t ≡ n + m = omega (arith, e) in

@@ -1,7 +1,7 @@
 // The surface and what may shade it: as structs, and as records of the lent lists.
 #![tactic(auto)]
 
-ghost use Rattle.std.specs.Prelude.{◌≡◌, min};
+ghost use Rattle.std.specs.Prelude.{◌≡◌, min, take};
 
 pub mod answers;
 pub mod records;
@@ -13,8 +13,12 @@ pub mod window;
 pub fn counted_places(count: u64, places: u64) -> usize
     ensures { result ≡ min count places }
 {
-    if count < places {
-        return count as usize;
-    }
-    places as usize
+    count.min(places) as usize
+}
+
+// The counted ones of a list's places.
+fn counted_of<T>(places: &[T], count: u64) -> &[T]
+    ensures { result.now ≡ take count places.now }
+{
+    &places[..counted_places(count, places.len() as u64)]
 }

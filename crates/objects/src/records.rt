@@ -29,32 +29,36 @@ const NO_WINDOW_OBJECT: WindowShadingObject = WindowShadingObject {
     transparency: 0.0,
 };
 
-fn distant_kind(kind: u64) -> ShadingObjectType
-    ensures { result ≡ distant_kind kind }
-{
-    if kind == 0 {
-        return ShadingObjectType::Obstacle;
+// By a record's word: any number but 0 is an overhang's.
+impl From<u64> for ShadingObjectType {
+    ghost from_gives = { λ kind made. made ≡ distant_kind kind };
+
+    #[tactic(auto, unfolding(crate::specs::Records::distant_kind))]
+    fn from(kind: u64) -> Self {
+        match kind {
+            0 => ShadingObjectType::Obstacle,
+            _ => ShadingObjectType::Overhang,
+        }
     }
-    ShadingObjectType::Overhang
 }
 
-// The triple from word k on.
+// The triple from word k on. `Readable` and the bounds of a place stand at the leaves only: callers go by `Sectors` of `object_checks`,
+// whose invariant gives them.
+#[tactic(auto, unfolding(words::specs::Words::word_count))]
 fn object_at(bytes: &[u8], k: usize) -> ShadingObject
     requires readable { Readable bytes.now }
     requires k_bound { k + 2 < word_count bytes.now }
     ensures { result ≡ object_at bytes.now k }
 {
-    let object_type = distant_kind(word_within(bytes, k));
-    let height = number_within(bytes, k + 1);
-    let distance = number_within(bytes, k + 2);
     ShadingObject {
-        object_type: object_type,
-        height: height,
-        distance: distance,
+        object_type: ShadingObjectType::from(word_within(bytes, k)),
+        height: number_within(bytes, k + 1),
+        distance: number_within(bytes, k + 2),
     }
 }
 
 // The i-th sector of a checked list. One way through without a test, which the compiler can put where the record goes.
+#[tactic(auto, unfolding(crate::specs::Records::sector_count))]
 pub fn segment_at(bytes: &[u8], i: usize) -> ShadingSegment
     requires readable { Readable bytes.now }
     requires i_bound { i < sector_count bytes.now }
@@ -76,10 +80,10 @@ pub fn segment_at(bytes: &[u8], i: usize) -> ShadingSegment
         object_at(bytes, first + 21),
     ];
     ShadingSegment {
-        start360: start360,
-        end360: end360,
-        count: count,
-        shading_objects: shading_objects,
+        start360,
+        end360,
+        count,
+        shading_objects,
     }
 }
 
@@ -111,30 +115,26 @@ pub fn sectors_of(bytes: &[u8], n: usize) -> [ShadingSegment; 36]
     ensures { result ≡ sector_places bytes.now n }
 {
     let mut places = no_sectors();
-    let mut i: usize = 0;
-    while i < n {
+    for i in 0..n {
         places[i] = segment_at(bytes, i);
-        i += 1;
     }
     places
 }
 
-fn window_kind(kind: u64) -> WindowShadingType
-    ensures { result ≡ window_kind kind }
-{
-    if kind == 0 {
-        return WindowShadingType::Obstacle;
+// By a record's word: any number from 4 on is a reveal's.
+impl From<u64> for WindowShadingType {
+    ghost from_gives = { λ kind made. made ≡ window_kind kind };
+
+    #[tactic(auto, unfolding(crate::specs::Records::window_kind))]
+    fn from(kind: u64) -> Self {
+        match kind {
+            0 => WindowShadingType::Obstacle,
+            1 => WindowShadingType::Overhang,
+            2 => WindowShadingType::SideFinRight,
+            3 => WindowShadingType::SideFinLeft,
+            _ => WindowShadingType::Reveal,
+        }
     }
-    if kind == 1 {
-        return WindowShadingType::Overhang;
-    }
-    if kind == 2 {
-        return WindowShadingType::SideFinRight;
-    }
-    if kind == 3 {
-        return WindowShadingType::SideFinLeft;
-    }
-    WindowShadingType::Reveal
 }
 
 fn window_object_at(bytes: &[u8], i: usize) -> WindowShadingObject
@@ -142,18 +142,19 @@ fn window_object_at(bytes: &[u8], i: usize) -> WindowShadingObject
     ensures { result ≡ window_object_at bytes.now i }
 {
     let k = 4 * i;
-    let object_type = window_kind(word_at(bytes, k));
+    let object_type = WindowShadingType::from(word_at(bytes, k));
     let size = double_at(bytes, k + 1);
     let distance = double_at(bytes, k + 2);
     let transparency = double_at(bytes, k + 3);
     WindowShadingObject {
-        object_type: object_type,
-        size: size,
-        distance: distance,
-        transparency: transparency,
+        object_type,
+        size,
+        distance,
+        transparency,
     }
 }
 
+// One of this kind is not generic with `no_sectors`: a table comes from a function of its own, so that the compiler clears it in one go.
 fn no_window_objects() -> [WindowShadingObject; 16]
     ensures { result ≡ replicate 16 no_window_object }
 {
@@ -166,15 +167,12 @@ pub fn window_of(bytes: &[u8]) -> WindowShading
     ensures { result ≡ window_of bytes.now }
 {
     let n = word_count(bytes) / 4;
-    let blanks = no_window_objects();
     let mut window = WindowShading {
         count: n as u64,
-        objects: blanks,
+        objects: no_window_objects(),
     };
-    let mut i: usize = 0;
-    while i < n {
+    for i in 0..n {
         window.objects[i] = window_object_at(bytes, i);
-        i += 1;
     }
     window
 }

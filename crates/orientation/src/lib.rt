@@ -18,10 +18,10 @@ pub fn wrap_once(angle: f64) -> f64
     ensures { result ≡ wrapped_once angle }
 {
     if angle > 180.0 {
-        return angle - 360.0;
+        angle - 360.0
+    } else if angle < -180.0 {
+        angle + 360.0
+    } else {
+        angle
     }
-    if angle < -180.0 {
-        return angle + 360.0;
-    }
-    angle
 }

@@ -1,13 +1,13 @@
 -- Answers as they cross to C: the specification's numbers, 0 where accepted; on a refusal all else is 0.
-use Rattle.std.specs.Prelude.{List, Float, ℤ, ℕ}
+use Rattle.std.specs.Prelude.{List, Float, ℤ, ℕ, Err, Ok, Result}
+use Rattle.objects.specs.declared.answers.Refusal.{Refusal}
+use Rattle.jobs.specs.declared.answers.Accepted.{Accepted}
+use Rattle.jobs.specs.declared.answers.RefusedAt.{RefusedAt}
 use Rattle.doubles.specs.Arithmetic.{whole}
 use Rattle.sun.specs.declared.site.Site.{Site}
 use Rattle.simulation_time.specs.declared.run.Run.{Run}
 use Rattle.objects.specs.declared.surface.Surface.{Surface}
-use Rattle.objects.specs.declared.answers.FactorAnswer.{FactorAnswer}
-use Rattle.objects.specs.declared.answers.FactorAnswer.TheVariants.{Factor, Refused}
 use Rattle.objects.specs.Refusals.{number_of}
-use Rattle.jobs.specs.declared.answers.RunAnswer.{RunAnswer}
 use Rattle.weather.specs.declared.Reading.{Reading}
 use Rattle.jobs.specs.Run.{Left, number_for, step_for, count_for, sum_for}
 use Rattle.strips.specs.declared.glazing.TallGlazing.{TallGlazing}
@@ -15,13 +15,13 @@ use Rattle.single_steps.specs.Single.{Called, single_number}
 use Rattle.pilgartze.specs.declared.Answer.{Answer}
 use Rattle.pilgartze.specs.declared.ShadingFactor.{ShadingFactor}
 
-unfoldable pub answer_for : RunAnswer → Answer
+unfoldable pub answer_for : Result Accepted RefusedAt → Answer
 answer_for a = record { number = number_for a; step = step_for a; count = count_for a; sum = sum_for a }
 
-unfoldable pub factor_for : FactorAnswer → ShadingFactor
+unfoldable pub factor_for : Result Float Refusal → ShadingFactor
 unfolding whole
-factor_for (Factor x) = record { number = 0; factor = x }
-factor_for (Refused r) = record { number = number_of r; factor = whole 0 }
+factor_for (Ok x) = record { number = 0; factor = x }
+factor_for (Err r) = record { number = number_of r; factor = whole 0 }
 
 -- ---- what a call leaves: its answer, and the lists at exit that it was lent to store in
 

@@ -14,13 +14,14 @@ ghost use Rattle.single_steps.specs.Single.{step_call, irradiance_call};
 ghost use Rattle.pilgartze.specs.CallAnswers.{answer_for, factor_for, run_leaves, call_leaves, site_of, times_of, surface_of, glazing_of, reading_of};
 ghost use Rattle.pilgartze.specs.Version.{version};
 
-use jobs::answers::RunAnswer;
-use objects::answers::{FactorAnswer, number_of};
+use jobs::answers::{Accepted, RefusedAt};
+use objects::answers::Refusal;
 use objects::surface::Surface;
+use runs::job::Job;
 use simulation_time::run::Run;
 use strips::glazing::TallGlazing;
 use sun::site::Site;
-use weather::Reading;
+use weather::{Reading, Series};
 
 // What a run answers: the refusal's number, or 0, and its step; the step count and the sum in Wh/m², both 0 on a refusal.
 #[repr(C)]
@@ -40,37 +41,40 @@ pub struct ShadingFactor {
     pub factor: f64,
 }
 
-fn answer_for(answer: RunAnswer) -> Answer
-    ensures { result ≡ answer_for answer }
-{
-    match answer {
-        RunAnswer::Accepted { count, sum } => Answer {
-            number: 0,
-            step: 0,
-            count: count,
-            sum: sum,
-        },
-        RunAnswer::Refused { refusal, step } => Answer {
-            number: number_of(refusal),
-            step: step,
-            count: 0,
-            sum: 0.0,
-        },
+impl From<Result<Accepted, RefusedAt>> for Answer {
+    ghost from_gives = { λ outcome answer. answer ≡ answer_for outcome };
+
+    #[tactic(auto, unfolding(crate::specs::CallAnswers::answer_for, jobs::specs::Run::number_for, jobs::specs::Run::step_for, jobs::specs::Run::count_for, jobs::specs::Run::sum_for, doubles::specs::Arithmetic::whole))]
+    fn from(outcome: Result<Accepted, RefusedAt>) -> Answer {
+        match outcome {
+            Ok(run) => Answer {
+                number: 0,
+                step: 0,
+                count: run.count,
+                sum: run.sum,
+            },
+            Err(fault) => Answer {
+                number: u64::from(fault.refusal),
+                step: fault.step,
+                count: 0,
+                sum: 0.0,
+            },
+        }
     }
 }
 
-fn factor_for(answer: FactorAnswer) -> ShadingFactor
-    ensures { result ≡ factor_for answer }
-{
-    match answer {
-        FactorAnswer::Factor(factor) => ShadingFactor {
-            number: 0,
-            factor: factor,
-        },
-        FactorAnswer::Refused(refusal) => ShadingFactor {
-            number: number_of(refusal),
-            factor: 0.0,
-        },
+impl From<Result<f64, Refusal>> for ShadingFactor {
+    ghost from_gives = { λ outcome answer. answer ≡ factor_for outcome };
+
+    #[tactic(auto, unfolding(crate::specs::CallAnswers::factor_for, doubles::specs::Arithmetic::whole))]
+    fn from(outcome: Result<f64, Refusal>) -> ShadingFactor {
+        match outcome {
+            Ok(factor) => ShadingFactor { number: 0, factor },
+            Err(refusal) => ShadingFactor {
+                number: u64::from(refusal),
+                factor: 0.0,
+            },
+        }
     }
 }
 
@@ -88,15 +92,15 @@ fn site_of(
     ensures { result ≡ site_of latitude longitude timezone start_day series_step leap_year direct_beam_conversion first_leaf_day last_leaf_day }
 {
     Site {
-        latitude: latitude,
-        longitude: longitude,
-        timezone: timezone,
-        start_day: start_day,
+        latitude,
+        longitude,
+        timezone,
+        start_day,
         time_series_step: series_step,
-        leap_year: leap_year,
-        direct_beam_conversion: direct_beam_conversion,
-        first_leaf_day: first_leaf_day,
-        last_leaf_day: last_leaf_day,
+        leap_year,
+        direct_beam_conversion,
+        first_leaf_day,
+        last_leaf_day,
     }
 }
 
@@ -104,11 +108,11 @@ fn surface_of(tilt: f64, orientation: f64, base_height: f64, height: f64, width:
     ensures { result ≡ surface_of tilt orientation base_height height width }
 {
     Surface {
-        tilt: tilt,
-        orientation: orientation,
-        base_height: base_height,
-        height: height,
-        width: width,
+        tilt,
+        orientation,
+        base_height,
+        height,
+        width,
     }
 }
 
@@ -170,27 +174,23 @@ pub extern "C" fn pilgartze_run<'a>(
         first_leaf_day,
         last_leaf_day,
     );
-    let times = Run {
-        start: start,
-        end: end,
-        step: step,
-    };
+    let times = Run { start, end, step };
     let surface = surface_of(tilt, orientation, base_height, height, width);
-    answer_for(runs::run::run_job(
+    let job = Job {
         edition,
         site,
-        times,
+        run: times,
         surface,
-        diffuse,
-        direct,
-        reflectivity,
+        series: Series {
+            diffuse,
+            direct,
+            reflectivity,
+        },
         summer,
         winter,
         window,
-        days,
-        totals,
-        results,
-    ))
+    };
+    Answer::from(runs::run::run_job(&job, days, totals, results))
 }
 
 // One step: the row that a run has at that time, in the first six words of the results. Answers 0, or the refusal's number.
@@ -238,9 +238,9 @@ pub extern "C" fn pilgartze_step<'a>(
     );
     let surface = surface_of(tilt, orientation, base_height, height, width);
     let reading = Reading {
-        diffuse: diffuse,
-        direct: direct,
-        reflectivity: reflectivity,
+        diffuse,
+        direct,
+        reflectivity,
     };
     single_steps::single_number(single_steps::step_call(
         edition, site, time, surface, reading, summer, winter, window, results,
@@ -288,9 +288,9 @@ pub extern "C" fn pilgartze_irradiance(
     );
     let surface = surface_of(tilt, orientation, base_height, height, width);
     let reading = Reading {
-        diffuse: diffuse,
-        direct: direct,
-        reflectivity: reflectivity,
+        diffuse,
+        direct,
+        reflectivity,
     };
     single_steps::single_number(single_steps::irradiance_call(
         site, time, surface, reading, results,
@@ -316,7 +316,9 @@ pub extern "C" fn pilgartze_factor(
     ensures doubles { Doubles (surface_of tilt orientation base_height height width) }
 {
     let surface = surface_of(tilt, orientation, base_height, height, width);
-    factor_for(shading::step::factor_call(edition, altitude, azimuth, surface, sectors, window))
+    ShadingFactor::from(shading::step::factor_call(
+        edition, altitude, azimuth, surface, sectors, window,
+    ))
 }
 
 // The direct shading factor of tall glazing in strips, at one step. That the width is a double is what the laws of strips ask of it
@@ -339,12 +341,12 @@ pub extern "C" fn pilgartze_strips(
     ensures fits { Fits width }
 {
     let glazing = TallGlazing {
-        tilt: tilt,
-        orientation: orientation,
-        base_height: base_height,
-        width: width,
+        tilt,
+        orientation,
+        base_height,
+        width,
     };
-    factor_for(strips::factor::strips_call(
+    ShadingFactor::from(strips::factor::strips_call(
         edition, altitude, azimuth, glazing, heights, sectors, window,
     ))
 }

@@ -4,49 +4,35 @@
 ghost use Rattle.std.specs.Prelude.{◌≡◌};
 ghost use Rattle.powers.specs.Power.{logarithm_of, power_of, pow_minus1253};
 
+// The divisors 2n + 1 of the logarithm's terms, for n from 10 down to 0.
+const ODD_NUMBERS: [f64; 11] = [21.0, 19.0, 17.0, 15.0, 13.0, 11.0, 9.0, 7.0, 5.0, 3.0, 1.0];
+
 // The natural logarithm of w · 2 ^ m.
 fn logarithm(m: f64, w: f64) -> f64
     ensures { result ≡ logarithm_of m w }
 {
     let z = (w - 1.0) / (w + 1.0);
-    let s = z * z;
-    let h = 1.0 / 23.0;
-    let h = 1.0 / 21.0 + s * h;
-    let h = 1.0 / 19.0 + s * h;
-    let h = 1.0 / 17.0 + s * h;
-    let h = 1.0 / 15.0 + s * h;
-    let h = 1.0 / 13.0 + s * h;
-    let h = 1.0 / 11.0 + s * h;
-    let h = 1.0 / 9.0 + s * h;
-    let h = 1.0 / 7.0 + s * h;
-    let h = 1.0 / 5.0 + s * h;
-    let h = 1.0 / 3.0 + s * h;
-    let h = 1.0 / 1.0 + s * h;
+    let mut h = 1.0 / 23.0;
+    for divisor in ODD_NUMBERS {
+        h = 1.0 / divisor + z * z * h;
+    }
     m * 0.6931471805599453 + 2.0 * z * h
 }
+
+// The divisors n of the exponential series' steps, from 16 down to 1.
+const DIVISORS: [f64; 16] = [
+    16.0, 15.0, 14.0, 13.0, 12.0, 11.0, 10.0, 9.0, 8.0, 7.0, 6.0, 5.0, 4.0, 3.0, 2.0, 1.0,
+];
 
 // e to the power −1.253 · l.
 fn power(l: f64) -> f64
     ensures { result ≡ power_of l }
 {
     let v = -1.253 * l / 16.0;
-    let h = 1.0;
-    let h = 1.0 + v / 16.0 * h;
-    let h = 1.0 + v / 15.0 * h;
-    let h = 1.0 + v / 14.0 * h;
-    let h = 1.0 + v / 13.0 * h;
-    let h = 1.0 + v / 12.0 * h;
-    let h = 1.0 + v / 11.0 * h;
-    let h = 1.0 + v / 10.0 * h;
-    let h = 1.0 + v / 9.0 * h;
-    let h = 1.0 + v / 8.0 * h;
-    let h = 1.0 + v / 7.0 * h;
-    let h = 1.0 + v / 6.0 * h;
-    let h = 1.0 + v / 5.0 * h;
-    let h = 1.0 + v / 4.0 * h;
-    let h = 1.0 + v / 3.0 * h;
-    let h = 1.0 + v / 2.0 * h;
-    let h = 1.0 + v / 1.0 * h;
+    let mut h = 1.0;
+    for divisor in DIVISORS {
+        h = 1.0 + v / divisor * h;
+    }
     let p2 = h * h;
     let p4 = p2 * p2;
     let p8 = p4 * p4;
@@ -66,6 +52,6 @@ pub fn pow_minus_1_253(u: f64) -> f64
             power(logarithm(4.0, u / 16.0))
         }
     } else {
-        0.0 / 0.0
+        f64::NAN
     }
 }

@@ -11,8 +11,6 @@ ghost use Rattle.words.specs.Words.{word_count, word_at, put_word, double_at, pu
 ghost use Rattle.hexadecimal.specs.Hexadecimal.{digits_at, put_digits};
 ghost use Rattle.probes.specs.Answers.{digits_answer};
 
-use hexadecimal::Digits;
-
 pub mod sky;
 
 // The smaller, or the second where the comparison fails.
@@ -119,7 +117,7 @@ pub extern "C" fn probe_store_double(bytes: &mut [u8], k: usize, x: f64)
     words::store_double(bytes, k, x);
 }
 
-// found is 1 with the word, or 0 with 0.
+// found is 1 with the word, or 0 with 0: a C struct, since an Option does not cross to C.
 #[repr(C)]
 #[derive(Clone, Copy)]
 pub struct ProbeDigits {
@@ -133,8 +131,8 @@ pub extern "C" fn probe_digits_at(text: &[u8], at: usize) -> ProbeDigits
     ensures { result ≡ digits_answer (digits_at text.now at) }
 {
     match hexadecimal::digits_at(text, at) {
-        Digits::Word(word) => ProbeDigits { found: 1, word },
-        Digits::NotDigits => ProbeDigits { found: 0, word: 0 },
+        Some(word) => ProbeDigits { found: 1, word },
+        None => ProbeDigits { found: 0, word: 0 },
     }
 }
 

@@ -11,54 +11,42 @@ use std::{fs, io};
 use words::word_at;
 
 // How many records there were, and how many came out otherwise.
-#[derive(Clone, Copy)]
+#[derive(Clone, Copy, Default)]
 struct Tally {
     count: u64,
     different: u64,
 }
 
-// The tally after a block of a file, and whether to go on.
-#[derive(Clone, Copy)]
-struct Progress {
-    tally: Tally,
-    going: bool,
+impl Tally {
+    // One record more. The zeros behind a block's last record are none.
+    fn add_record(&mut self, kept: &[u8]) {
+        if word_at(kept, 0) == 0 {
+            return;
+        }
+        self.count = self.count.wrapping_add(1);
+        if kept_answers::differs(kept) {
+            self.different = self.different.wrapping_add(1);
+        }
+    }
+
+    // All records of a block.
+    fn add_block(&mut self, block: &[u8]) {
+        let mut rest = block;
+        // No index: what is left of the block goes down a record at a time.
+        while !rest.is_empty() {
+            let (record, behind) = rest.split_at(record_end(rest, 0));
+            self.add_record(record);
+            rest = behind;
+        }
+    }
 }
 
-// The tally with one record more. The zeros behind a block's last record are none.
-fn with_record(tally: Tally, kept: &[u8]) -> Tally {
-    if word_at(kept, 0) == 0 {
-        return tally;
-    }
-    let count = tally.count.wrapping_add(1);
-    if kept_answers::differs(kept) {
-        return Tally {
-            count: count,
-            different: tally.different.wrapping_add(1),
-        };
-    }
-    Tally {
-        count: count,
-        different: tally.different,
-    }
-}
-
-// All records of a block.
-fn with_block(first: Tally, block: &[u8]) -> Tally {
-    let mut tally = first;
-    let mut at = 0;
-    while at < block.len() {
-        let end = record_end(block, at);
-        tally = with_record(tally, &block[at..end]);
-        at = end;
-    }
-    tally
-}
-
-// Reads until the block is full or the file ends. Answers how many bytes were read.
+// Reads until the block is full or the file ends. Answers how many bytes were read, which the library's `read_exact` does not tell.
 fn read_full(file: &mut impl Read, block: &mut [u8]) -> io::Result<usize>
     ensures { ReadsAtMost result block.new }
 {
     let mut done = 0;
+    // No index: how far a read gets is known after it.
     while done < block.len() {
         let n = file.read(&mut block[done..])?;
         if n == 0 {
@@ -69,26 +57,20 @@ fn read_full(file: &mut impl Read, block: &mut [u8]) -> io::Result<usize>
     Ok(done)
 }
 
-// Reads a block and replays it. No record lies in two blocks, and only the last one is shorter than the buffer.
-fn read_block(file: &mut impl Read, tally: Tally) -> io::Result<Progress> {
+// Reads a block and replays it. Answers how many bytes it has. No record lies in two blocks, and only the last one is shorter than the
+// buffer.
+fn read_block(file: &mut impl Read, tally: &mut Tally) -> io::Result<usize> {
     let mut block = [0u8; 65536];
     let n = read_full(file, &mut block)?;
-    Ok(Progress {
-        tally: with_block(tally, &block[..n]),
-        going: n > 0,
-    })
+    tally.add_block(&block[..n]);
+    Ok(n)
 }
 
 // Nothing says that a file ends, so the loop has a bound, which no file comes to.
 fn replayed(file: &mut impl Read) -> io::Result<Tally> {
-    let mut tally = Tally {
-        count: 0,
-        different: 0,
-    };
+    let mut tally = Tally::default();
     for _ in 0..u64::MAX {
-        let progress = read_block(file, tally)?;
-        tally = progress.tally;
-        if !progress.going {
+        if read_block(file, &mut tally)? == 0 {
             break;
         }
     }

@@ -1,4 +1,5 @@
 // The correctly rounded square root of a double, in whole-number arithmetic. What a reader must believe of it is specs/IsRoot.antt.
+// Not by the library's `sqrt`, since the specification states the root over whole numbers.
 #![tactic(auto)]
 
 ghost use Rattle.std.specs.Prelude.{◌≡◌, false, ◌+◌, ◌*◌, ◌/◌, ◌%◌, ◌^◌, ◌<◌, ◌≤◌};
@@ -10,12 +11,10 @@ ghost use Rattle.roots.specs.Root.{whole_root, nearest_root, square_root};
 fn whole_root(h: u64) -> u64
     ensures { result ≡ whole_root 32 h }
 {
-    let mut r: u64 = 0;
-    let mut i: u64 = 0;
-    while i < 32 {
-        i += 1;
+    let mut r = 0;
+    for i in 0..32u64 {
         r *= 2;
-        if (r + 1) * (r + 1) <= h >> (64 - 2 * i) {
+        if (r + 1) * (r + 1) <= h >> (62 - 2 * i) {
             r += 1;
         }
     }
@@ -40,7 +39,7 @@ fn guess(m: u64, p: u64) -> u64
     // 2^21 puts the digits of the root down to 2^-31 at the end of the pattern
     let t = (s + 2097151.9999999981) + s * e * (0.5 + 0.375 * e);
     if t > 0.0 {
-        f64::to_bits(t) % 0x1_0000_0000
+        t.to_bits() % 0x1_0000_0000
     } else {
         0
     }
@@ -51,12 +50,11 @@ fn lower_root(h: u64, g: u64) -> u64
     requires { g < 2 ^ 32 }
     ensures { (result * result ≤ h) × (h ≤ result * result + 32 * result) }
 {
-    if g * g <= h {
-        if h - g * g <= 32 * g {
-            return g;
-        }
+    if g * g <= h && h - g * g <= 32 * g {
+        g
+    } else {
+        whole_root(h)
     }
-    whole_root(h)
 }
 
 // The whole number nearest to the root of h * 2^42, with a guess g at h's root. With s below h's root
@@ -100,7 +98,7 @@ fn root_of_bits(b: u64) -> f64
     if field > 0 {
         return root_of(0x10_0000_0000_0000 + b % 0x10_0000_0000_0000, field + 53);
     }
-    let lift = (u64::leading_zeros(b) as u64) - 11;
+    let lift = b.leading_zeros() as u64 - 11;
     root_of(b << lift, 54 - lift)
 }
 
@@ -109,7 +107,7 @@ pub fn sqrt(x: f64) -> f64
     ensures { result ≡ square_root x }
 {
     if x > 0.0 {
-        let b = f64::to_bits(x);
+        let b = x.to_bits();
         if b < 0x7ff0_0000_0000_0000 {
             return root_of_bits(b);
         }
@@ -118,5 +116,5 @@ pub fn sqrt(x: f64) -> f64
     if x == 0.0 {
         return x; // a zero, with its sign
     }
-    0.0 / 0.0
+    f64::NAN
 }

@@ -1,4 +1,6 @@
 -- The checks of a job, one after the other: where one fails its refusal is the answer, and where it passes the next is tried.
+use Rattle.std.specs.Prelude.{Err, Ok, Result, ℕ}
+use Rattle.objects.specs.declared.answers.Refusal.{Refusal}
 use mathlib.Core.Path.{◌≡◌, refl}
 use mathlib.Core.Bool.{Bool, true, false, ◌&&◌}
 use mathlib.Core.List.{List}
@@ -19,8 +21,6 @@ use Rattle.objects.specs.declared.answers.Refusal.TheVariants as refusal
 use Rattle.fins.specs.Fins.{edition_fine}
 use Rattle.objects.specs.Surface.{surface_fine}
 use Rattle.object_checks.specs.Checks.{sectors_fine, window_fine}
-use Rattle.jobs.specs.declared.answers.Checked.{Checked}
-use Rattle.jobs.specs.declared.answers.Checked.TheVariants.{Steps, Refused}
 use Rattle.jobs.specs.Job.{Job}
 use Rattle.jobs.specs.JobChecks.{indices_fine, readings_fine, tried, series_checked, checked}
 
@@ -31,53 +31,53 @@ module _ (day : ℕ) (step : Float) (run : Run) (diffuse direct reflectivity : L
   abbrev pub ReadingsAre : Bool → Type 0
   ReadingsAre b = readings_fine day step diffuse direct reflectivity (times run) ≡ b
 
-  abbrev pub Comes : Checked → Type 0
+  abbrev pub Comes : Result ℕ Refusal → Type 0
   Comes answer = answer ≡ series_checked day step run diffuse direct reflectivity room
 
-  pub series_refused : IndicesAre false → Comes (Refused refusal.Series)
+  pub series_refused : IndicesAre false → Comes (Err refusal.Series)
   unfolding series_checked tried
   series_refused e = rw e refl
 
-  pub reading_refused : IndicesAre true → ReadingsAre false → Comes (Refused refusal.Reading)
+  pub reading_refused : IndicesAre true → ReadingsAre false → Comes (Err refusal.Reading)
   unfolding series_checked tried
   reading_refused e f = rw (e, f) refl
 
-  pub results_refused : IndicesAre true → ReadingsAre true → room ≡ false → Comes (Refused refusal.Results)
+  pub results_refused : IndicesAre true → ReadingsAre true → room ≡ false → Comes (Err refusal.Results)
   unfolding series_checked tried
   results_refused e f h = rw (e, f, h) refl
 
-  pub series_passed : IndicesAre true → ReadingsAre true → room ≡ true → Comes (Steps (step_count run))
+  pub series_passed : IndicesAre true → ReadingsAre true → room ≡ true → Comes (Ok (step_count run))
   unfolding series_checked tried
   series_passed e f h = rw (e, f, h) refl
 
 module _ (job : Job) (room : Bool) where
-  pub edition_refused : edition_fine job.edition ≡ false → Refused refusal.Edition ≡ checked job room
+  pub edition_refused : edition_fine job.edition ≡ false → Err refusal.Edition ≡ checked job room
   unfolding checked tried
   edition_refused e = rw e refl
 
   module _ (edition : edition_fine job.edition ≡ true) where
-    pub site_refused : site_fine job.site ≡ false → Refused refusal.Site ≡ checked job room
+    pub site_refused : site_fine job.site ≡ false → Err refusal.Site ≡ checked job room
     unfolding checked tried
     site_refused e = rw (edition, e) refl
 
     module _ (site : site_fine job.site ≡ true) where
-      pub leaf_day_refused : leaf_days_fine job.site ≡ false → Refused refusal.LeafDay ≡ checked job room
+      pub leaf_day_refused : leaf_days_fine job.site ≡ false → Err refusal.LeafDay ≡ checked job room
       unfolding checked tried
       leaf_day_refused e = rw (edition, site, e) refl
 
       module _ (leaf-days : leaf_days_fine job.site ≡ true) where
-        pub run_refused : run_accepted (hours_in_year job.site) job.run ≡ false → Refused refusal.Run ≡ checked job room
+        pub run_refused : run_accepted (hours_in_year job.site) job.run ≡ false → Err refusal.Run ≡ checked job room
         unfolding checked tried
         run_refused e = rw (edition, site, leaf-days, e) refl
 
         module _ (steps : run_accepted (hours_in_year job.site) job.run ≡ true) where
-          pub surface_refused : surface_fine job.surface ≡ false → Refused refusal.Surface ≡ checked job room
+          pub surface_refused : surface_fine job.surface ≡ false → Err refusal.Surface ≡ checked job room
           unfolding checked tried
           surface_refused e = rw (edition, site, leaf-days, steps, e) refl
 
           module _ (surface : surface_fine job.surface ≡ true) where
             pub object_refused : sectors_fine job.summer && sectors_fine job.winter && window_fine job.window ≡ false
-                → Refused refusal.Object ≡ checked job room
+                → Err refusal.Object ≡ checked job room
             unfolding checked tried
             object_refused e = rw (edition, site, leaf-days, steps, surface, e) refl
 

@@ -1,35 +1,25 @@
 -- A run goes on from a step by its row, ends at a refused one, and ends with the last; here over a loop that counts up to `count`.
-use mathlib.Core.Path.{◌≡◌, sym, ap, ap₂, ◌∙◌, subst}
-use mathlib.Core.Bool.{Bool}
-use mathlib.Core.List.{List}
-use Prim.Native.Nat.{ℕ, suc, ◌+◌, ◌-◌, ◌*◌, ◌/◌, ◌≤◌, ◌<◌}
-use native.Mathlib.Omega.{arith}
-use lib.ListN.{length}
+use Rattle.std.specs.Prelude.{Err, Ok, Result}
+use Rattle.jobs.specs.declared.answers.Accepted.{Accepted}
+use Rattle.jobs.specs.declared.answers.RefusedAt.{RefusedAt}
+use Rattle.jobs.specs.Run.{accepted, refused_at}
+use Rattle.std.proofs.Common.{◌≡◌, ℕ, suc, ◌+◌, ◌-◌, ◌*◌, ◌/◌, ◌≤◌, ◌<◌, Bool, true, false, List, length, eqb, refl, sym, ap, ◌∙◌, subst, arith}
+use mathlib.Core.Path.{ap₂}
+use Rattle.std.proofs.lemmas.Bool.{eqb-true}
 use lib.Ieee.{Float}
 use Rattle.doubles.specs.Arithmetic.{◌⊕◌, whole}
 use Rattle.words.specs.Words.{word_count}
 use Rattle.calendar.specs.Calendar.{days_in_year}
-use Rattle.sun.specs.declared.site.Site.{Site}
 use Rattle.sun.specs.Site.{leap_year_of}
-use Rattle.sun.specs.Hour.{hour_of}
-use Rattle.seasons.specs.declared.table.SeasonTable.{SeasonTable}
-use Rattle.seasons.specs.Seasons.{in_leaf, sectors_for}
-use Rattle.seasons.specs.Table.{season_table}
 use Rattle.simulation_time.specs.declared.run.Run.{Run}
 use Rattle.simulation_time.specs.Steps.{time_at}
 use Rattle.simulation_time.specs.Timestep.{current_hour}
-use Rattle.objects.specs.declared.surface.Surface.{Surface}
-use Rattle.objects.specs.declared.answers.FactorAnswer.{FactorAnswer}
 use Rattle.objects.specs.declared.answers.Refusal.{Refusal}
 use Rattle.jobs.specs.declared.answers.Row.{Row}
-use Rattle.jobs.specs.declared.answers.StepAnswer.{StepAnswer}
-use Rattle.jobs.specs.declared.answers.StepAnswer.TheVariants as step
-use Rattle.jobs.specs.declared.answers.RunAnswer.TheVariants.{Accepted, Refused}
-use Rattle.jobs.specs.Job.{Job, reading_at}
-use Rattle.jobs.specs.Step.{job_sectors, shading_at, step_with, step_at}
+use Rattle.jobs.specs.Job.{Job}
+use Rattle.jobs.specs.Step.{step_at}
 use Rattle.jobs.specs.Rows.{put_row, with_row}
 use Rattle.jobs.specs.Totals.{day_of_step, totals_count, month_part, totals_at, with_totals}
-use Rattle.jobs.specs.declared.answers.RunAnswer.{RunAnswer}
 use Rattle.jobs.specs.Run.{Ran, ran, rows_stored, run_from}
 use Rattle.jobs.proofs.RowStores.{RowFits}
 use Rattle.jobs.proofs.StepRows.{step_row, row_fits}
@@ -37,38 +27,23 @@ use Rattle.jobs.proofs.RunLaws.{run_ended, run_refused, run_onward}
 use Rattle.jobs.proofs.TotalsLaws.{month_from, month_to, month_few, day_to, day_few}
 use Rattle.totals.specs.declared.KeptTotals.{KeptTotals}
 use Rattle.totals.specs.Kept.{emptied, parts_of, kept_totals, with_row_added, HasRecords, put_kept}
+use Rattle.runs.specs.Kept.{come_to}
 use Rattle.totals.proofs.Kept.{few_added, kept_over, kept_stored, kept_added, row_added, over_emptied}
 
--- ---- the sectors: those of the season are kept in a table, and read anew where the season changes
-
--- the table for a day
-abbrev pub day_table : Site → List ℕ → List ℕ → ℕ → SeasonTable
-day_table site summer winter day = season_table (in_leaf site.first_leaf_day site.last_leaf_day day) summer winter
-
--- the factor in an hour, by the sectors of its day
-abbrev pub hour_factor : ℕ → Site → Surface → List ℕ → List ℕ → List ℕ → ℕ → FactorAnswer
-hour_factor edition site surface summer winter window hour =
-    shading_at edition surface (hour_of site hour) (sectors_for summer winter site.first_leaf_day site.last_leaf_day (hour / 24)) window
-
 -- ---- from step to step
-
-pub job_step : (job : Job) (time : Float) (answer : StepAnswer) → answer ≡ step_with job.edition job.site job.surface (job_sectors job time) job.window time (reading_at job time)
-    → answer ≡ step_at job time
-unfolding step_at
-job_step job time answer e = e
 
 module _ (job : Job) (count i : ℕ) (time sum : Float) (results : List ℕ) where
   one_left : i < count → count - i ≡ suc (count - (i + 1))
   one_left h = omega (arith, h)
 
-  pub row_next : (row : Row) → step_at job time ≡ step.Row row → i < count
+  pub row_next : (row : Row) → step_at job time ≡ Ok row → i < count
       → run_from (count - (i + 1)) job (i + 1) (time ⊕ job.run.step) (with_row job.run.step sum row) (put_row results i row) ≡ run_from (count - i) job i time sum results
   row_next row e h = rw (one_left h) (sym (run_onward job i time sum results (count - (i + 1)) row e))
 
-  pub refused_here : (r : Refusal) → step_at job time ≡ step.Refused r → i < count → ran (Refused r i) results ≡ run_from (count - i) job i time sum results
+  pub refused_here : (r : Refusal) → step_at job time ≡ Err r → i < count → ran (refused_at r i) results ≡ run_from (count - i) job i time sum results
   refused_here r e h = rw (one_left h) (sym (run_refused job i time sum results (count - (i + 1)) r e))
 
-  pub at_end : i ≡ count → ran (Accepted count sum) results ≡ run_from (count - i) job i time sum results
+  pub at_end : i ≡ count → ran (accepted count sum) results ≡ run_from (count - i) job i time sum results
   at_end e = let z : count - i ≡ 0 = omega (arith, e) in rw (z, ← e) (sym (run_ended job i time sum results))
 
 pub at_start : (job : Job) (count : ℕ) (results : List ℕ) → run_from (count - 0) job 0 job.run.start (whole 0) results ≡ run_from count job 0 job.run.start (whole 0) results
@@ -110,6 +85,20 @@ module _ (job : Job) (i : ℕ) (results totals₀ : List ℕ) (few : i < 35137) 
       let known : new ≡ kept_totals leap day so_far = read ∙ ap (kept_totals leap day) same in
       (ap₂ put_kept same known ∙ kept_stored leap job.run results totals₀ i day few there, known)
 
+  -- whether it is another day or the same
+  pub come_on : (day today : ℕ) (totals totals' : List ℕ) (old new : KeptTotals) → day < days_in_year leap → put_kept totals old ≡ so_far
+      → old ≡ kept_totals leap today so_far → ◌≡◌ {A = List ℕ × KeptTotals} (totals', new) (come_to leap (eqb day today) day totals old)
+      → (put_kept totals' new ≡ so_far) × (new ≡ kept_totals leap day so_far)
+  unfolding come_to
+  come_on day today totals totals' old new there kept known = go (eqb day today) refl
+    where
+      go : (b : Bool) → eqb day today ≡ b → ◌≡◌ {A = List ℕ × KeptTotals} (totals', new) (come_to leap b day totals old)
+          → (put_kept totals' new ≡ so_far) × (new ≡ kept_totals leap day so_far)
+      go true e came =
+          let same : day ≡ today = eqb-true day today e in
+          (ap (λ p. put_kept p.0 p.1) came ∙ kept, ap (λ p. p.1) came ∙ known ∙ ap (λ (d : ℕ). kept_totals leap d so_far) (sym same))
+      go false e came = new_day day totals totals' old new there kept (ap (λ p. p.0) came) (ap (λ p. p.1) came ∙ ap (kept_totals leap day) (sym (ap (λ p. p.0) came)))
+
   -- a step of the day whose totals are kept
   module _ (totals : List ℕ) (old : KeptTotals) (known : old ≡ kept_totals leap (day_of_step job.run i) so_far)
       (there : day_of_step job.run i < days_in_year leap) where
@@ -126,7 +115,7 @@ module _ (job : Job) (i : ℕ) (results totals₀ : List ℕ) (few : i < 35137) 
         counted = unfold kept_totals in (few_counted day (day_to leap day there), few_counted (month_part leap day) (month_to leap day there))
 
     module _ (kept : put_kept totals old ≡ so_far) (fits : 24 * totals_count leap ≤ length totals) (room : 6 * i + 6 ≤ word_count results)
-        (row : Row) (new : KeptTotals) (results' : List ℕ) (here : step_at job (time_at job.run i) ≡ step.Row row)
+        (row : Row) (new : KeptTotals) (results' : List ℕ) (here : step_at job (time_at job.run i) ≡ Ok row)
         (added : new ≡ with_row_added job.run.step row old) (put : results' ≡ put_row results i row) where
       row_fit : RowFits row
       row_fit = row_fits (step_row job (time_at job.run i) row here)
@@ -157,7 +146,7 @@ module _ (job : Job) (i : ℕ) (results totals₀ : List ℕ) (few : i < 35137) 
           ∙ ap₂ (λ (n : ℕ) (l : List ℕ). kept_totals leap (n / 24) l) (sym h) next
 
 -- the totals of a run whose list was emptied before
-pub totals_done : (leap : Bool) (run : Run) (totals₀ totals totals' results' : List ℕ) (answer : RunAnswer) (done : Ran)
+pub totals_done : (leap : Bool) (run : Run) (totals₀ totals totals' results' : List ℕ) (answer : Result Accepted RefusedAt) (done : Ran)
     → totals ≡ emptied leap totals₀ → totals' ≡ with_totals leap run results' (rows_stored answer) totals → ran answer results' ≡ done
     → totals' ≡ with_totals leap run done.results (rows_stored done.answer) totals₀
 totals_done leap run totals₀ totals totals' results' answer done e t r =

@@ -5,9 +5,10 @@ ghost use Rattle.jobs.specs.JobChecks.{indices_fine, readings_fine};
 
 use simulation_time::run::Run;
 use simulation_time::timestep::time_series_idx;
-use weather::{in_series, read_series, reading_fine};
+use weather::{Series, reading_fine};
 
-// Of all steps: whether every index is on all three series, and whether every value is in its range.
+// Of all steps: whether every index is on all three series, and whether every value is in its range. Two flags and no refusal, since
+// both are told (the clauses of `series_fine`): a refusal at the first index past the end would leave the values after it untold.
 #[derive(Clone, Copy)]
 pub struct SeriesFine {
     pub indices: bool,
@@ -20,28 +21,23 @@ pub fn series_fine(
     count: u64,
     start_day: u32,
     series_step: f64,
-    diffuse: &[u8],
-    direct: &[u8],
-    reflectivity: &[u8],
+    series: Series,
 ) -> SeriesFine
-    ensures { (result.indices ≡ indices_fine start_day series_step diffuse.now direct.now reflectivity.now
-        (times_from count run.step run.start))
-        × (result.readings ≡ readings_fine start_day series_step diffuse.now direct.now reflectivity.now
-        (times_from count run.step run.start)) }
+    ensures indices { result.indices ≡ indices_fine start_day series_step
+        series.entry.diffuse.now series.entry.direct.now series.entry.reflectivity.now
+        (times_from count run.step run.start) }
+    ensures readings { result.readings ≡ readings_fine start_day series_step
+        series.entry.diffuse.now series.entry.direct.now series.entry.reflectivity.now
+        (times_from count run.step run.start) }
 {
     let mut indices = true;
     let mut readings = true;
     let mut time = run.start;
-    let mut i: u64 = 0;
-    while i < count {
+    for _ in 0..count {
         let index = time_series_idx(time, start_day, series_step);
-        indices = in_series(diffuse, direct, reflectivity, index) & indices;
-        readings = reading_fine(read_series(diffuse, direct, reflectivity, index)) & readings;
+        indices &= series.has_value_at(index);
+        readings &= reading_fine(series.reading_at(index));
         time += run.step;
-        i += 1;
     }
-    SeriesFine {
-        indices: indices,
-        readings: readings,
-    }
+    SeriesFine { indices, readings }
 }

@@ -8,6 +8,7 @@ use native.Mathlib.Omega.{arith}
 use borrow.Author.Tests.{le-leb, lt-leb}
 use lib.Dec.{T, leb}
 use lib.ListN.{length, take}
+use Rattle.std.proofs.Math.Bool.{or-true}
 use lib.Seq.{length-take-le, take_all}
 use Rattle.words.specs.Words.{word_count}
 use Rattle.objects.specs.declared.sectors.ShadingSegment.{ShadingSegment}
@@ -18,7 +19,7 @@ use Rattle.object_checks.proofs.Accepted.{whole_records_lem}
 use Rattle.object_checks.proofs.AcceptedSectors.{sector_count_lem}
 use Rattle.seasons.specs.Seasons.{in_leaf, whole_records, season_records, sectors_for}
 use Rattle.seasons.specs.declared.table.SeasonTable.{SeasonTable}
-use Rattle.seasons.specs.Table.{season_table}
+use Rattle.seasons.specs.Table.{season_table, table_sectors}
 use Rattle.seasons.specs.Parts.{PartOf, PartsOfLists}
 
 -- the first n bytes of a list that has them are n
@@ -38,6 +39,12 @@ module _ (summer winter : List ℕ) (s : T (sectors_fine summer)) (w : T (sector
   unfolding season_records
   season_list true = all_whole summer s
   season_list false = all_whole winter w
+
+  -- and so is that for a day
+  pub list_of_day : (first last day : ℕ) (is_summer : Bool) → in_leaf first last day ≡ is_summer
+      → cond is_summer summer winter ≡ sectors_for summer winter first last day
+  unfolding sectors_for
+  list_of_day first last day is_summer e = rw e (sym (season_list is_summer))
 
   -- so what holds of both holds of it
   pub of_season : (P : List ℕ → Type 0) → P summer → P winter → (is_summer : Bool) → P (season_records is_summer summer winter)
@@ -111,6 +118,10 @@ module _ (summer winter : List ℕ) (s : T (sectors_fine summer)) (w : T (sector
   kept_sectors = sectors_taken (season_records is_summer summer winter) kept.count kept.places (ap (λ (t : SeasonTable). t.count) k) few_kept
       (ap (λ (t : SeasonTable). t.places) k ∙ ap (sector_places (season_records is_summer summer winter)) (sym (ap (λ (t : SeasonTable). t.count) k)))
 
+  pub kept_table_sectors : table_sectors kept ≡ sectors_of (season_records is_summer summer winter)
+  unfolding table_sectors
+  kept_table_sectors = kept_sectors
+
   -- it says which season it is of
   of_its_season : kept ≡ season_table kept.summer summer winter
   unfolding season_table
@@ -131,10 +142,6 @@ season_read summer winter first last day is_summer part count places b p n t =
 
 -- ---- days
 
-or_true : (b : Bool) → b || true ≡ true
-or_true true = refl
-or_true false = refl
-
 -- the first leaf day right behind the last: every day is summer
 pub always_summer : (last day : ℕ) → in_leaf (last + 1) last day ≡ true
 unfolding in_leaf
@@ -142,5 +149,5 @@ always_summer last day =
     rw (lt-leb (last + 1) last (omega arith))
     (elim (dec_lt last day) [
       | yes g ↦ rw (le-leb (last + 1) day (omega (arith, g))) refl
-      | no g ↦ rw (le-leb day last (omega (arith, g))) (or_true (leb (last + 1) day))
+      | no g ↦ rw (le-leb day last (omega (arith, g))) (or-true (leb (last + 1) day))
     ])

@@ -1,6 +1,7 @@
 // Trees in leaf: which days are, and the list of sectors for a day. Days count from 0.
 #![tactic(auto)]
 
+pub mod leaf;
 pub mod table;
 
 ghost use Rattle.std.specs.Prelude.{◌≡◌};

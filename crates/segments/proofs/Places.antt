@@ -7,34 +7,29 @@ use native.Mathlib.Nat.{le_of_suc-le-suc, not-suc-le-zero}
 use native.Mathlib.Omega.{arith}
 use lib.ListN.{length, get_or, take}
 use lib.Ieee.{Float, lt, ne}
+use Rattle.std.specs.Prelude.{Ok, Err, Result}
+use Rattle.objects.specs.declared.answers.Refusal.{Refusal}
+use Rattle.objects.specs.declared.answers.Refusal.TheVariants as refusal
 use Rattle.objects.specs.declared.sectors.ShadingSegment.{ShadingSegment}
-use Rattle.objects.specs.Records.{no_segment, sector_count, sectors_of, sector_places}
-use Rattle.objects.proofs.Places.{sectors_taken, table_record}
-use Rattle.segments.specs.declared.Place.{Place}
-use Rattle.segments.specs.declared.Place.TheVariants as place
-use Rattle.segments.specs.declared.FoundSegment.{FoundSegment}
-use Rattle.segments.specs.FoundSegment.{place_index, segment_found}
-use Rattle.segments.specs.Segments.{found, holds_azimuth, visit, place_from, place_of, sector_at, segment_in, segment_of}
+use Rattle.objects.specs.Records.{sector_count, sectors_of, sector_places}
+use Rattle.objects.proofs.Places.{sectors_taken}
+use Rattle.segments.specs.Segments.{holds_azimuth, visit, place_from, place_of, sector_at, segment_in, segment_of}
 
 -- a place is one of n from the i-th on
-abbrev OneOf : ℕ → ℕ → Place → Type 0
-OneOf i n (place.At j) = j < i + n
-OneOf i n place.Gap = Unit {0}
-OneOf i n place.Turned = Unit {0}
-OneOf i n place.NoSector = Unit {0}
+abbrev OneOf : ℕ → ℕ → Result ℕ Refusal → Type 0
+OneOf i n (Ok j) = j < i + n
+OneOf i n (Err r) = Unit {0}
 
-longer : (i n : ℕ) (p : Place) → OneOf (i + 1) n p → OneOf i (suc n) p
-longer i n (place.At j) h = omega (arith, h)
-longer i n place.Gap h = tt
-longer i n place.Turned h = tt
-longer i n place.NoSector h = tt
+longer : (i n : ℕ) (p : Result ℕ Refusal) → OneOf (i + 1) n p → OneOf i (suc n) p
+longer i n (Ok j) h = omega (arith, h)
+longer i n (Err r) h = tt
 
 module _ (azimuth : Float) where
-  visit_one : (i n : ℕ) (s : ShadingSegment) (rest : Place) → OneOf (i + 1) n rest → OneOf i (suc n) (visit azimuth i s rest)
+  visit_one : (i n : ℕ) (s : ShadingSegment) (rest : Result ℕ Refusal) → OneOf (i + 1) n rest → OneOf i (suc n) (visit azimuth i s rest)
   unfolding visit
   visit_one i n s rest h = go (lt s.end360 s.start360) (holds_azimuth azimuth s)
     where
-      go : (b c : Bool) → OneOf i (suc n) (cond b place.Turned (cond c (place.At i) rest))
+      go : (b c : Bool) → OneOf i (suc n) (cond b (Err refusal.Turned) (cond c (Ok i) rest))
       go true c = tt
       go false true = omega arith
       go false false = longer i n rest h
@@ -44,7 +39,7 @@ module _ (azimuth : Float) where
   from_one last i [] = tt
   from_one last i (s ∷ rest) = go (ne last s.start360) (visit azimuth i s (place_from azimuth s.end360 (i + 1) rest)) (visit_one i (length rest) s _ (from_one s.end360 (i + 1) rest))
     where
-      go : (b : Bool) (p : Place) → OneOf i (suc (length rest)) p → OneOf i (suc (length rest)) (cond b place.Gap p)
+      go : (b : Bool) (p : Result ℕ Refusal) → OneOf i (suc (length rest)) p → OneOf i (suc (length rest)) (cond b (Err refusal.Gap) p)
       go true p h = tt
       go false p h = h
 
@@ -53,17 +48,17 @@ module _ (azimuth : Float) where
   place_one [] = tt
   place_one (s ∷ rest) = visit_one 0 (length rest) s _ (from_one s.end360 1 rest)
 
-  pub place_within : (l : List ShadingSegment) (i : ℕ) → place_of azimuth l ≡ place.At i → i < length l
+  pub place_within : (l : List ShadingSegment) (i : ℕ) → place_of azimuth l ≡ Ok i → i < length l
   place_within l i e = let h : i < 0 + length l = subst (OneOf 0 (length l)) e (place_one l) in omega (arith, h)
 
-sector_there : (l : List ShadingSegment) (i : ℕ) (d : ShadingSegment) → i < length l → sector_at l i ≡ found (get_or l i d)
+sector_there : (l : List ShadingSegment) (i : ℕ) (d : ShadingSegment) → i < length l → sector_at l i ≡ Ok (get_or l i d)
 unfolding sector_at
 sector_there [] i d h = absurd (omega (arith, h))
 sector_there (s ∷ rest) zero d h = refl
 sector_there (s ∷ rest) (suc i) d h = sector_there rest i d (le_of_suc-le-suc h)
 
 -- the record at the place has the sun
-pub place_record : (azimuth : Float) (l : List ShadingSegment) (i : ℕ) (d : ShadingSegment) → place_of azimuth l ≡ place.At i → segment_of azimuth l ≡ found (get_or l i d)
+pub place_record : (azimuth : Float) (l : List ShadingSegment) (i : ℕ) (d : ShadingSegment) → place_of azimuth l ≡ Ok i → segment_of azimuth l ≡ Ok (get_or l i d)
 unfolding segment_of segment_in
 place_record azimuth l i d e = ap (segment_in l) e ∙ sector_there l i d (place_within azimuth l i e)
 
@@ -82,34 +77,15 @@ taken_record (suc n) zero (s ∷ rest) d h = refl
 taken_record (suc n) (suc i) (s ∷ rest) d h = taken_record n i rest d (le_of_suc-le-suc h)
 
 -- the place where the walk ends is one of the table's
-pub index_taken : (azimuth : Float) (n m : ℕ) (l : List ShadingSegment) → n ≤ m → 0 < m → place_index (place_of azimuth (take n l)) < m
-unfolding place_index
-index_taken azimuth n m l few some = go (place_of azimuth (take n l)) refl
-  where
-    go : (p : Place) → place_of azimuth (take n l) ≡ p → place_index p < m
-    go (place.At i) e = omega (arith, few, taken_within n i l (place_within azimuth (take n l) i e))
-    go place.Gap e = some
-    go place.Turned e = some
-    go place.NoSector e = some
+pub index_taken : (azimuth : Float) (n i : ℕ) (l : List ShadingSegment) → place_of azimuth (take n l) ≡ Ok i → i < n
+index_taken azimuth n i l e = taken_within n i l (place_within azimuth (take n l) i e)
 
-pub record_taken : (azimuth : Float) (n i : ℕ) (l : List ShadingSegment) → place_of azimuth (take n l) ≡ place.At i
-    → (d : ShadingSegment) → segment_of azimuth (take n l) ≡ found (get_or l i d)
-record_taken azimuth n i l e d = place_record azimuth (take n l) i d e ∙ ap found (taken_record n i l d (place_within azimuth (take n l) i e))
+pub record_taken : (azimuth : Float) (n i : ℕ) (l : List ShadingSegment) → place_of azimuth (take n l) ≡ Ok i
+    → (d : ShadingSegment) → segment_of azimuth (take n l) ≡ Ok (get_or l i d)
+record_taken azimuth n i l e d = place_record azimuth (take n l) i d e ∙ ap Ok (taken_record n i l d (place_within azimuth (take n l) i e))
 
 -- the walk along a table of a list's sectors, and the sector where it ends
-pub found_in_table : (azimuth : Float) (l : List ℕ) (n at : ℕ) (places : List ShadingSegment) (p : Place) (d : ShadingSegment)
-    → n ≡ sector_count l → n ≤ 36 → places ≡ sector_places l n → p ≡ place_of azimuth (take n places) → at ≡ place_index p
-    → ◌≡◌ {A = FoundSegment} (record { place = p; segment = get_or places at d }) (segment_found azimuth (sectors_of l))
-unfolding segment_found
-found_in_table azimuth l n at places p d count few read ends index = λ i. record { place = place_is i; segment = segment_is i }
-  where
-    place_is : p ≡ place_of azimuth (sectors_of l)
-    place_is = ends ∙ ap (place_of azimuth) (sectors_taken l n places count few read)
-
-    fits : at < 36
-    fits = subst (λ (i : ℕ). i < 36) (sym (index ∙ ap place_index ends)) (index_taken azimuth n 36 places few (omega arith))
-
-    segment_is : get_or places at d ≡ get_or (sectors_of l) (place_index (place_of azimuth (sectors_of l))) no_segment
-    segment_is =
-        table_record l n at places d count fits read
-        ∙ ap (λ (i : ℕ). get_or (sectors_of l) i no_segment) (index ∙ ap place_index place_is)
+pub found_in_table : (azimuth : Float) (l : List ℕ) (n i : ℕ) (places : List ShadingSegment) (d : ShadingSegment) → n ≡ sector_count l → n ≤ 36
+    → places ≡ sector_places l n → place_of azimuth (take n places) ≡ Ok i → segment_of azimuth (sectors_of l) ≡ Ok (get_or places i d)
+found_in_table azimuth l n i places d count few read ends =
+    sym (ap (segment_of azimuth) (sectors_taken l n places count few read)) ∙ record_taken azimuth n i places ends d

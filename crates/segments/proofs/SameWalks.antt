@@ -14,18 +14,17 @@ use Rattle.doubles.proofs.Monotone.{sub_mono}
 use Rattle.doubles.proofs.Ranges.{finite_minus}
 use Rattle.orientation.specs.Orientation.{orientation180}
 use Rattle.objects.specs.declared.sectors.ShadingSegment.{ShadingSegment}
-use Rattle.segments.specs.declared.Place.{Place}
-use Rattle.segments.specs.declared.Place.TheVariants as place
-use Rattle.segments.specs.Segments.{Segment, found, gap, turned, no_sector, between_ends, holds_azimuth, visit, place_from, place_of, sector_at, segment_in, segment_of}
+use Rattle.std.specs.Prelude.{Ok, Err, Result}
+use Rattle.objects.specs.declared.answers.Refusal.{Refusal}
+use Rattle.objects.specs.declared.answers.Refusal.TheVariants as refusal
+use Rattle.segments.specs.Segments.{between_ends, holds_azimuth, visit, place_from, place_of, sector_at, segment_in, segment_of}
 use Rattle.words.specs.Lists.{PlaceByPlace, none, and_then}
 use Rattle.segments.specs.SameSectors.{SameBounds}
 
 -- two walks that come to sectors so related, or end the same way
-pub data SameWalk (R : ShadingSegment → ShadingSegment → Type 0) : Segment → Segment → Type 0 where
-  both_found : {s t : ShadingSegment} → R s t → SameWalk R (found s) (found t)
-  both_gap : SameWalk R gap gap
-  both_turned : SameWalk R turned turned
-  both_none : SameWalk R no_sector no_sector
+pub data SameWalk (R : ShadingSegment → ShadingSegment → Type 0) : Result ShadingSegment Refusal → Result ShadingSegment Refusal → Type 0 where
+  both_found : {s t : ShadingSegment} → R s t → SameWalk R (Ok s) (Ok t)
+  both_none : {r : Refusal} → SameWalk R (Err r) (Err r)
 
 -- ---- level doubles
 
@@ -107,7 +106,7 @@ module _ (azimuth : Float) where
   unfolding holds_azimuth between_ends
   holds_alike s t e = ap₂ (λ (b c : Bool). b && c) (lt_right azimuth (from_south e.starts)) (lt_left azimuth (from_south e.ends))
 
-  visit_alike : (i : ℕ) (s t : ShadingSegment) {x y : Place} → SameBounds s t → x ≡ y → visit azimuth i s x ≡ visit azimuth i t y
+  visit_alike : (i : ℕ) (s t : ShadingSegment) {x y : Result ℕ Refusal} → SameBounds s t → x ≡ y → visit azimuth i s x ≡ visit azimuth i t y
   unfolding visit
   visit_alike i s t e r = rw (turned_alike s t e, holds_alike s t e, r)
 
@@ -117,7 +116,7 @@ module _ (R : ShadingSegment → ShadingSegment → Type 0) (bounds : (s t : Sha
   unfolding place_from
   walk_alike last last' i l none = refl
   walk_alike last last' i l (and_then {x = s} {y = t} {xs = ss} {ys = ts} r p) =
-      ap₂ (λ (b : Bool) (q : Place). cond b place.Gap q) (ne_alike l (bounds s t r).starts)
+      ap₂ (λ (b : Bool) (q : Result ℕ Refusal). cond b (Err refusal.Gap) q) (ne_alike l (bounds s t r).starts)
       (visit_alike azimuth i s t (bounds s t r) (walk_alike s.end360 t.end360 (i + 1) (bounds s t r).ends p))
 
   -- the walks end at the same place
@@ -132,12 +131,10 @@ module _ (R : ShadingSegment → ShadingSegment → Type 0) (bounds : (s t : Sha
   sector_alike (and_then r p) zero = both_found r
   sector_alike (and_then r p) (suc i) = sector_alike p i
 
-  in_alike : {ss ts : List ShadingSegment} → PlaceByPlace R ss ts → (q : Place) → SameWalk R (segment_in ss q) (segment_in ts q)
+  in_alike : {ss ts : List ShadingSegment} → PlaceByPlace R ss ts → (q : Result ℕ Refusal) → SameWalk R (segment_in ss q) (segment_in ts q)
   unfolding segment_in
-  in_alike p (place.At i) = sector_alike p i
-  in_alike p place.Gap = both_gap
-  in_alike p place.Turned = both_turned
-  in_alike p place.NoSector = both_none
+  in_alike p (Ok i) = sector_alike p i
+  in_alike p (Err r) = both_none
 
   -- so they come to sectors so related, or stop for the same reason
   pub segment_alike : {ss ts : List ShadingSegment} → PlaceByPlace R ss ts → SameWalk R (segment_of azimuth ss) (segment_of azimuth ts)
@@ -147,11 +144,9 @@ module _ (R : ShadingSegment → ShadingSegment → Type 0) (bounds : (s t : Sha
 -- ---- the sector that the walk finds is one of the list
 
 module _ (P : ShadingSegment → Type 0) where
-  abbrev IfFound : Segment → Type 0
-  IfFound (found s) = P s
-  IfFound gap = Unit {0}
-  IfFound turned = Unit {0}
-  IfFound no_sector = Unit {0}
+  abbrev IfFound : Result ShadingSegment Refusal → Type 0
+  IfFound (Ok s) = P s
+  IfFound (Err r) = Unit {0}
 
   sector_has : (ss : List ShadingSegment) → ((s : ShadingSegment) → Memᴰ s ss → P s) → (i : ℕ) → IfFound (sector_at ss i)
   unfolding sector_at
@@ -159,15 +154,13 @@ module _ (P : ShadingSegment → Type 0) where
   sector_has (s ∷ ss) h zero = h s (Memᴰ.head refl)
   sector_has (s ∷ ss) h (suc i) = sector_has ss (λ t m. h t (Memᴰ.tail m)) i
 
-  in_has : (ss : List ShadingSegment) → ((s : ShadingSegment) → Memᴰ s ss → P s) → (q : Place) → IfFound (segment_in ss q)
+  in_has : (ss : List ShadingSegment) → ((s : ShadingSegment) → Memᴰ s ss → P s) → (q : Result ℕ Refusal) → IfFound (segment_in ss q)
   unfolding segment_in
-  in_has ss h (place.At i) = sector_has ss h i
-  in_has ss h place.Gap = tt
-  in_has ss h place.Turned = tt
-  in_has ss h place.NoSector = tt
+  in_has ss h (Ok i) = sector_has ss h i
+  in_has ss h (Err r) = tt
 
   -- what holds of every sector of a list holds of the one that is found
   pub found_has : (azimuth : Float) (ss : List ShadingSegment) → ((s : ShadingSegment) → Memᴰ s ss → P s)
-      → (s : ShadingSegment) → segment_of azimuth ss ≡ found s → P s
+      → (s : ShadingSegment) → segment_of azimuth ss ≡ Ok s → P s
   unfolding segment_of
   found_has azimuth ss h s e = subst IfFound e (in_has ss h (place_of azimuth ss))

@@ -1,4 +1,2 @@
 pub mod Segments
-pub mod Walk
 pub mod SameSectors
-pub mod FoundSegment

@@ -1,99 +1,93 @@
 // Answers a shade listing: lines with ten values on standard input, lines with a number and a factor on standard output.
 #![tactic(auto)]
 
-ghost use Rattle.std.specs.Prelude.{◌≡◌, false, true, []};
+ghost use Rattle.std.specs.Prelude.{◌≡◌, true, [], IfOk, MatchResult};
 ghost use Rattle.listing.specs.Reading.{wants_more, last_printed, reading_of};
 
-use lines::output::put;
-use listing::reader::{Reader, Stage, answer_piece, input_over, line_start, wants_more};
+use arrayvec::ArrayVec;
+use lines::output::OutputLine;
+use listing::reader::{Reader, Stage};
+use std::io;
 use std::io::Read;
 
-// The reader after a piece of the input, and whether to go on: only where more is wanted.
-#[derive(Clone, Copy)]
-struct Progress {
-    reader: Reader,
-    going: bool,
-}
-
-fn write_out(rt: &(impl Print + Eprint), bytes: &[u8]) -> bool {
-    match rt.write_all(bytes) {
-        Ok(()) => true,
-        Err(error) => {
-            let _ = eprintln!(rt; "standard output: {error}");
-            false
-        }
-    }
-}
-
-// A read or a write has failed: the listing is over. What was read of the last line may be cut short, and is not answered.
-fn given_up() -> Progress
-    ensures { (last_printed result.reader.stage (reading_of result.reader).held ≡ []) × (wants_more result.reader.stage ≡ false) × (result.going ≡ false) }
+// Tells of a failure.
+fn reported<T>(rt: &impl Eprint, stream: &str, outcome: io::Result<T>) -> io::Result<T>
+    ensures { result ≡ outcome }
 {
-    Progress {
-        reader: line_start(Stage::Over),
-        going: false,
+    if let Err(error) = &outcome {
+        let _ = eprintln!(rt; "{stream}: {error}");
     }
+    outcome
 }
 
-// Prints what the lines print that end in a piece. A piece of 2,048 bytes has at most as many lines, each answered by at most 19 bytes,
-// so that there is room for all answers.
-fn print_answers(rt: &(impl Print + Eprint), reader: Reader, piece: &[u8]) -> Progress
-    ensures { result.going ≡ wants_more result.reader.stage }
+fn write_out(rt: &(impl Print + Eprint), bytes: &[u8]) -> io::Result<()> {
+    reported(rt, "standard output", rt.write_all(bytes))
+}
+
+// Prints what the lines print that end in a piece, and says whether to go on: only where more is wanted. A piece of 2,048 bytes has at
+// most as many lines, each answered by at most 19 bytes, so that there is room for all answers.
+fn print_answers(rt: &(impl Print + Eprint), reader: &mut Reader, piece: &[u8]) -> io::Result<bool>
+    ensures { IfOk result (λ going. going ≡ wants_more reader.new.stage) }
 {
-    let mut out = [0u8; 65536];
-    let answered = answer_piece(reader, piece, &mut out, 0);
-    let after = answered.reader;
-    let used = answered.used;
-    if !write_out(rt, &out[..used]) {
-        return given_up();
-    }
-    Progress {
-        reader: after,
-        going: wants_more(after),
-    }
+    let mut out: ArrayVec<u8, 65536> = ArrayVec::new();
+    reader.answer_piece(piece, &mut out);
+    write_out(rt, out.as_slice())?;
+    Ok(reader.wants_more())
 }
 
 // Reads a piece and answers its lines. After a wrong names line nothing is read: the input may stay open for ever.
-fn read_piece(rt: &(impl Print + Eprint), input: &mut impl Read, reader: Reader) -> Progress
-    requires { wants_more reader.stage ≡ true }
-    ensures { result.going ≡ true → wants_more result.reader.stage ≡ true }
+fn read_piece(
+    rt: &(impl Print + Eprint),
+    input: &mut impl Read,
+    reader: &mut Reader,
+) -> io::Result<bool>
+    requires { wants_more reader.old.stage ≡ true }
+    ensures { IfOk result (λ going. going ≡ true → wants_more reader.new.stage ≡ true) }
 {
     let mut piece = [0u8; 2048];
-    match input.read(&mut piece) {
-        Ok(0) => Progress {
-            reader: reader,
-            going: false,
-        },
-        Ok(n) => print_answers(rt, reader, &piece[..n]),
-        Err(error) => {
-            let _ = eprintln!(rt; "standard input: {error}");
-            given_up()
-        }
+    let n = reported(rt, "standard input", input.read(&mut piece))?;
+    if n == 0 {
+        return Ok(false);
     }
+    print_answers(rt, reader, &piece[..n])
 }
 
 // Nothing says that the input ends, so the loop has a bound, which no run comes to.
-fn read_all(rt: &(impl Print + Eprint), input: &mut impl Read, first: Reader) -> Reader
-    requires { wants_more first.stage ≡ true }
+fn read_all(
+    rt: &(impl Print + Eprint),
+    input: &mut impl Read,
+    reader: &mut Reader,
+) -> io::Result<()>
+    requires { wants_more reader.old.stage ≡ true }
 {
-    let mut reader = first;
     for _ in 0..u64::MAX {
-        let progress = read_piece(rt, input, reader);
-        reader = progress.reader;
-        if !progress.going {
+        if !read_piece(rt, input, reader)? {
             break;
         }
     }
-    reader
+    Ok(())
 }
 
-fn main(rt: HostRuntime) {
-    if !write_out(&rt, b"number factor\n") {
-        return;
+// What the end of the input prints. Where a read or a write has failed the listing is over: what was read of the last line may be cut
+// short, and is not answered.
+fn last_line(outcome: io::Result<()>, reader: Reader) -> OutputLine
+    ensures { MatchResult outcome (λ _. result.items ≡ last_printed reader.stage (reading_of reader).held) (λ _. result.items ≡ []) }
+{
+    match outcome {
+        Ok(()) => reader.input_over(),
+        Err(_error) => ArrayVec::new(),
     }
-    let mut out = [0u8; 4096];
+}
+
+fn answer_input(rt: &(impl Print + Eprint), input: &mut impl Read) -> io::Result<()> {
+    write_out(rt, b"number factor\n")?;
+    let mut reader = Reader::line_start(Stage::Names);
+    let outcome = read_all(rt, input, &mut reader);
+    write_out(rt, last_line(outcome, reader).as_slice())
+}
+
+// Failures have been told of.
+fn main(rt: HostRuntime) {
     let mut input = rt.stdin();
-    let last = input_over(read_all(&rt, &mut input, line_start(Stage::Names)));
-    let n = put(&mut out, 0, last);
-    write_out(&rt, &out[..n]);
+    let _ = answer_input(&rt, &mut input);
 }

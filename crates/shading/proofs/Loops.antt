@@ -1,15 +1,12 @@
 -- The loops over objects keep the largest extent so far: what is left of the list, from the value so far, comes to the same as the
 -- whole list from 0. Assumes nothing.
-use mathlib.Core.Path.{◌≡◌, refl, sym, ap, ◌∙◌}
+use mathlib.Core.Path.{◌≡◌, refl, sym}
 use mathlib.Core.Bool.{Bool, true, false, ◌||◌, cond, or-false}
 use mathlib.Core.List.{List, [], ◌∷◌}
-use Prim.Native.Nat.{ℕ, suc, ◌+◌, ◌<◌, ◌≤◌, min}
+use Prim.Native.Nat.{ℕ, suc, ◌+◌, ◌<◌}
 use native.Mathlib.Numerals.{add-one}
-use lib.ListN.{length, get_or, take, drop}
-use lib.Seq.{drop-cons, drop-length, length-take-le, get_or-take, take_all}
-use native.Mathlib.Decide.{dec_le}
-use native.Mathlib.Nat.{min-eq_left}
-use native.Mathlib.Omega.{arith}
+use lib.ListN.{length, get_or, drop}
+use lib.Seq.{drop-cons, drop-length}
 use lib.Ieee.{Float}
 use Rattle.doubles.specs.Functions.{max_of2, float_min, largest_of}
 use Rattle.objects.specs.declared.surface.Surface.{Surface}
@@ -55,70 +52,50 @@ least : Keeps least_of float_min
 unfolding least_of
 least = record { none = λ first. refl; more = λ first x xs. refl }
 
--- ---- a sector's objects: the first n of them
+-- ---- a sector's objects
 
-module _ (surface : Surface) (sun : SunOnSurface) (shades : DistantShades) (objects : List ShadingObject) (n i : ℕ) (d : ShadingObject) (h : i < n) (k : n ≤ length objects) where
-  within : i < length (take n objects)
-  within = rw (length-take-le n objects k) h
-
-  pub obstacle_next : largest_of (distant_step surface sun shades (get_or objects i d)).obstacle (obstacle_extents surface sun (drop (i + 1) (take n objects)))
-      ≡ largest_of shades.obstacle (obstacle_extents surface sun (drop i (take n objects)))
+module _ (surface : Surface) (sun : SunOnSurface) (shades : DistantShades) (objects : List ShadingObject) (i : ℕ) (d : ShadingObject) (h : i < length objects) where
+  pub obstacle_next : largest_of (distant_step surface sun shades (get_or objects i d)).obstacle (obstacle_extents surface sun (drop (i + 1) objects))
+      ≡ largest_of shades.obstacle (obstacle_extents surface sun (drop i objects))
   unfolding distant_step obstacle_extents
-  obstacle_next = rw (← (get_or-take n objects i d h)) (sym (next largest_of max_of2 largest is_obstacle _ shades.obstacle (take n objects) i d within))
+  obstacle_next = sym (next largest_of max_of2 largest is_obstacle _ shades.obstacle objects i d h)
 
-  pub overhang_next : largest_of (distant_step surface sun shades (get_or objects i d)).overhang (overhang_extents surface sun (drop (i + 1) (take n objects)))
-      ≡ largest_of shades.overhang (overhang_extents surface sun (drop i (take n objects)))
+  pub overhang_next : largest_of (distant_step surface sun shades (get_or objects i d)).overhang (overhang_extents surface sun (drop (i + 1) objects))
+      ≡ largest_of shades.overhang (overhang_extents surface sun (drop i objects))
   unfolding distant_step overhang_extents
-  overhang_next = rw (← (get_or-take n objects i d h)) (sym (next largest_of max_of2 largest is_overhang _ shades.overhang (take n objects) i d within))
+  overhang_next = sym (next largest_of max_of2 largest is_overhang _ shades.overhang objects i d h)
 
--- the first n places, and all that are counted, of a list of k places
-pub counted_first : {X : Type 0} (l : List X) (count k n : ℕ) → length l ≡ k → n ≡ min count k → take n l ≡ take count l
-counted_first l count k n e m = go (dec_le count k)
-  where
-    go : Dec (count ≤ k) → take n l ≡ take count l
-    go (yes h) = ap (λ (x : ℕ). take x l) (m ∙ min-eq_left h)
-    go (no h) =
-        let over : k ≤ count = omega arith in
-        take_all n l (omega arith) ∙ sym (take_all count l (omega arith))
+module _ (surface : Surface) (sun : SunOnSurface) (first : Float) (l : List ShadingObject) (i : ℕ) (e : i ≡ length l) where
+  pub obstacle_end : largest_of first (obstacle_extents surface sun (drop i l)) ≡ first
+  unfolding obstacle_extents
+  obstacle_end = rw e (end largest_of max_of2 largest is_obstacle _ first l)
 
--- the loop's count has come to the end of the first n places
-pub at_end : {X : Type 0} (n i : ℕ) (l : List X) → i ≡ n → n ≤ length l → i ≡ length (take n l)
-at_end n i l e h = e ∙ sym (length-take-le n l h)
+  pub overhang_end : largest_of first (overhang_extents surface sun (drop i l)) ≡ first
+  unfolding overhang_extents
+  overhang_end = rw e (end largest_of max_of2 largest is_overhang _ first l)
 
-pub obstacle_end : (surface : Surface) (sun : SunOnSurface) (first : Float) (l : List ShadingObject) (i : ℕ) → i ≡ length l → largest_of first (obstacle_extents surface sun (drop i l)) ≡ first
-unfolding obstacle_extents
-obstacle_end surface sun first l i e = rw e (end largest_of max_of2 largest is_obstacle _ first l)
+-- ---- the objects at the window
 
-pub overhang_end : (surface : Surface) (sun : SunOnSurface) (first : Float) (l : List ShadingObject) (i : ℕ) → i ≡ length l → largest_of first (overhang_extents surface sun (drop i l)) ≡ first
-unfolding overhang_extents
-overhang_end surface sun first l i e = rw e (end largest_of max_of2 largest is_overhang _ first l)
-
--- ---- the objects at the window: the first n of them
-
-module _ (sun : SunOnSurface) (shades : WindowShades) (objects : List WindowShadingObject) (n i : ℕ) (d : WindowShadingObject) (h : i < n) (k : n ≤ length objects) where
-  inside : i < length (take n objects)
-  inside = rw (length-take-le n objects k) h
-
-  pub window_overhang_next : largest_of (window_step sun shades (get_or objects i d)).overhang (window_overhang_extents sun (drop (i + 1) (take n objects)))
-      ≡ largest_of shades.overhang (window_overhang_extents sun (drop i (take n objects)))
+module _ (sun : SunOnSurface) (shades : WindowShades) (objects : List WindowShadingObject) (i : ℕ) (d : WindowShadingObject) (h : i < length objects) where
+  pub window_overhang_next : largest_of (window_step sun shades (get_or objects i d)).overhang (window_overhang_extents sun (drop (i + 1) objects))
+      ≡ largest_of shades.overhang (window_overhang_extents sun (drop i objects))
   unfolding window_step window_overhang_extents
-  window_overhang_next = rw (← (get_or-take n objects i d h)) (sym (next largest_of max_of2 largest (of_kind Overhang) _ shades.overhang (take n objects) i d inside))
+  window_overhang_next = sym (next largest_of max_of2 largest (of_kind Overhang) _ shades.overhang objects i d h)
 
-  pub right_next : largest_of (window_step sun shades (get_or objects i d)).right (right_fin_extents sun (drop (i + 1) (take n objects)))
-      ≡ largest_of shades.right (right_fin_extents sun (drop i (take n objects)))
+  pub right_next : largest_of (window_step sun shades (get_or objects i d)).right (right_fin_extents sun (drop (i + 1) objects))
+      ≡ largest_of shades.right (right_fin_extents sun (drop i objects))
   unfolding window_step right_fin_extents
-  right_next = rw (← (get_or-take n objects i d h)) (sym (next largest_of max_of2 largest (of_kind SideFinRight) _ shades.right (take n objects) i d inside))
+  right_next = sym (next largest_of max_of2 largest (of_kind SideFinRight) _ shades.right objects i d h)
 
-  pub left_next : largest_of (window_step sun shades (get_or objects i d)).left (left_fin_extents sun (drop (i + 1) (take n objects)))
-      ≡ largest_of shades.left (left_fin_extents sun (drop i (take n objects)))
+  pub left_next : largest_of (window_step sun shades (get_or objects i d)).left (left_fin_extents sun (drop (i + 1) objects))
+      ≡ largest_of shades.left (left_fin_extents sun (drop i objects))
   unfolding window_step left_fin_extents
-  left_next = rw (← (get_or-take n objects i d h)) (sym (next largest_of max_of2 largest (of_kind SideFinLeft) _ shades.left (take n objects) i d inside))
+  left_next = sym (next largest_of max_of2 largest (of_kind SideFinLeft) _ shades.left objects i d h)
 
-  pub reveal_next : (window_step sun shades (get_or objects i d)).reveal || has_reveal (drop (i + 1) (take n objects)) ≡ shades.reveal || has_reveal (drop i (take n objects))
+  pub reveal_next : (window_step sun shades (get_or objects i d)).reveal || has_reveal (drop (i + 1) objects) ≡ shades.reveal || has_reveal (drop i objects)
   unfolding window_step has_reveal
   reveal_next =
-      rw (← (get_or-take n objects i d h), drop-cons (take n objects) i d inside, add-one i)
-      (go (of_kind Reveal (get_or (take n objects) i d)) shades.reveal (has_reveal (drop (suc i) (take n objects))))
+      rw (drop-cons objects i d h, add-one i) (go (of_kind Reveal (get_or objects i d)) shades.reveal (has_reveal (drop (suc i) objects)))
     where
       go : (b r t : Bool) → cond b true r || t ≡ r || (b || t)
       go true true t = refl
@@ -143,15 +120,13 @@ pub reveal_end : (b : Bool) (l : List WindowShadingObject) (i : ℕ) → i ≡ l
 unfolding has_reveal
 reveal_end b l i e = rw (e, drop-length l) (or-false b)
 
--- ---- the near obstacles at the window: the first n objects
+-- ---- the near obstacles at the window
 
-module _ (extent : WindowShadingObject → Float) (first : Float) (objects : List WindowShadingObject) (n i : ℕ) where
-  pub near_next : (d : WindowShadingObject) → i < n → n ≤ length objects
-      → least_of (cond (of_kind Obstacle (get_or objects i d)) (float_min first (extent (get_or objects i d))) first) (extents (of_kind Obstacle) extent (drop (i + 1) (take n objects)))
-      ≡ least_of first (extents (of_kind Obstacle) extent (drop i (take n objects)))
-  near_next d h k =
-      let m : i < length (take n objects) = rw (length-take-le n objects k) h in
-      rw (← (get_or-take n objects i d h)) (sym (next least_of float_min least (of_kind Obstacle) extent first (take n objects) i d m))
+module _ (extent : WindowShadingObject → Float) (first : Float) (objects : List WindowShadingObject) (i : ℕ) where
+  pub near_next : (d : WindowShadingObject) → i < length objects
+      → least_of (cond (of_kind Obstacle (get_or objects i d)) (float_min first (extent (get_or objects i d))) first) (extents (of_kind Obstacle) extent (drop (i + 1) objects))
+      ≡ least_of first (extents (of_kind Obstacle) extent (drop i objects))
+  near_next d h = sym (next least_of float_min least (of_kind Obstacle) extent first objects i d h)
 
-  pub near_end : i ≡ length (take n objects) → least_of first (extents (of_kind Obstacle) extent (drop i (take n objects))) ≡ first
-  near_end e = rw e (end least_of float_min least (of_kind Obstacle) extent first (take n objects))
+  pub near_end : i ≡ length objects → least_of first (extents (of_kind Obstacle) extent (drop i objects)) ≡ first
+  near_end e = rw e (end least_of float_min least (of_kind Obstacle) extent first objects)

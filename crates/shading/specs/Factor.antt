@@ -1,5 +1,6 @@
 -- The direct shading reduction factor at one step (ISO 52016-1 Annex F), in the Rust's order of operations.
-use Rattle.std.specs.Prelude.{Bool, false, cond, ◌||◌, List, [], ◌∷◌, ◌++◌, ℕ, Float}
+use Rattle.std.specs.Prelude.{Bool, false, cond, ◌||◌, List, [], ◌∷◌, ◌++◌, ℕ, Float, Err, Ok, Result}
+use Rattle.objects.specs.declared.answers.Refusal.{Refusal}
 use Rattle.doubles.specs.Arithmetic.{◌⊕◌, ◌⊖◌, ◌⊗◌, ◌⊘◌, whole}
 use Rattle.doubles.specs.Functions.{min_of2, max_of2, float_min, float_max, largest_of, to_radians}
 use Rattle.angles.specs.Sine.{cosine, tangent}
@@ -8,8 +9,6 @@ use Rattle.objects.specs.declared.sectors.ShadingObject.{ShadingObject}
 use Rattle.objects.specs.declared.sectors.ShadingSegment.{ShadingSegment}
 use Rattle.objects.specs.declared.window.WindowShadingObject.{WindowShadingObject}
 use Rattle.objects.specs.declared.answers.Refusal.TheVariants as refusal
-use Rattle.objects.specs.declared.answers.FactorAnswer.{FactorAnswer}
-use Rattle.objects.specs.declared.answers.FactorAnswer.TheVariants.{Factor, Refused}
 use Rattle.objects.specs.declared.window.WindowShadingType.TheVariants.{Obstacle, Overhang, SideFinRight, SideFinLeft, Reveal}
 use Rattle.objects.specs.Objects.{of_kind, is_obstacle, is_overhang, counted}
 use Rattle.shading.specs.declared.sun_on_surface.SunOnSurface.{SunOnSurface}
@@ -17,7 +16,7 @@ use Rattle.orientation.specs.Orientation.{orientation180}
 use Rattle.beam.specs.Beam.{outside_solar_beam}
 use Rattle.extents.specs.Extents.{obstacle_height, overhang_height, window_overhang_height}
 use Rattle.fins.specs.Fins.{fin_width, fins_of}
-use Rattle.segments.specs.Segments.{Segment, found, gap, turned, no_sector, segment_of}
+use Rattle.segments.specs.Segments.{segment_of}
 
 -- ---- the shade extents of a list of objects
 
@@ -128,15 +127,13 @@ has_reveal [] = false
 has_reveal (o ∷ rest) = of_kind Reveal o || has_reveal rest
 
 -- once the walk has come to a sector: a reveal is refused
-unfoldable pub factor_in : Surface → SunOnSurface → List WindowShadingObject → Segment → FactorAnswer
-factor_in surface sun window (found s) = cond (has_reveal window) (Refused refusal.Reveal) (Factor (reduction_factor surface sun (counted s) window))
-factor_in surface sun window gap = Refused refusal.Gap
-factor_in surface sun window turned = Refused refusal.Turned
-factor_in surface sun window no_sector = Refused refusal.NoSector
+unfoldable pub factor_in : Surface → SunOnSurface → List WindowShadingObject → Result ShadingSegment Refusal → Result Float Refusal
+factor_in surface sun window (Ok s) = cond (has_reveal window) (Err refusal.Reveal) (Ok (reduction_factor surface sun (counted s) window))
+factor_in surface sun window (Err r) = Err r
 
 -- outside the beam the answer is 1 and nothing else is looked at
-unfoldable pub shading_factor : ℕ → Surface → Float → Float → List ShadingSegment → List WindowShadingObject → FactorAnswer
+unfoldable pub shading_factor : ℕ → Surface → Float → Float → List ShadingSegment → List WindowShadingObject → Result Float Refusal
 unfolding whole
 shading_factor edition surface altitude azimuth sectors window =
-    cond (outside_solar_beam surface.tilt surface.orientation altitude azimuth) (Factor (whole 1))
+    cond (outside_solar_beam surface.tilt surface.orientation altitude azimuth) (Ok (whole 1))
     (factor_in surface (sun_on edition surface altitude azimuth) window (segment_of azimuth sectors))

@@ -1,4 +1,3 @@
 pub mod Factor
 pub mod ObjectSteps
-pub mod SunPlaces
 pub mod Call

@@ -1,5 +1,5 @@
 -- What the loops over objects do at one object. Each step moves the largest extents so far past that object's.
-use Rattle.std.specs.Prelude.{true, cond, Float}
+use Rattle.std.specs.Prelude.{true, cond}
 use Rattle.doubles.specs.Functions.{max_of2}
 use Rattle.objects.specs.declared.surface.Surface.{Surface}
 use Rattle.objects.specs.declared.sectors.ShadingObject.{ShadingObject}
@@ -24,19 +24,6 @@ distant_step surface sun shades o = record {
       (max_of2 shades.overhang (overhang_height surface.height surface.base_height o.height o.distance sun.tan_altitude))
       shades.overhang;
 }
-
--- one of the window's extents moved past another, the rest as it was
-unfoldable pub with_overhang : WindowShades → Float → WindowShades
-with_overhang shades height =
-    record { overhang = max_of2 shades.overhang height; right = shades.right; left = shades.left; reveal = shades.reveal }
-
-unfoldable pub with_right_fin : WindowShades → Float → WindowShades
-with_right_fin shades width =
-    record { overhang = shades.overhang; right = max_of2 shades.right width; left = shades.left; reveal = shades.reveal }
-
-unfoldable pub with_left_fin : WindowShades → Float → WindowShades
-with_left_fin shades width =
-    record { overhang = shades.overhang; right = shades.right; left = max_of2 shades.left width; reveal = shades.reveal }
 
 unfoldable pub window_step : SunOnSurface → WindowShades → WindowShadingObject → WindowShades
 unfolding of_kind

@@ -2,12 +2,11 @@
 ghost use Rattle.std.specs.Prelude.{◌≡◌};
 ghost use Rattle.doubles.specs.Arithmetic.{whole};
 ghost use Rattle.doubles.specs.Functions.{largest_of};
-ghost use Rattle.objects.specs.Objects.{counted};
 ghost use Rattle.shading.specs.Factor.{obstacle_extents, overhang_extents};
 ghost use Rattle.shading.specs.ObjectSteps.{distant_step};
 
 use crate::sun_on_surface::SunOnSurface;
-use objects::sectors::{ShadingObject, ShadingObjectType, ShadingSegment};
+use objects::sectors::{ShadingObject, ShadingObjectType};
 use objects::surface::Surface;
 
 // The largest heights shaded so far, by obstacles and by overhangs.
@@ -17,6 +16,7 @@ pub struct DistantShades {
     pub overhang: f64,
 }
 
+#[tactic(auto, unfolding(crate::specs::ObjectSteps::distant_step, objects::specs::Objects::is_obstacle, objects::specs::Objects::is_overhang))]
 fn with_object(
     shades: DistantShades,
     surface: Surface,
@@ -25,8 +25,7 @@ fn with_object(
 ) -> DistantShades
     ensures { result ≡ distant_step surface sun shades object }
 {
-    let object_type = object.object_type;
-    match object_type {
+    match object.object_type {
         ShadingObjectType::Obstacle => {
             let height = extents::obstacle_shading_height(
                 surface.base_height,
@@ -36,7 +35,7 @@ fn with_object(
             );
             DistantShades {
                 obstacle: doubles::max_of_2(shades.obstacle, height),
-                overhang: shades.overhang,
+                ..shades
             }
         }
         ShadingObjectType::Overhang => {
@@ -48,29 +47,28 @@ fn with_object(
                 sun.tan_altitude,
             );
             DistantShades {
-                obstacle: shades.obstacle,
                 overhang: doubles::max_of_2(shades.overhang, height),
+                ..shades
             }
         }
     }
 }
 
-// The largest shades of a sector's counted objects, in metres.
-pub fn distant_shades(surface: Surface, sun: SunOnSurface, segment: ShadingSegment) -> DistantShades
-    ensures { (result.obstacle ≡ largest_of (whole 0) (obstacle_extents surface sun (counted segment)))
-        × (result.overhang ≡ largest_of (whole 0) (overhang_extents surface sun (counted segment))) }
+// The largest shades of a sector's objects, in metres.
+pub fn distant_shades(
+    surface: Surface,
+    sun: SunOnSurface,
+    objects: &[ShadingObject],
+) -> DistantShades
+    ensures { (result.obstacle ≡ largest_of (whole 0) (obstacle_extents surface sun objects.now))
+        × (result.overhang ≡ largest_of (whole 0) (overhang_extents surface sun objects.now)) }
 {
-    let objects = segment.shading_objects;
-    let n = objects::counted_places(segment.count, 8);
     let mut shades = DistantShades {
         obstacle: 0.0,
         overhang: 0.0,
     };
-    let mut i: usize = 0;
-    while i < n {
-        let object = objects[i];
-        shades = with_object(shades, surface, sun, object);
-        i += 1;
+    for object in objects {
+        shades = with_object(shades, surface, sun, *object);
     }
     shades
 }

@@ -1,17 +1,16 @@
 // The direct shading reduction factor of one hour.
-ghost use Rattle.std.specs.Prelude.{◌≡◌, cond};
+ghost use Rattle.std.specs.Prelude.{◌≡◌, Ok, cond};
 ghost use Rattle.doubles.specs.Functions.{float_min};
 ghost use Rattle.objects.specs.declared.window.WindowShadingType.TheVariants.{Obstacle};
-ghost use Rattle.objects.specs.Objects.{of_kind, placed};
+ghost use Rattle.objects.specs.Objects.{of_kind};
 ghost use Rattle.shading.specs.Factor.{sunlit_part, sunlit_between, near_factor, least_of, extents, factor_in};
-ghost use Rattle.segments.specs.Segments.{found};
 
 use crate::sun_on_surface::SunOnSurface;
 use crate::{distant, window};
-use objects::answers::{FactorAnswer, Refusal};
+use objects::answers::Refusal;
 use objects::sectors::ShadingSegment;
 use objects::surface::Surface;
-use objects::window::{WindowShading, WindowShadingObject, WindowShadingType};
+use objects::window::{WindowShadingObject, WindowShadingType};
 
 // The part of the surface that a sunlit height and width make.
 fn sunlit_part(surface: Surface, height: f64, width: f64) -> f64
@@ -43,6 +42,7 @@ fn near_factor(
 }
 
 // Only obstacles count here.
+#[tactic(auto, unfolding(objects::specs::Objects::of_kind, objects::specs::Objects::kind_number))]
 fn with_object(
     factor: f64,
     surface: Surface,
@@ -53,15 +53,11 @@ fn with_object(
 ) -> f64
     ensures { result ≡ cond (of_kind Obstacle object) (float_min factor (near_factor surface sun hk_ovh wk_sun object)) factor }
 {
-    let object_type = object.object_type;
-    match object_type {
+    match object.object_type {
         WindowShadingType::Obstacle => {
             doubles::float_min(factor, near_factor(surface, sun, hk_ovh, wk_sun, object))
         }
-        WindowShadingType::Overhang => factor,
-        WindowShadingType::SideFinRight => factor,
-        WindowShadingType::SideFinLeft => factor,
-        WindowShadingType::Reveal => factor,
+        _ => factor,
     }
 }
 
@@ -72,18 +68,13 @@ fn least_factor(
     sun: SunOnSurface,
     hk_ovh: f64,
     wk_sun: f64,
-    window: WindowShading,
+    objects: &[WindowShadingObject],
 ) -> f64
-    ensures { result ≡ least_of first (extents (of_kind Obstacle) (near_factor surface sun hk_ovh wk_sun) (placed window)) }
+    ensures { result ≡ least_of first (extents (of_kind Obstacle) (near_factor surface sun hk_ovh wk_sun) objects.now) }
 {
-    let objects = window.objects;
-    let n = objects::counted_places(window.count, 16);
     let mut factor = first;
-    let mut i: usize = 0;
-    while i < n {
-        let object = objects[i];
-        factor = with_object(factor, surface, sun, hk_ovh, wk_sun, object);
-        i += 1;
+    for object in objects {
+        factor = with_object(factor, surface, sun, hk_ovh, wk_sun, *object);
     }
     factor
 }
@@ -99,16 +90,15 @@ fn between(whole: f64, one: f64, other: f64) -> f64
 pub fn factor_in(
     surface: Surface,
     sun: SunOnSurface,
-    segment: ShadingSegment,
-    window: WindowShading,
-) -> FactorAnswer
-    ensures { result ≡ factor_in surface sun (placed window) (found segment) }
+    segment: &ShadingSegment,
+    window: &[WindowShadingObject],
+) -> Result<f64, Refusal>
+    ensures { result ≡ factor_in surface sun window.now (Ok segment.now) }
 {
-    let distant = distant::distant_shades(surface, sun, segment);
+    let distant = distant::distant_shades(surface, sun, segment.objects());
     let near = window::window_shades(sun, distant.overhang, window);
-    let reveal = near.reveal;
-    if reveal {
-        return FactorAnswer::Refused(Refusal::Reveal);
+    if near.reveal {
+        return Err(Refusal::Reveal);
     }
     let hk_obst = doubles::min_of_2(surface.height, distant.obstacle);
     let hk_ovh = doubles::min_of_2(surface.height, near.overhang);
@@ -118,5 +108,5 @@ pub fn factor_in(
     let wk_sun = between(surface.width, wk_finr, wk_finl);
     let first = sunlit_part(surface, hk_sun, wk_sun);
     let factor = least_factor(first, surface, sun, hk_ovh, wk_sun, window);
-    FactorAnswer::Factor(factor)
+    Ok(factor)
 }

@@ -1,5 +1,6 @@
 -- The laws at one step, of answers that are factors: from 0 to 1, exactly 1 without objects, and of two lists of sectors that are
 -- bounded alike no larger where there are more objects, the same where the objects are. Assumes nothing.
+use Rattle.std.specs.Prelude.{Err, Float, Ok, Result}
 use mathlib.Core.Path.{◌≡◌, refl, ap, sym, subst}
 use mathlib.Core.Bool.{Bool, true, false, cond}
 use mathlib.Core.List.{List, []}
@@ -15,16 +16,14 @@ use Rattle.objects.specs.declared.sectors.ShadingSegment.{ShadingSegment}
 use Rattle.objects.specs.declared.window.WindowShadingObject.{WindowShadingObject}
 use Rattle.objects.specs.declared.answers.Refusal.{Refusal}
 use Rattle.objects.specs.declared.answers.Refusal.TheVariants as refusal
-use Rattle.objects.specs.declared.answers.FactorAnswer.{FactorAnswer}
-use Rattle.objects.specs.declared.answers.FactorAnswer.TheVariants.{Factor, Refused}
 use Rattle.beam.specs.Beam.{outside_solar_beam}
-use Rattle.segments.specs.Segments.{Segment, found, gap, turned, no_sector, segment_of}
+use Rattle.segments.specs.Segments.{segment_of}
 use Rattle.objects.specs.Objects.{counted}
 use Rattle.shading.specs.Factor.{sun_on, has_reveal, reduction_factor, factor_in, shading_factor}
 use Rattle.words.specs.Lists.{PlaceByPlace}
 use Rattle.segments.specs.SameSectors.{SameBounds}
 use Rattle.shading_laws.specs.Premises.{AcceptedSurface, NoNanAt, AcceptedNear, Holds, MoreInSector, SameInSector}
-use Rattle.segments.proofs.SameWalks.{SameWalk, both_found, both_gap, both_turned, both_none, segment_alike}
+use Rattle.segments.proofs.SameWalks.{SameWalk, both_found, both_none, segment_alike}
 use Rattle.shading_laws.proofs.Bounds.{factor_nonneg, factor_le_one}
 use Rattle.shading_laws.proofs.NoObjects.{factor_no_objects}
 use Rattle.shading_laws.proofs.MoreObjects.{factor_more_objects}
@@ -34,19 +33,19 @@ use Rattle.doubles.proofs.Signs.{Unsigned, positive_unsigned}
 
 -- ---- an answer that is a factor is no refusal, and has one value
 
-is_factor : FactorAnswer → Bool
-is_factor (Factor x) = true
-is_factor (Refused r) = false
+is_factor : Result Float Refusal → Bool
+is_factor (Ok x) = true
+is_factor (Err r) = false
 
-value_of : FactorAnswer → Float
-value_of (Factor x) = x
-value_of (Refused r) = whole 0
+value_of : Result Float Refusal → Float
+value_of (Ok x) = x
+value_of (Err r) = whole 0
 
-pub not_refused : {A : Type 0} {r : Refusal} {x : Float} → Refused r ≡ Factor x → A
+pub not_refused : {A : Type 0} {r : Refusal} {x : Float} → ◌≡◌ {A = Result Float Refusal} (Err r) (Ok x) → A
 unfolding is_factor
 not_refused e = absurd (subst T (sym (ap is_factor e)) tt)
 
-pub same_factor : {x y : Float} → Factor x ≡ Factor y → x ≡ y
+pub same_factor : {x y : Float} → ◌≡◌ {A = Result Float Refusal} (Ok x) (Ok y) → x ≡ y
 unfolding value_of
 same_factor e = ap value_of e
 
@@ -54,24 +53,22 @@ same_factor e = ap value_of e
 
 module _ (edition : ℕ) (surface : Surface) (altitude azimuth : Float) (ss : List ShadingSegment) (ws : List WindowShadingObject) (P : Float → Type 0) (one : P (whole 1)) where
   pub answer_has : (outside_solar_beam surface.tilt surface.orientation altitude azimuth ≡ false
-      → (s : ShadingSegment) → segment_of azimuth ss ≡ found s → P (reduction_factor surface (sun_on edition surface altitude azimuth) (counted s) ws))
-      → (x : Float) → shading_factor edition surface altitude azimuth ss ws ≡ Factor x → P x
+      → (s : ShadingSegment) → segment_of azimuth ss ≡ Ok s → P (reduction_factor surface (sun_on edition surface altitude azimuth) (counted s) ws))
+      → (x : Float) → shading_factor edition surface altitude azimuth ss ws ≡ Ok x → P x
   unfolding shading_factor factor_in
   answer_has inside x e = go (outside_solar_beam surface.tilt surface.orientation altitude azimuth) refl e
     where
-      by_reveal : (b : Bool) (f : Float) → P f → cond b (Refused refusal.Reveal) (Factor f) ≡ Factor x → P x
+      by_reveal : (b : Bool) (f : Float) → P f → cond b (Err refusal.Reveal) (Ok f) ≡ Ok x → P x
       by_reveal true f p e = not_refused e
       by_reveal false f p e = subst P (same_factor e) p
 
-      walked : ((s : ShadingSegment) → segment_of azimuth ss ≡ found s → P (reduction_factor surface (sun_on edition surface altitude azimuth) (counted s) ws))
-          → (w : Segment) → segment_of azimuth ss ≡ w → factor_in surface (sun_on edition surface altitude azimuth) ws w ≡ Factor x → P x
-      walked h gap k e = not_refused e
-      walked h turned k e = not_refused e
-      walked h no_sector k e = not_refused e
-      walked h (found s) k e = by_reveal (has_reveal ws) (reduction_factor surface (sun_on edition surface altitude azimuth) (counted s) ws) (h s k) e
+      walked : ((s : ShadingSegment) → segment_of azimuth ss ≡ Ok s → P (reduction_factor surface (sun_on edition surface altitude azimuth) (counted s) ws))
+          → (w : Result ShadingSegment Refusal) → segment_of azimuth ss ≡ w → factor_in surface (sun_on edition surface altitude azimuth) ws w ≡ Ok x → P x
+      walked h (Err r) k e = not_refused e
+      walked h (Ok s) k e = by_reveal (has_reveal ws) (reduction_factor surface (sun_on edition surface altitude azimuth) (counted s) ws) (h s k) e
 
       go : (b : Bool) → outside_solar_beam surface.tilt surface.orientation altitude azimuth ≡ b
-          → cond b (Factor (whole 1)) (factor_in surface (sun_on edition surface altitude azimuth) ws (segment_of azimuth ss)) ≡ Factor x → P x
+          → cond b (Ok (whole 1)) (factor_in surface (sun_on edition surface altitude azimuth) ws (segment_of azimuth ss)) ≡ Ok x → P x
       go true k e = subst P (same_factor e) one
       go false k e = walked (inside k) (segment_of azimuth ss) refl e
 
@@ -83,36 +80,34 @@ module _ (R : ShadingSegment → ShadingSegment → Type 0) (bounds : (s t : Sha
   -- the two sectors that are found, inside the beam
   abbrev pub Inside : Type 0
   Inside = outside_solar_beam surface.tilt surface.orientation altitude azimuth ≡ false → (s t : ShadingSegment) → R s t
-      → segment_of azimuth ss ≡ found s → segment_of azimuth ts ≡ found t
+      → segment_of azimuth ss ≡ Ok s → segment_of azimuth ts ≡ Ok t
       → P (reduction_factor surface (sun_on edition surface altitude azimuth) (counted s) ws) (reduction_factor surface (sun_on edition surface altitude azimuth) (counted t) vs)
 
   pub answers_have : PlaceByPlace R ss ts → Inside
-      → (x y : Float) → shading_factor edition surface altitude azimuth ss ws ≡ Factor x → shading_factor edition surface altitude azimuth ts vs ≡ Factor y → P x y
+      → (x y : Float) → shading_factor edition surface altitude azimuth ss ws ≡ Ok x → shading_factor edition surface altitude azimuth ts vs ≡ Ok y → P x y
   unfolding shading_factor factor_in
   answers_have p inside x y e f = go (outside_solar_beam surface.tilt surface.orientation altitude azimuth) refl e f
     where
-      pair : {u v : Float} → P u v → Factor u ≡ Factor x → Factor v ≡ Factor y → P x y
+      pair : {u v : Float} → P u v → ◌≡◌ {A = Result Float Refusal} (Ok u) (Ok x) → ◌≡◌ {A = Result Float Refusal} (Ok v) (Ok y) → P x y
       pair {u} {v} q e f = subst (λ (z : Float). P z y) (same_factor e) (subst (P u) (same_factor f) q)
 
-      by_reveal : (b c : Bool) (u v : Float) → P u v → cond b (Refused refusal.Reveal) (Factor u) ≡ Factor x → cond c (Refused refusal.Reveal) (Factor v) ≡ Factor y → P x y
+      by_reveal : (b c : Bool) (u v : Float) → P u v → cond b (Err refusal.Reveal) (Ok u) ≡ Ok x → cond c (Err refusal.Reveal) (Ok v) ≡ Ok y → P x y
       by_reveal true c u v q e f = not_refused e
       by_reveal false true u v q e f = not_refused f
       by_reveal false false u v q e f = pair q e f
 
-      walked : ((s t : ShadingSegment) → R s t → segment_of azimuth ss ≡ found s → segment_of azimuth ts ≡ found t
+      walked : ((s t : ShadingSegment) → R s t → segment_of azimuth ss ≡ Ok s → segment_of azimuth ts ≡ Ok t
           → P (reduction_factor surface (sun_on edition surface altitude azimuth) (counted s) ws) (reduction_factor surface (sun_on edition surface altitude azimuth) (counted t) vs))
-          → {w z : Segment} → SameWalk R w z → segment_of azimuth ss ≡ w → segment_of azimuth ts ≡ z
-          → factor_in surface (sun_on edition surface altitude azimuth) ws w ≡ Factor x → factor_in surface (sun_on edition surface altitude azimuth) vs z ≡ Factor y → P x y
-      walked h both_gap j k e f = not_refused e
-      walked h both_turned j k e f = not_refused e
+          → {w z : Result ShadingSegment Refusal} → SameWalk R w z → segment_of azimuth ss ≡ w → segment_of azimuth ts ≡ z
+          → factor_in surface (sun_on edition surface altitude azimuth) ws w ≡ Ok x → factor_in surface (sun_on edition surface altitude azimuth) vs z ≡ Ok y → P x y
       walked h both_none j k e f = not_refused e
       walked h (both_found {s} {t} r) j k e f =
           by_reveal (has_reveal ws) (has_reveal vs) (reduction_factor surface (sun_on edition surface altitude azimuth) (counted s) ws)
           (reduction_factor surface (sun_on edition surface altitude azimuth) (counted t) vs) (h s t r j k) e f
 
       go : (b : Bool) → outside_solar_beam surface.tilt surface.orientation altitude azimuth ≡ b
-          → cond b (Factor (whole 1)) (factor_in surface (sun_on edition surface altitude azimuth) ws (segment_of azimuth ss)) ≡ Factor x
-          → cond b (Factor (whole 1)) (factor_in surface (sun_on edition surface altitude azimuth) vs (segment_of azimuth ts)) ≡ Factor y → P x y
+          → cond b (Ok (whole 1)) (factor_in surface (sun_on edition surface altitude azimuth) ws (segment_of azimuth ss)) ≡ Ok x
+          → cond b (Ok (whole 1)) (factor_in surface (sun_on edition surface altitude azimuth) vs (segment_of azimuth ts)) ≡ Ok y → P x y
       go true k e f = pair one e f
       go false k e f = walked (inside k) (segment_alike R bounds azimuth p) refl refl e f
 
@@ -128,7 +123,7 @@ one_fits = record { holds = tt }
 
 module _ {edition : ℕ} {surface : Surface} {altitude azimuth : Float} {ss : List ShadingSegment} {ws : List WindowShadingObject}
     (a : AcceptedSurface surface) (n : NoNanAt edition surface altitude azimuth ss ws) (b : AcceptedNear ws) (x : Float)
-    (e : shading_factor edition surface altitude azimuth ss ws ≡ Factor x) where
+    (e : shading_factor edition surface altitude azimuth ss ws ≡ Ok x) where
   -- every factor lies from 0 to 1
   pub answer_nonneg : whole 0 ≼ x
   answer_nonneg = answer_has edition surface altitude azimuth ss ws (λ (z : Float). whole 0 ≼ z) zero-le_one (λ k s m. factor_nonneg a (n.at_found k s m) b) x e
@@ -142,14 +137,14 @@ module _ {edition : ℕ} {surface : Surface} {altitude azimuth : Float} {ss : Li
 
 -- every factor is a double, whatever goes in
 pub answer_fits : (edition : ℕ) (surface : Surface) (altitude azimuth : Float) (ss : List ShadingSegment) (ws : List WindowShadingObject) (x : Float)
-    → shading_factor edition surface altitude azimuth ss ws ≡ Factor x → Fits x
+    → shading_factor edition surface altitude azimuth ss ws ≡ Ok x → Fits x
 answer_fits edition surface altitude azimuth ss ws =
     answer_has edition surface altitude azimuth ss ws Fits one_fits (λ k s m. factor_fits surface (sun_on edition surface altitude azimuth) (counted s) ws)
 
 -- with no object in the sector that is found, and none at the window, it is exactly 1
 pub answer_no_objects : (edition : ℕ) {surface : Surface} (altitude azimuth : Float) (ss : List ShadingSegment) → AcceptedSurface surface
-    → ((s : ShadingSegment) → segment_of azimuth ss ≡ found s → counted s ≡ [])
-    → (x : Float) → shading_factor edition surface altitude azimuth ss [] ≡ Factor x → x ≡ whole 1
+    → ((s : ShadingSegment) → segment_of azimuth ss ≡ Ok s → counted s ≡ [])
+    → (x : Float) → shading_factor edition surface altitude azimuth ss [] ≡ Ok x → x ≡ whole 1
 answer_no_objects edition {surface} altitude azimuth ss a none x e =
     answer_has edition surface altitude azimuth ss [] (λ (z : Float). z ≡ whole 1) refl
     (λ k s m. rw (none s m) (factor_no_objects surface a (sun_on edition surface altitude azimuth))) x e
@@ -157,7 +152,7 @@ answer_no_objects edition {surface} altitude azimuth ss a none x e =
 module _ {edition : ℕ} {surface : Surface} {altitude azimuth : Float} {ss ts : List ShadingSegment} {ws vs : List WindowShadingObject}
     (a : AcceptedSurface surface) (n : NoNanAt edition surface altitude azimuth ss ws) (m : NoNanAt edition surface altitude azimuth ts vs)
     (b : AcceptedNear ws) (c : AcceptedNear vs) (x y : Float)
-    (e : shading_factor edition surface altitude azimuth ss ws ≡ Factor x) (f : shading_factor edition surface altitude azimuth ts vs ≡ Factor y) where
+    (e : shading_factor edition surface altitude azimuth ss ws ≡ Ok x) (f : shading_factor edition surface altitude azimuth ts vs ≡ Ok y) where
   -- more objects never a larger factor
   pub answers_more_objects : PlaceByPlace MoreInSector ss ts → Holds vs ws → y ≼ x
   answers_more_objects p h =

@@ -3,6 +3,7 @@ use mathlib.Core.Path.{◌≡◌, refl, subst}
 use mathlib.Core.Logic.{◌⊎◌, inl, inr}
 use mathlib.Core.Bool.{Bool, true, false}
 use lib.Ieee.{Float, sub, is_nan}
+use Rattle.std.specs.Prelude.{Option, Some, None}
 use Rattle.doubles.specs.Arithmetic.{◌⊕◌, ◌⊖◌, ◌⊗◌, ◌⊘◌, whole}
 use Rattle.doubles.specs.Functions.{max_of2, float_max}
 use Rattle.doubles.specs.Order.{◌≼◌, ◌≺◌, Number}
@@ -13,8 +14,6 @@ use Rattle.doubles.proofs.Folds.{max_left}
 use Rattle.doubles.proofs.Intervals.{mul_keeps, mul_either, div_either}
 use Rattle.doubles.proofs.MinMax.{max_mono, float_max_is}
 use Rattle.extents.specs.Extents.{obstacle_height, overhang_height, window_overhang_height}
-use Rattle.fins.specs.declared.FinShade.{FinShade}
-use Rattle.fins.specs.declared.FinShade.TheVariants.{Tangent, NoShade}
 use Rattle.fins.specs.Fins.{fin_width}
 use Rattle.objects.specs.declared.window.WindowShadingObject.{WindowShadingObject}
 use Rattle.shading.specs.declared.sun_on_surface.SunOnSurface.{SunOnSurface}
@@ -123,17 +122,17 @@ module _ (sun : SunOnSurface) (o p : WindowShadingObject) (n : Number (overhang_
 
 -- ---- fins
 
-pub fin_nearer : (fin : FinShade) (o p : WindowShadingObject) → Number (fin_width fin o.size o.distance) → Number (fin_width fin p.size p.distance)
+pub fin_nearer : (fin : Option Float) (o p : WindowShadingObject) → Number (fin_width fin o.size o.distance) → Number (fin_width fin p.size p.distance)
     → o.size ≡ p.size → p.distance ≼ o.distance → fin_width fin o.size o.distance ≼ fin_width fin p.size p.distance
 unfolding fin_width
-fin_nearer (Tangent t) o p n m e h = sub_mono (subst (λ (d : Float). o.size ⊗ t ≼ d ⊗ t) e (le_refl (sub_operands n).0)) h n m
-fin_nearer NoShade o p n m e h = le_refl zero_number
+fin_nearer (Some t) o p n m e h = sub_mono (subst (λ (d : Float). o.size ⊗ t ≼ d ⊗ t) e (le_refl (sub_operands n).0)) h n m
+fin_nearer None o p n m e h = le_refl zero_number
 
-pub fin_deeper : (fin : FinShade) (o p : WindowShadingObject) → TangentUp fin ⊎ NotNegative o
+pub fin_deeper : (fin : Option Float) (o p : WindowShadingObject) → TangentUp fin ⊎ NotNegative o
     → Number (fin_width fin o.size o.distance) → Number (fin_width fin p.size p.distance) → o.distance ≡ p.distance → o.size ≼ p.size
     → (fin_width fin o.size o.distance ≼ whole 0) ⊎ (fin_width fin o.size o.distance ≼ fin_width fin p.size p.distance)
 unfolding fin_width TangentUp
-fin_deeper NoShade o p asked n m e h = inl (le_refl zero_number)
-fin_deeper (Tangent t) o p (inl up) n m e h = inr (same_distance n m e (mul_keeps up h (sub_operands n).0 (sub_operands m).0))
-fin_deeper (Tangent t) o p (inr z) n m e h =
+fin_deeper None o p asked n m e h = inl (le_refl zero_number)
+fin_deeper (Some t) o p (inl up) n m e h = inr (same_distance n m e (mul_keeps up h (sub_operands n).0 (sub_operands m).0))
+fin_deeper (Some t) o p (inr z) n m e h =
     either_distance n m e z.distance_from (mul_either t z.size_from h (sub_operands n).0 (sub_operands m).0)

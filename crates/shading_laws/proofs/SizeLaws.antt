@@ -1,4 +1,6 @@
 -- The laws of sizes, proved: at one step, and in factor calls. Assumes nothing.
+use Rattle.objects.specs.declared.answers.Refusal.{Refusal}
+use Rattle.std.specs.Prelude.{Err, Ok, Result}
 use mathlib.Core.Path.{◌≡◌, refl, sym, ap, ap₂, ◌∙◌, subst}
 use mathlib.Core.Bool.{Bool, true, false, cond, ◌&&◌, ◌||◌}
 use mathlib.Core.List.{List, ◌∷◌, ◌++◌}
@@ -13,6 +15,7 @@ use Rattle.doubles.specs.Order.{◌≼◌, InRange}
 use Rattle.doubles.proofs.Order.{le_refl}
 use Rattle.doubles.proofs.Bounds.{one_number}
 use Rattle.doubles.proofs.Ranges.{both_of, within_range}
+use Rattle.objects.specs.declared.sectors.ShadingSegment.{ShadingSegment}
 use Rattle.words.specs.Lists.{PlaceByPlace, none, and_then}
 use Rattle.objects.specs.declared.surface.Surface.{Surface}
 use Rattle.objects.specs.declared.sectors.ShadingObject.{ShadingObject}
@@ -20,15 +23,14 @@ use Rattle.objects.specs.declared.window.WindowShadingObject.{WindowShadingObjec
 use Rattle.objects.specs.declared.window.WindowShadingType.{WindowShadingType}
 use Rattle.objects.specs.declared.window.WindowShadingType.TheVariants.{Obstacle, Overhang, SideFinRight, SideFinLeft, Reveal}
 use Rattle.objects.specs.declared.answers.Refusal.TheVariants as refusal
-use Rattle.objects.specs.declared.answers.FactorAnswer.TheVariants.{Factor, Refused}
 use Rattle.objects.specs.Objects.{kind_number, of_kind}
 use Rattle.objects.specs.Records.{sectors_of, window_objects_of}
 use Rattle.objects.specs.Surface.{surface_fine}
 use Rattle.object_checks.specs.Checks.{sectors_fine, window_fine}
 use Rattle.beam.specs.Beam.{outside_solar_beam}
 use Rattle.fins.specs.Fins.{edition_fine}
-use Rattle.segments.specs.Segments.{Segment, segment_of}
-use Rattle.segments.proofs.SameWalks.{SameWalk, both_found, both_gap, both_turned, both_none, segment_alike}
+use Rattle.segments.specs.Segments.{segment_of}
+use Rattle.segments.proofs.SameWalks.{SameWalk, both_found, both_none, segment_alike}
 use Rattle.shading.specs.Factor.{sun_on, has_reveal, factor_in, shading_factor}
 use Rattle.shading.specs.Call.{sun_fine, factor_call}
 use Rattle.shading_laws.specs.Premises.{Doubles, NoNanAt}
@@ -74,25 +76,23 @@ pub sizes_at_one_step : SizesAtOneStep
 unfolding shading_factor factor_in NoLargerAnswer
 sizes_at_one_step edition surface altitude azimuth ss ts ws vs a b c n m p q = go (outside_solar_beam surface.tilt surface.orientation altitude azimuth) refl
   where
-    by_reveal : (r r' : Bool) {x y : Float} → r ≡ r' → y ≼ x → NoLargerAnswer (cond r (Refused refusal.Reveal) (Factor x)) (cond r' (Refused refusal.Reveal) (Factor y))
+    by_reveal : (r r' : Bool) {x y : Float} → r ≡ r' → y ≼ x → NoLargerAnswer (cond r (Err refusal.Reveal) (Ok x)) (cond r' (Err refusal.Reveal) (Ok y))
     by_reveal true true e h = refl
     by_reveal false false e h = h
     by_reveal true false e h = absurd (subst T e tt)
     by_reveal false true e h = absurd (subst T (sym e) tt)
 
     walked : outside_solar_beam surface.tilt surface.orientation altitude azimuth ≡ false
-        → {w z : Segment} → SameWalk (SectorShadesNoLess (asked_at surface (sun_on edition surface altitude azimuth))) w z → segment_of azimuth ss ≡ w → segment_of azimuth ts ≡ z
+        → {w z : Result ShadingSegment Refusal} → SameWalk (SectorShadesNoLess (asked_at surface (sun_on edition surface altitude azimuth))) w z → segment_of azimuth ss ≡ w → segment_of azimuth ts ≡ z
         → NoLargerAnswer (factor_in surface (sun_on edition surface altitude azimuth) ws w) (factor_in surface (sun_on edition surface altitude azimuth) vs z)
-    walked k both_gap i j = refl
-    walked k both_turned i j = refl
     walked k both_none i j = refl
     walked k (both_found {s} {t} r) i j =
         by_reveal (has_reveal ws) (has_reveal vs) (reveals_same q)
         (factor_no_larger a (n.at_found k s i) (m.at_found k t j) b c (partner r.objects) (partner q))
 
     go : (o : Bool) → outside_solar_beam surface.tilt surface.orientation altitude azimuth ≡ o
-        → NoLargerAnswer (cond o (Factor (whole 1)) (factor_in surface (sun_on edition surface altitude azimuth) ws (segment_of azimuth ss)))
-        (cond o (Factor (whole 1)) (factor_in surface (sun_on edition surface altitude azimuth) vs (segment_of azimuth ts)))
+        → NoLargerAnswer (cond o (Ok (whole 1)) (factor_in surface (sun_on edition surface altitude azimuth) ws (segment_of azimuth ss)))
+        (cond o (Ok (whole 1)) (factor_in surface (sun_on edition surface altitude azimuth) vs (segment_of azimuth ts)))
     go true k = le_refl one_number
     go false k = walked k (segment_alike (SectorShadesNoLess (asked_at surface (sun_on edition surface altitude azimuth))) (λ s t r. r.bounds) azimuth p) refl refl
 
@@ -119,8 +119,8 @@ unfolding factor_call NoLargerAnswer
 sizes_in_calls edition altitude azimuth surface l m w v d e x y p q = go (edition_fine edition)
   where
     listed : (b c : Bool) → b ≡ c → sectors_fine l && window_fine w ≡ b → sectors_fine m && window_fine v ≡ c → T (sun_fine altitude azimuth && surface_fine surface)
-        → NoLargerAnswer (cond b (shading_factor edition surface altitude azimuth (sectors_of l) (window_objects_of w)) (Refused refusal.Object))
-        (cond c (shading_factor edition surface altitude azimuth (sectors_of m) (window_objects_of v)) (Refused refusal.Object))
+        → NoLargerAnswer (cond b (shading_factor edition surface altitude azimuth (sectors_of l) (window_objects_of w)) (Err refusal.Object))
+        (cond c (shading_factor edition surface altitude azimuth (sectors_of m) (window_objects_of v)) (Err refusal.Object))
     listed false false e i j t = refl
     listed true false e i j t = absurd (subst T e tt)
     listed false true e i j t = absurd (subst T (sym e) tt)
@@ -130,13 +130,13 @@ sizes_in_calls edition altitude azimuth surface l m w v d e x y p q = go (editio
         (and_l (sectors_fine m) (window_fine v) (rw j tt)) (and_r (sectors_fine l) (window_fine w) (rw i tt)) (and_r (sectors_fine m) (window_fine v) (rw j tt)) x y p q
 
     ranged : (b : Bool) → sun_fine altitude azimuth && surface_fine surface ≡ b
-        → NoLargerAnswer (cond b (cond (sectors_fine l && window_fine w) (shading_factor edition surface altitude azimuth (sectors_of l) (window_objects_of w)) (Refused refusal.Object)) (Refused refusal.Surface))
-        (cond b (cond (sectors_fine m && window_fine v) (shading_factor edition surface altitude azimuth (sectors_of m) (window_objects_of v)) (Refused refusal.Object)) (Refused refusal.Surface))
+        → NoLargerAnswer (cond b (cond (sectors_fine l && window_fine w) (shading_factor edition surface altitude azimuth (sectors_of l) (window_objects_of w)) (Err refusal.Object)) (Err refusal.Surface))
+        (cond b (cond (sectors_fine m && window_fine v) (shading_factor edition surface altitude azimuth (sectors_of m) (window_objects_of v)) (Err refusal.Object)) (Err refusal.Surface))
     ranged false k = refl
     ranged true k = listed (sectors_fine l && window_fine w) (sectors_fine m && window_fine v) e refl refl (rw k tt)
 
     go : (b : Bool)
-        → NoLargerAnswer (cond b (cond (sun_fine altitude azimuth && surface_fine surface) (cond (sectors_fine l && window_fine w) (shading_factor edition surface altitude azimuth (sectors_of l) (window_objects_of w)) (Refused refusal.Object)) (Refused refusal.Surface)) (Refused refusal.Edition))
-        (cond b (cond (sun_fine altitude azimuth && surface_fine surface) (cond (sectors_fine m && window_fine v) (shading_factor edition surface altitude azimuth (sectors_of m) (window_objects_of v)) (Refused refusal.Object)) (Refused refusal.Surface)) (Refused refusal.Edition))
+        → NoLargerAnswer (cond b (cond (sun_fine altitude azimuth && surface_fine surface) (cond (sectors_fine l && window_fine w) (shading_factor edition surface altitude azimuth (sectors_of l) (window_objects_of w)) (Err refusal.Object)) (Err refusal.Surface)) (Err refusal.Edition))
+        (cond b (cond (sun_fine altitude azimuth && surface_fine surface) (cond (sectors_fine m && window_fine v) (shading_factor edition surface altitude azimuth (sectors_of m) (window_objects_of v)) (Err refusal.Object)) (Err refusal.Surface)) (Err refusal.Edition))
     go false = refl
     go true = ranged (sun_fine altitude azimuth && surface_fine surface) refl

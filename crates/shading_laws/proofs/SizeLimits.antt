@@ -1,5 +1,7 @@
 -- Where a law of sizes would be false if it asked for less, computed by the checker: in each case one object is changed in one measure,
 -- and the factor rises. The surface is upright and faces south, 4 m high and 1 m wide, and its base is on the ground, but where it is said.
+use Rattle.std.specs.Prelude.{Err, Float, Ok, Result}
+use Rattle.objects.specs.declared.answers.Refusal.{Refusal}
 use mathlib.Core.Path.{◌≡◌, refl}
 use mathlib.Core.Bool.{Bool, true, false, ◌&&◌}
 use mathlib.Core.List.{List, [], ◌∷◌}
@@ -18,8 +20,6 @@ use Rattle.objects.specs.declared.sectors.ShadingSegment.{ShadingSegment}
 use Rattle.objects.specs.declared.window.WindowShadingObject.{WindowShadingObject}
 use Rattle.objects.specs.declared.window.WindowShadingType.{WindowShadingType}
 use Rattle.objects.specs.declared.window.WindowShadingType.TheVariants.{Obstacle, Overhang, SideFinRight}
-use Rattle.objects.specs.declared.answers.FactorAnswer.{FactorAnswer}
-use Rattle.objects.specs.declared.answers.FactorAnswer.TheVariants.{Factor, Refused}
 use Rattle.objects.specs.Objects.{counted}
 use Rattle.beam.specs.Beam.{outside_solar_beam}
 use Rattle.segments.specs.Segments.{segment_of}
@@ -44,32 +44,32 @@ unfoldable pub around : ℕ → List ShadingObject → List ShadingSegment
 around count objects = record { start360 = whole 0; end360 = whole 360; count = count; shading_objects = objects } ∷ []
 
 -- the second factor is above the first
-unfoldable pub raised : FactorAnswer → FactorAnswer → Bool
-raised (Factor x) (Factor y) = lt x y
-raised (Factor x) (Refused r) = false
-raised (Refused r) y = false
+unfoldable pub raised : Result Float Refusal → Result Float Refusal → Bool
+raised (Ok x) (Ok y) = lt x y
+raised (Ok x) (Err r) = false
+raised (Err r) y = false
 
 -- ---- the cases
 
 -- a distant object at altitude 135, whose tangent is below 0; no call accepts that altitude
-unfoldable pub behind : ShadingObject → FactorAnswer
+unfoldable pub behind : ShadingObject → Result Float Refusal
 behind o = shading_factor 1 (facing (whole 90) (whole 180) (whole 4)) (whole 135) (whole 0) (around 1 (o ∷ [])) []
 
 -- and at altitude 0
-unfoldable pub level : ShadingObject → FactorAnswer
+unfoldable pub level : ShadingObject → Result Float Refusal
 level o = shading_factor 1 (facing (whole 90) (whole 180) (whole 4)) (whole 0) (whole 0) (around 1 (o ∷ [])) []
 
 -- a near obstacle under eaves that shade half of a surface 3 m high, at altitude 0
-unfoldable pub under : Float → Float → FactorAnswer
+unfoldable pub under : Float → Float → Result Float Refusal
 under transparency size =
     shading_factor 1 (facing (whole 90) (whole 180) (whole 3)) (whole 0) (whole 0) (around 1 (eaves (decimal 15 1) (whole 1) ∷ [])) (part Obstacle size transparency ∷ [])
 
 -- on a rooflight to the north, the sun in the east: the difference is −270, whose cosine is below 0
-unfoldable pub eastern : WindowShadingObject → FactorAnswer
+unfoldable pub eastern : WindowShadingObject → Result Float Refusal
 eastern o = shading_factor 1 (facing (whole 0) (whole 0) (whole 1)) (whole 45) (neg (whole 90)) (around 0 []) (o ∷ [])
 
 -- the sun 30 degrees before the surface, where the tangent of edition 1's right fin is below 0
-unfoldable pub aside : WindowShadingObject → FactorAnswer
+unfoldable pub aside : WindowShadingObject → Result Float Refusal
 aside o = shading_factor 1 (facing (whole 90) (whole 180) (whole 1)) (whole 0) (neg (whole 30)) (around 0 []) (o ∷ [])
 
 unfoldable pub raised_values : Bool

@@ -5,6 +5,7 @@ use mathlib.Core.Bool.{true, false}
 use mathlib.Core.List.{List, Memᴰ}
 use lib.Dec.{T, eqb, eqb→eq}
 use lib.Ieee.{Float}
+use Rattle.std.specs.Prelude.{Option}
 use Rattle.doubles.specs.Arithmetic.{whole}
 use Rattle.doubles.specs.Functions.{float_min}
 use Rattle.doubles.specs.Order.{◌≼◌, Number, Zero}
@@ -21,7 +22,6 @@ use Rattle.objects.specs.declared.window.WindowShadingType.{WindowShadingType}
 use Rattle.objects.specs.declared.window.WindowShadingType.TheVariants.{Obstacle, Overhang, SideFinRight, SideFinLeft}
 use Rattle.objects.specs.Objects.{is_obstacle, is_overhang, kind_number, of_kind}
 use Rattle.extents.specs.Extents.{obstacle_height, overhang_height}
-use Rattle.fins.specs.declared.FinShade.{FinShade}
 use Rattle.fins.specs.Fins.{fin_width}
 use Rattle.shading.specs.declared.sun_on_surface.SunOnSurface.{SunOnSurface}
 use Rattle.shading.specs.Factor.{obstacle_extents, overhang_extents, window_overhang_extents, right_fin_extents, left_fin_extents, near_obstacle_height, reduction_factor}
@@ -84,13 +84,13 @@ module _ (surface : Surface) (sun : SunOnSurface) where
   window_overhang_moves o p (a_near_obstacle k r) t n m = absurd (one_kind Overhang Obstacle o t k.first)
 
   -- the fins of one side: what such a fin may be changed by
-  abbrev FinChange : WindowShadingType → FinShade → WindowShadingObject → WindowShadingObject → Type 0
+  abbrev FinChange : WindowShadingType → Option Float → WindowShadingObject → WindowShadingObject → Type 0
   FinChange side fin o p = (o ≡ p) ⊎ (Both (of_kind side) o p × ReachesNoLess (TangentUp fin ⊎ NotNegative o) o p)
 
-  abbrev fin_at : FinShade → WindowShadingObject → Float
+  abbrev fin_at : Option Float → WindowShadingObject → Float
   fin_at fin o = fin_width fin o.size o.distance
 
-  fin_moves : (side : WindowShadingType) (fin : FinShade) (o p : WindowShadingObject) → FinChange side fin o p → T (of_kind side o) → Number (fin_at fin o)
+  fin_moves : (side : WindowShadingType) (fin : Option Float) (o p : WindowShadingObject) → FinChange side fin o p → T (of_kind side o) → Number (fin_at fin o)
       → (T (of_kind side p) → Number (fin_at fin p)) → T (of_kind side p) × ((fin_at fin o ≼ whole 0) ⊎ (fin_at fin o ≼ fin_at fin p))
   fin_moves side fin o p (inl e) t n m = (subst (λ (q : WindowShadingObject). T (of_kind side q)) e t, inr (size.level n (ap (fin_at fin) e)))
   fin_moves side fin o p (inr (k, deeper q e h)) t n m = (k.second, size.fin_deeper fin o p q n (m k.second) e h)

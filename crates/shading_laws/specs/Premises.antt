@@ -1,6 +1,6 @@
 -- What the laws of the factor assume, at one step's sun. A surface and near obstacles are so where a job is accepted; that no
 -- extent is NaN, that a list holds all objects of another and that sectors are bounded alike is asked of two jobs compared.
-use Rattle.std.specs.Prelude.{◌≡◌, false, ℕ, T, Float}
+use Rattle.std.specs.Prelude.{◌≡◌, false, ℕ, T, Float, Ok}
 use mathlib.Core.List.{List, Memᴰ}
 use Rattle.doubles.specs.Arithmetic.{whole, decimal}
 use Rattle.doubles.specs.Order.{◌≼◌, Number, Fits}
@@ -9,7 +9,7 @@ use Rattle.objects.specs.declared.sectors.ShadingObject.{ShadingObject}
 use Rattle.objects.specs.declared.sectors.ShadingSegment.{ShadingSegment}
 use Rattle.objects.specs.declared.window.WindowShadingObject.{WindowShadingObject}
 use Rattle.beam.specs.Beam.{outside_solar_beam}
-use Rattle.segments.specs.Segments.{found, segment_of}
+use Rattle.segments.specs.Segments.{segment_of}
 use Rattle.segments.specs.SameSectors.{SameBounds}
 use Rattle.objects.specs.declared.window.WindowShadingType.TheVariants.{Obstacle}
 use Rattle.objects.specs.Objects.{counted, of_kind}
@@ -47,7 +47,7 @@ pub record NoNanExtent (surface : Surface) (sun : SunOnSurface) (distants : List
 -- no shade extent at a step is NaN: those are computed inside the beam, of the sector that is found
 pub record NoNanAt (edition : ℕ) (surface : Surface) (altitude azimuth : Float) (sectors : List ShadingSegment) (window : List WindowShadingObject) : Type 0 where
   pub at_found : outside_solar_beam surface.tilt surface.orientation altitude azimuth ≡ false
-      → (s : ShadingSegment) → segment_of azimuth sectors ≡ found s
+      → (s : ShadingSegment) → segment_of azimuth sectors ≡ Ok s
       → NoNanExtent surface (sun_on edition surface altitude azimuth) (counted s) window
 
 -- every near obstacle's transparency is from 0 to 1; −0.0 is in

@@ -1,6 +1,7 @@
 -- One object changed in one measure so that it shades no less, and what that does to the factor, at one step and in a factor call: never
 -- raise it. The other way round, an object that shades no more never lowers it.
-use Rattle.std.specs.Prelude.{◌≡◌, ◌⊎◌, Bool, ◌&&◌, List, ℕ, T, Float}
+use Rattle.std.specs.Prelude.{◌≡◌, ◌⊎◌, Bool, ◌&&◌, List, ℕ, T, Float, Err, Ok, Result, Option, Some, None}
+use Rattle.objects.specs.declared.answers.Refusal.{Refusal}
 use Rattle.doubles.specs.Arithmetic.{◌⊕◌, ◌⊖◌, ◌⊗◌, whole}
 use Rattle.doubles.specs.Order.{◌≼◌, ◌≺◌, Number, Zero}
 use Rattle.words.specs.Lists.{PlaceByPlace}
@@ -9,13 +10,9 @@ use Rattle.objects.specs.declared.sectors.ShadingObject.{ShadingObject}
 use Rattle.objects.specs.declared.sectors.ShadingSegment.{ShadingSegment}
 use Rattle.objects.specs.declared.window.WindowShadingObject.{WindowShadingObject}
 use Rattle.objects.specs.declared.window.WindowShadingType.TheVariants.{Obstacle, Overhang, SideFinRight, SideFinLeft}
-use Rattle.objects.specs.declared.answers.FactorAnswer.{FactorAnswer}
-use Rattle.objects.specs.declared.answers.FactorAnswer.TheVariants.{Factor, Refused}
 use Rattle.objects.specs.Objects.{is_obstacle, is_overhang, of_kind, counted}
 use Rattle.objects.specs.Records.{sectors_of, window_objects_of}
 use Rattle.object_checks.specs.Checks.{sectors_fine, window_fine}
-use Rattle.fins.specs.declared.FinShade.{FinShade}
-use Rattle.fins.specs.declared.FinShade.TheVariants.{Tangent, NoShade}
 use Rattle.segments.specs.SameSectors.{SameBounds}
 use Rattle.shading.specs.declared.sun_on_surface.SunOnSurface.{SunOnSurface}
 use Rattle.shading.specs.Factor.{sun_on, shading_factor}
@@ -39,9 +36,9 @@ pub record NotNegative (o : WindowShadingObject) : Type 0 where
   pub size_from : whole 0 ≼ o.size
   pub distance_from : whole 0 ≼ o.distance
 
-unfoldable pub TangentUp : FinShade → Type 0
-TangentUp (Tangent t) = whole 0 ≼ t
-TangentUp NoShade = Unit {0}
+unfoldable pub TangentUp : Option Float → Type 0
+TangentUp (Some t) = whole 0 ≼ t
+TangentUp None = Unit {0}
 
 -- at one step, of objects with any doubles: the cosine is of the azimuth less the surface's orientation, not wrapped
 abbrev pub asked_at : Surface → SunOnSurface → Asked
@@ -98,11 +95,11 @@ pub record SectorShadesNoLess (asked : Asked) (s t : ShadingSegment) : Type 0 wh
 -- ---- the laws
 
 -- the second answer is no larger: both are factors, and it is at most the first, or both are the same refusal
-unfoldable pub NoLargerAnswer : FactorAnswer → FactorAnswer → Type 0
-NoLargerAnswer (Factor x) (Factor y) = y ≼ x
-NoLargerAnswer (Refused r) (Refused q) = r ≡ q
-NoLargerAnswer (Factor x) (Refused r) = ⊥
-NoLargerAnswer (Refused r) (Factor x) = ⊥
+unfoldable pub NoLargerAnswer : Result Float Refusal → Result Float Refusal → Type 0
+NoLargerAnswer (Ok x) (Ok y) = y ≼ x
+NoLargerAnswer (Err r) (Err q) = r ≡ q
+NoLargerAnswer (Ok x) (Err r) = ⊥
+NoLargerAnswer (Err r) (Ok x) = ⊥
 
 -- at one step: any number of objects changed, each at its place and so that it shades no less
 abbrev pub SizesAtOneStep : Type 0

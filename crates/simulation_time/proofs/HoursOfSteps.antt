@@ -1,14 +1,13 @@
--- The hours of a run's steps, and what a run has that is not turned down. Assumes nothing.
-use Rattle.std.proofs.Common.{◌≡◌, ℕ, zero, suc, ◌+◌, ◌-◌, ◌<◌, ◌≤◌, Bool, true, ◌&&◌, ◌||◌, T, eqb, ltb, sym, refl, ap, ◌∙◌, subst, arith, le-ltb, lt-ltb}
+-- The hours of a run's steps, and what the check of a run says. Assumes nothing.
+use Rattle.std.proofs.Common.{◌≡◌, ℕ, zero, suc, ◌+◌, ◌-◌, ◌<◌, ◌≤◌, Bool, true, false, ◌&&◌, ◌||◌, eqb, ltb, Some, None, refl, ap, ◌∙◌, arith, le-ltb, lt-ltb}
 use mathlib.Core.Bool.{and-true, and-false}
 use native.Mathlib.Decide.{dec_lt}
 use lib.Dec.{eqb-suc-zero}
 use lib.Ieee.{Float, to_unsigned}
-use lib.Ieee.Bits.{is_true}
-use lib.Ieee.Fits.{and_l}
 use Rattle.doubles.specs.Order.{◌≼◌, Fits}
+use Rattle.std.specs.Bool.{then_some}
 use Rattle.simulation_time.specs.declared.run.Run.{Run}
-use Rattle.simulation_time.specs.Steps.{run_fine, step_count, time_at, times_from, times, at_all}
+use Rattle.simulation_time.specs.Steps.{step_count, time_at, times_from, times, at_all}
 use Rattle.simulation_time.specs.Timestep.{current_hour}
 use Rattle.simulation_time.specs.RunChecks.{hour_fine, hours_fine, run_accepted, checked_run}
 use Rattle.doubles.proofs.Casts.{cast_mono, cast_floor}
@@ -59,14 +58,24 @@ module _ {run : Run} (a : Accepted run) (hours : ℕ) where
           let last : at_all (hour_fine hours) (times_from (suc n) run.step run.start) ≡ ltb (current_hour (time_at run (0 + n))) hours = unfold time_at in by_last n 0 (omega arith) in
           rw (eqb-suc-zero n, k) (last ∙ ap (λ (i : ℕ). ltb (current_hour (time_at run i)) hours) z)
 
--- ---- refusal 2 does not hold
+-- ---- what the check hands out
 
-module _ (hours : ℕ) (run : Run) (h : run_accepted hours run ≡ true) where
-  pub fields_fine : run_fine run ≡ true
-  unfolding run_accepted
-  fields_fine = is_true (run_fine run) (and_l (run_fine run) (hours_fine hours run) (subst T (sym h) tt))
+-- the steps that are counted where a test passes
+passed_only : (fine : Bool) (n count : ℕ) → then_some fine n ≡ Some count → (fine ≡ true) × (count ≡ n)
+passed_only true n count e = (refl, cc)
+passed_only false n count e = cc
 
-  -- the count that the check hands out
-  pub checked_count : (checked_run hours run).count ≡ step_count run
+failed_only : (fine : Bool) (n : ℕ) → then_some fine n ≡ None → fine ≡ false
+failed_only true n e = cc
+failed_only false n e = refl
+
+module _ (hours : ℕ) (run : Run) where
+  -- the count of an accepted run
+  pub run_passed : (count : ℕ) → checked_run hours run ≡ Some count → (run_accepted hours run ≡ true) × (count ≡ step_count run)
   unfolding checked_run
-  checked_count = rw fields_fine
+  run_passed count e = passed_only (run_accepted hours run) (step_count run) count e
+
+  -- refusal 2 holds
+  pub run_failed : checked_run hours run ≡ None → run_accepted hours run ≡ false
+  unfolding checked_run
+  run_failed e = failed_only (run_accepted hours run) (step_count run) e

@@ -1,7 +1,7 @@
 -- When a run is turned down (refusal 2).
-use Rattle.std.specs.Prelude.{ℕ, Bool, cond, ◌&&◌, nat_lt, Float}
+use Rattle.std.specs.Prelude.{ℕ, Bool, ◌&&◌, nat_lt, Option, Float}
+use Rattle.std.specs.Bool.{then_some}
 use Rattle.simulation_time.specs.declared.run.Run.{Run}
-use Rattle.simulation_time.specs.declared.steps.CheckedRun.{CheckedRun}
 use Rattle.simulation_time.specs.Steps.{run_fine, step_count, times, at_all}
 use Rattle.simulation_time.specs.Timestep.{current_hour}
 
@@ -17,6 +17,10 @@ hours_fine hours run = at_all (hour_fine hours) (times run)
 unfoldable pub run_accepted : ℕ → Run → Bool
 run_accepted hours run = run_fine run && hours_fine hours run
 
--- whether it is accepted, and how many steps it has; none where a field is out of its range
-unfoldable pub checked_run : ℕ → Run → CheckedRun
-checked_run hours run = record { fine = run_accepted hours run; count = cond (run_fine run) (step_count run) 0 }
+-- how many steps a run has, accepted or not; none where a field is out of its range
+unfoldable pub counted_run : Run → Option ℕ
+counted_run run = then_some (run_fine run) (step_count run)
+
+-- how many steps an accepted run has
+unfoldable pub checked_run : ℕ → Run → Option ℕ
+checked_run hours run = then_some (run_accepted hours run) (step_count run)

@@ -1,5 +1,7 @@
 -- The calls for one step: its row, or its irradiance with the breakdown. On a refusal nothing is stored.
-use Rattle.std.specs.Prelude.{Bool, ◌&&◌, List, ℕ, leb, ltb, Float}
+use Rattle.std.specs.Prelude.{Bool, ◌&&◌, List, ℕ, leb, ltb, Float, Err, Ok, Result}
+use Rattle.objects.specs.declared.answers.Refusal.{Refusal}
+use Rattle.jobs.specs.declared.answers.Row.{Row}
 use Rattle.doubles.specs.Arithmetic.{whole}
 use Rattle.doubles.specs.Ranges.{within}
 use Rattle.words.specs.Words.{word_count, put_double}
@@ -15,19 +17,15 @@ use Rattle.objects.specs.Surface.{surface_fine}
 use Rattle.object_checks.specs.Checks.{sectors_fine, window_fine}
 use Rattle.objects.specs.Refusals.{number_of}
 use Rattle.weather.specs.declared.Reading.{Reading}
-use Rattle.jobs.specs.declared.answers.StepAnswer.{StepAnswer}
-use Rattle.jobs.specs.declared.answers.StepAnswer.TheVariants as step
-use Rattle.single_steps.specs.declared.Single.{Single}
-use Rattle.single_steps.specs.declared.Single.TheVariants.{Accepted, Refused}
 use Rattle.weather.specs.Weather.{reading_fine}
 use Rattle.jobs.specs.JobChecks.{tried}
 use Rattle.jobs.specs.Step.{sun_at, irradiance_at, sectors_at, step_with}
 use Rattle.jobs.specs.Rows.{put_row}
 
 -- 0 where the call is accepted: its results are then stored
-unfoldable pub single_number : Single → ℕ
-single_number Accepted = 0
-single_number (Refused r) = number_of r
+unfoldable pub single_number : Result (Unit {0}) Refusal → ℕ
+single_number (Ok _) = 0
+single_number (Err r) = number_of r
 
 -- ---- the checks
 
@@ -37,53 +35,55 @@ unfolding within whole
 time_fine site time = within (whole 0) (whole 8784) time && ltb (current_hour time) (hours_in_year site)
 
 -- 1, 15, 2, 3, then what comes next
-unfoldable pub setting_checked : Site → Float → Surface → Single → Single
+unfoldable pub setting_checked : Site → Float → Surface → Result (Unit {0}) Refusal → Result (Unit {0}) Refusal
 unfolding tried
 setting_checked site time surface next =
-    tried Refused (site_fine site) refusal.Site
-    (tried Refused (leaf_days_fine site) refusal.LeafDay
-    (tried Refused (time_fine site time) refusal.Run
-    (tried Refused (surface_fine surface) refusal.Surface next)))
+    tried Err (site_fine site) refusal.Site
+    (tried Err (leaf_days_fine site) refusal.LeafDay
+    (tried Err (time_fine site time) refusal.Run
+    (tried Err (surface_fine surface) refusal.Surface next)))
+
+-- 6 and 7, where the results take so many words
+unfoldable pub values_checked : Reading → ℕ → List ℕ → Result (Unit {0}) Refusal
+unfolding tried
+values_checked reading words results =
+    tried Err (reading_fine reading) refusal.Reading
+    (tried Err (leb words (word_count results)) refusal.Results
+    (Ok tt))
 
 -- 14, 1, 15, 2, 3, 4, 6, 7: the objects of both seasons; six words for a row
-unfoldable pub step_checked : ℕ → Site → Float → Surface → Reading → List ℕ → List ℕ → List ℕ → List ℕ → Single
-unfolding tried setting_checked
+unfoldable pub step_checked : ℕ → Site → Float → Surface → Reading → List ℕ → List ℕ → List ℕ → List ℕ → Result (Unit {0}) Refusal
+unfolding tried setting_checked values_checked
 step_checked edition site time surface reading summer winter window results =
-    tried Refused (edition_fine edition) refusal.Edition
+    tried Err (edition_fine edition) refusal.Edition
     (setting_checked site time surface
-    (tried Refused (sectors_fine summer && sectors_fine winter && window_fine window) refusal.Object
-    (tried Refused (reading_fine reading) refusal.Reading
-    (tried Refused (leb 6 (word_count results)) refusal.Results
-    Accepted))))
+    (tried Err (sectors_fine summer && sectors_fine winter && window_fine window) refusal.Object
+    (values_checked reading 6 results)))
 
 -- 1, 15, 2, 3, 6, 7: nine words for the breakdown
-unfoldable pub irradiance_checked : Site → Float → Surface → Reading → List ℕ → Single
-unfolding tried setting_checked
-irradiance_checked site time surface reading results =
-    setting_checked site time surface
-    (tried Refused (reading_fine reading) refusal.Reading
-    (tried Refused (leb 9 (word_count results)) refusal.Results
-    Accepted))
+unfoldable pub irradiance_checked : Site → Float → Surface → Reading → List ℕ → Result (Unit {0}) Refusal
+unfolding tried setting_checked values_checked
+irradiance_checked site time surface reading results = setting_checked site time surface (values_checked reading 9 results)
 
 -- ---- the calls
 
 -- what a call comes to: its answer, and the results list as it leaves it
 pub record Called : Type 0 where
-  pub answer : Single
+  pub answer : Result (Unit {0}) Refusal
   pub results : List ℕ
 
-abbrev pub called : Single → List ℕ → Called
+abbrev pub called : Result (Unit {0}) Refusal → List ℕ → Called
 called answer results = record { answer = answer; results = results }
 
 -- a step's row, or its refusal (8 to 11)
-unfoldable pub stored_step : StepAnswer → List ℕ → Called
-stored_step (step.Row row) results = called Accepted (put_row results 0 row)
-stored_step (step.Refused r) results = called (Refused r) results
+unfoldable pub stored_step : Result Row Refusal → List ℕ → Called
+stored_step (Ok row) results = called (Ok tt) (put_row results 0 row)
+stored_step (Err r) results = called (Err r) results
 
 -- what the checks refuse stores nothing
-unfoldable pub unless_refused : Single → List ℕ → Called → Called
-unless_refused Accepted results next = next
-unless_refused (Refused r) results next = called (Refused r) results
+unfoldable pub unless_refused : Result (Unit {0}) Refusal → List ℕ → Called → Called
+unless_refused (Ok _) results next = next
+unless_refused (Err r) results next = called (Err r) results
 
 -- the step is the run's at that time
 unfoldable pub step_call : ℕ → Site → Float → Surface → Reading → List ℕ → List ℕ → List ℕ → List ℕ → Called
@@ -107,4 +107,4 @@ put_breakdown results sun parts =
 unfoldable pub irradiance_call : Site → Float → Surface → Reading → List ℕ → Called
 irradiance_call site time surface reading results =
     unless_refused (irradiance_checked site time surface reading results) results
-    (called Accepted (put_breakdown results (sun_at site time) (irradiance_at site surface time reading)))
+    (called (Ok tt) (put_breakdown results (sun_at site time) (irradiance_at site surface time reading)))

@@ -1,4 +1,7 @@
 -- A step by what is kept is the step by its definition, and what is kept is that of its own hour.
+use Rattle.std.specs.Prelude.{Float, Result}
+use Rattle.objects.specs.declared.answers.Refusal.{Refusal}
+use Rattle.jobs.specs.declared.answers.Row.{Row}
 use mathlib.Core.Path.{◌≡◌, refl, sym, ◌∙◌, ap}
 use mathlib.Core.List.{List}
 use Prim.Native.Nat.{ℕ, ◌/◌}
@@ -7,13 +10,11 @@ use Rattle.sun.specs.declared.site.Site.{Site}
 use Rattle.sun.specs.Hour.{hour_of}
 use Rattle.simulation_time.specs.Timestep.{current_hour}
 use Rattle.objects.specs.declared.surface.Surface.{Surface}
-use Rattle.objects.specs.declared.answers.FactorAnswer.{FactorAnswer}
 use Rattle.objects.specs.declared.sectors.ShadingSegment.{ShadingSegment}
 use Rattle.objects.specs.declared.window.WindowShadingObject.{WindowShadingObject}
 use Rattle.objects.specs.Records.{sectors_of, window_objects_of}
 use Rattle.shading.specs.Factor.{shading_factor}
 use Rattle.weather.specs.declared.Reading.{Reading}
-use Rattle.jobs.specs.declared.answers.StepAnswer.{StepAnswer}
 use Rattle.jobs.specs.Step.{sun_at, irradiance_at, shading_at, step_with}
 use Rattle.steps.specs.declared.kept.Fixed.{Fixed}
 use Rattle.steps.specs.declared.kept.KeptDay.{KeptDay}
@@ -26,7 +27,7 @@ module _ (edition : ℕ) (site : Site) (surface : Surface) (sectors window : Lis
   unfolding step_kept irradiance_kept kept_hour kept_day fixed_of step_with sun_at irradiance_at
   kept_step = refl
 
-  pub by_kept : (fixed : Fixed) (kept : KeptHour) (factor : FactorAnswer) (answer : StepAnswer) → fixed ≡ fixed_of site surface
+  pub by_kept : (fixed : Fixed) (kept : KeptHour) (factor : Result Float Refusal) (answer : Result Row Refusal) → fixed ≡ fixed_of site surface
       → kept ≡ kept_hour site surface (current_hour time) → factor ≡ shading_at edition surface (hour_of site (current_hour time)) sectors window
       → answer ≡ step_kept site fixed kept factor reading → answer ≡ step_with edition site surface sectors window time reading
   unfolding sun_at
@@ -38,7 +39,7 @@ module _ (site : Site) (surface : Surface) (hour : ℕ) (kept : KeptHour) (k : k
   kept_sun = ap (λ (x : KeptHour). x.sun) k
 
   -- the factor for the kept sun is the hour's
-  pub kept_factor : (edition : ℕ) (sectors window : List ℕ) (ss : List ShadingSegment) (ws : List WindowShadingObject) (factor : FactorAnswer) → ss ≡ sectors_of sectors
+  pub kept_factor : (edition : ℕ) (sectors window : List ℕ) (ss : List ShadingSegment) (ws : List WindowShadingObject) (factor : Result Float Refusal) → ss ≡ sectors_of sectors
       → ws ≡ window_objects_of window → factor ≡ shading_factor edition surface kept.sun.altitude kept.sun.azimuth ss ws
       → factor ≡ shading_at edition surface (hour_of site hour) sectors window
   unfolding shading_at

@@ -1,5 +1,7 @@
 -- What a run keeps from step to step, worked out once: of the site and the surface for all steps, of the day and of the hour.
-use Rattle.std.specs.Prelude.{ℕ, ◌+◌, ◌/◌, eqb}
+use Rattle.std.specs.Prelude.{ℕ, ◌+◌, ◌/◌, eqb, Float, Result}
+use Rattle.objects.specs.declared.answers.Refusal.{Refusal}
+use Rattle.jobs.specs.declared.answers.Row.{Row}
 use Rattle.sun.specs.declared.site.Site.{Site}
 use Rattle.days.specs.Day.{day_of}
 use Rattle.sun.specs.Hour.{sin_cos_of, time_shift_of, hour_of}
@@ -9,9 +11,7 @@ use Rattle.irradiance.specs.Sky.{sky_of}
 use Rattle.irradiance.specs.Surface.{incidence_of}
 use Rattle.irradiance.specs.Parts.{irradiance_of}
 use Rattle.objects.specs.declared.surface.Surface.{Surface}
-use Rattle.objects.specs.declared.answers.FactorAnswer.{FactorAnswer}
 use Rattle.weather.specs.declared.Reading.{Reading}
-use Rattle.jobs.specs.declared.answers.StepAnswer.{StepAnswer}
 use Rattle.jobs.specs.Step.{row_with}
 use Rattle.steps.specs.declared.kept.Fixed.{Fixed}
 use Rattle.steps.specs.declared.kept.KeptDay.{KeptDay}
@@ -49,5 +49,5 @@ irradiance_kept fixed conversion kept reading =
     irradiance_of fixed.tilt kept.incidence sky kept.sun.sin_altitude reading.reflectivity
 
 -- the step by what is kept, and by its hour's factor
-unfoldable pub step_kept : Site → Fixed → KeptHour → FactorAnswer → Reading → StepAnswer
+unfoldable pub step_kept : Site → Fixed → KeptHour → Result Float Refusal → Reading → Result Row Refusal
 step_kept site fixed kept factor reading = row_with kept.sun (irradiance_kept fixed site.direct_beam_conversion kept reading) factor

@@ -2,11 +2,11 @@
 // and on the hour.
 ghost use Rattle.std.specs.Prelude.{◌≡◌, ◌+◌, ◌/◌, ◌<◌};
 ghost use Rattle.days.specs.Day.{day_of};
-ghost use Rattle.days.specs.Table.{HoldsDays};
 ghost use Rattle.steps.specs.Kept.{fixed_of, kept_day, kept_hour, irradiance_kept};
 
 use angles::SinCos;
 use days::Day;
+use days::table::DayTable;
 use irradiance::parts::Irradiance;
 use irradiance::surface::Incidence;
 use objects::surface::Surface;
@@ -32,10 +32,10 @@ pub fn fixed_of(site: Site, surface: Surface) -> Fixed
     let orientation = sin_cos_of_degrees(orientation::transform_to_180(surface.orientation));
     let time_shift = sun::hour::init_time_shift(site.timezone, site.longitude);
     Fixed {
-        latitude: latitude,
-        tilt: tilt,
-        orientation: orientation,
-        time_shift: time_shift,
+        latitude,
+        tilt,
+        orientation,
+        time_shift,
     }
 }
 
@@ -54,9 +54,9 @@ fn day_by(index: u32, values: Day) -> KeptDay
 {
     let declination = sin_cos_of_degrees(values.declination);
     KeptDay {
-        index: index,
-        values: values,
-        declination: declination,
+        index,
+        values,
+        declination,
     }
 }
 
@@ -68,17 +68,15 @@ pub fn kept_day(index: u32) -> KeptDay
 }
 
 // A day whose values are read from the table.
-pub fn read_day(days: &[u8], index: u32) -> KeptDay
-    requires holds_days { HoldsDays days.now }
-    requires index_bound { index < 366 }
+pub fn read_day(days: DayTable, index: u32) -> KeptDay
+    requires { index < 366 }
     ensures { result ≡ kept_day index }
 {
-    day_by(index, days::table::day_at(days, index))
+    day_by(index, days.day(index))
 }
 
 // The same day where it is still that day.
-pub fn day_for(days: &[u8], index: u32, kept: KeptDay) -> KeptDay
-    requires holds_days { HoldsDays days.now }
+pub fn day_for(days: DayTable, index: u32, kept: KeptDay) -> KeptDay
     requires index_bound { index < 366 }
     requires kept_value { kept ≡ kept_day kept.index }
     ensures { result ≡ kept_day index }
@@ -118,10 +116,10 @@ pub fn kept_hour(site: Site, surface: Surface, fixed: Fixed, day: KeptDay, hour:
     let sun = sun::hour::hour_from(l, d, hour_angles, arcsines.first);
     let incidence = irradiance::surface::incidence_by(cos_incidence, sun.cos_zenith);
     KeptHour {
-        hour: hour,
+        hour,
         extra_terrestrial_radiation: day.values.extra_terrestrial_radiation,
-        sun: sun,
-        incidence: incidence,
+        sun,
+        incidence,
     }
 }
 

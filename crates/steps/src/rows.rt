@@ -7,11 +7,11 @@ ghost use Rattle.steps.specs.Kept.{irradiance_kept, step_kept};
 ghost use Rattle.jobs.specs.Rows.{put_row, with_row};
 
 use crate::kept::{Fixed, KeptHour, irradiance_kept};
-use jobs::answers::{Row, StepAnswer};
-use objects::answers::FactorAnswer;
+use jobs::answers::Row;
+use objects::answers::Refusal;
 use simulation_time::timestep::time_series_idx;
 use sun::site::Site;
-use weather::{Reading, read_series};
+use weather::{Reading, Series};
 use words::store_double;
 
 // The step's row where its hour has a factor.
@@ -19,25 +19,21 @@ pub fn step_row(
     fixed: Fixed,
     conversion: u64,
     kept: KeptHour,
-    factor: FactorAnswer,
+    factor: Result<f64, Refusal>,
     reading: Reading,
-) -> StepAnswer
+) -> Result<Row, Refusal>
     ensures { result ≡ row_with kept.sun (irradiance_kept fixed conversion kept reading) factor }
 {
-    match factor {
-        FactorAnswer::Refused(refusal) => StepAnswer::Refused(refusal),
-        FactorAnswer::Factor(value) => {
-            let parts = irradiance_kept(fixed, conversion, kept, reading);
-            StepAnswer::Row(Row {
-                altitude: kept.sun.altitude,
-                azimuth: kept.sun.azimuth,
-                direct: parts.direct,
-                diffuse: parts.diffuse,
-                total: parts.total,
-                factor: value,
-            })
-        }
-    }
+    let factor = factor?;
+    let parts = irradiance_kept(fixed, conversion, kept, reading);
+    Ok(Row {
+        altitude: kept.sun.altitude,
+        azimuth: kept.sun.azimuth,
+        direct: parts.direct,
+        diffuse: parts.diffuse,
+        total: parts.total,
+        factor,
+    })
 }
 
 // The step at a time in hours, whose hour is kept.
@@ -45,19 +41,17 @@ pub fn step_at(
     site: Site,
     fixed: Fixed,
     kept: KeptHour,
-    factor: FactorAnswer,
+    factor: Result<f64, Refusal>,
     time: f64,
-    diffuse: &[u8],
-    direct: &[u8],
-    reflectivity: &[u8],
-) -> StepAnswer
+    series: Series,
+) -> Result<Row, Refusal>
     requires { site.start_day ≤ 365 }
     ensures { result ≡ step_kept site fixed kept factor
-        (read_series diffuse.now direct.now reflectivity.now
+        (read_series series.entry.diffuse.now series.entry.direct.now series.entry.reflectivity.now
         (series_index time site.start_day site.time_series_step)) }
 {
     let index = time_series_idx(time, site.start_day as u32, site.time_series_step);
-    let reading = read_series(diffuse, direct, reflectivity, index);
+    let reading = series.reading_at(index);
     step_row(fixed, site.direct_beam_conversion, kept, factor, reading)
 }
 

@@ -1,5 +1,6 @@
 -- The loops over strips: what is left of the strips, from the values so far, comes to the same as all of them from the first. Assumes
 -- nothing.
+use Rattle.std.specs.Prelude.{Err, Float, Ok, Result}
 use mathlib.Core.Path.{◌≡◌, refl, sym, ap, ◌∙◌}
 use mathlib.Core.Bool.{Bool, true, false, ◌&&◌}
 use mathlib.Core.List.{List, [], ◌∷◌}
@@ -11,8 +12,6 @@ use Rattle.doubles.specs.Arithmetic.{◌⊕◌, ◌⊗◌, ◌⊘◌}
 use Rattle.words.specs.Words.{word_count, double_at}
 use Rattle.objects.specs.declared.surface.Surface.{Surface}
 use Rattle.objects.specs.declared.answers.Refusal.{Refusal}
-use Rattle.objects.specs.declared.answers.FactorAnswer.{FactorAnswer}
-use Rattle.objects.specs.declared.answers.FactorAnswer.TheVariants.{Factor, Refused}
 use Rattle.objects.specs.Records.{records_from}
 use Rattle.objects.specs.Surface.{surface_fine}
 use Rattle.strips.specs.declared.glazing.TallGlazing.{TallGlazing}
@@ -64,22 +63,22 @@ module _ (glazing : TallGlazing) (heights : List ℕ) (n i : ℕ) (base : Float)
 
   -- ---- the sums
 
-  module _ (factor_of : Surface → FactorAnswer) (weighted total : Float) where
+  module _ (factor_of : Surface → Result Float Refusal) (weighted total : Float) where
     -- a strip's height, the strip and its answer, as the loop has them
-    module _ (height : Float) (strip : Surface) (answer : FactorAnswer) (h : height ≡ double_at heights i) (s : strip ≡ strip_of glazing base height) (a : answer ≡ factor_of strip) (k : i < n) where
-      pub mean_next : (x : Float) → answer ≡ Factor x
+    module _ (height : Float) (strip : Surface) (answer : Result Float Refusal) (h : height ≡ double_at heights i) (s : strip ≡ strip_of glazing base height) (a : answer ≡ factor_of strip) (k : i < n) where
+      pub mean_next : (x : Float) → answer ≡ Ok x
           → mean_from factor_of (weighted ⊕ x ⊗ height) (total ⊕ height) (strips_left glazing heights n (i + 1) (base ⊕ height)) ≡ mean_from factor_of weighted total (strips_left glazing heights n i base)
       unfolding mean_from on_factor strip_of
       mean_next x e =
-          let there : factor_of (strip_of glazing base (double_at heights i)) ≡ Factor x = ap (λ (z : Float). factor_of (strip_of glazing base z)) (sym h) ∙ ap factor_of (sym s) ∙ sym a ∙ e in
+          let there : factor_of (strip_of glazing base (double_at heights i)) ≡ Ok x = ap (λ (z : Float). factor_of (strip_of glazing base z)) (sym h) ∙ ap factor_of (sym s) ∙ sym a ∙ e in
           rw (left_next k, there, h) refl
 
-      pub mean_refused : (r : Refusal) → answer ≡ Refused r → Refused r ≡ mean_from factor_of weighted total (strips_left glazing heights n i base)
+      pub mean_refused : (r : Refusal) → answer ≡ Err r → Err r ≡ mean_from factor_of weighted total (strips_left glazing heights n i base)
       unfolding mean_from on_factor
       mean_refused r e =
-          let there : factor_of (strip_of glazing base (double_at heights i)) ≡ Refused r = ap (λ (z : Float). factor_of (strip_of glazing base z)) (sym h) ∙ ap factor_of (sym s) ∙ sym a ∙ e in
+          let there : factor_of (strip_of glazing base (double_at heights i)) ≡ Err r = ap (λ (z : Float). factor_of (strip_of glazing base z)) (sym h) ∙ ap factor_of (sym s) ∙ sym a ∙ e in
           rw (left_next k, there) refl
 
-    pub mean_end : n ≤ i → mean_from factor_of weighted total (strips_left glazing heights n i base) ≡ Factor (weighted ⊘ total)
+    pub mean_end : n ≤ i → mean_from factor_of weighted total (strips_left glazing heights n i base) ≡ Ok (weighted ⊘ total)
     unfolding mean_from
     mean_end h = rw (left_none h) refl

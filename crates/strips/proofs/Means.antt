@@ -1,5 +1,6 @@
 -- The quotient of the sums, whatever the answers of the strips are: from 0 to 1 where all factors are, 1 where all are 1, no larger where
 -- none is larger, the same where all are the same, and refused where the lowest is. Assumes nothing.
+use Rattle.std.specs.Prelude.{Err, Float, Ok, Result}
 use mathlib.Core.Path.{◌≡◌, refl, sym, ap, ◌∙◌, subst}
 use mathlib.Core.Logic.{inl, inr}
 use mathlib.Core.List.Memᴰ
@@ -15,8 +16,6 @@ use Rattle.doubles.proofs.Ranges.{Between, finite_between}
 use Rattle.doubles.proofs.Intervals.{in_number, between_range, add_in, mul_in, mul_keeps}
 use Rattle.objects.specs.declared.surface.Surface.{Surface}
 use Rattle.objects.specs.declared.answers.Refusal.{Refusal}
-use Rattle.objects.specs.declared.answers.FactorAnswer.{FactorAnswer}
-use Rattle.objects.specs.declared.answers.FactorAnswer.TheVariants.{Factor, Refused}
 use Rattle.shading_laws.specs.Sizes.{NoLargerAnswer}
 use Rattle.shading_laws.proofs.Answers.{not_refused, same_factor}
 use Rattle.shading_laws.proofs.Sides.{Side, side_nonneg, side_number, zero-lt_least, finite_2000}
@@ -123,37 +122,37 @@ weights_fall d k n bx by l m =
 
 -- ---- what follows from a strip's answer
 
-factor_first : {P : Type 0} {x : Float} (a : FactorAnswer) (next : Float → FactorAnswer) → on_factor a next ≡ Factor x → ((y : Float) → a ≡ Factor y → next y ≡ Factor x → P) → P
+factor_first : {P : Type 0} {x : Float} (a : Result Float Refusal) (next : Float → Result Float Refusal) → on_factor a next ≡ Ok x → ((y : Float) → a ≡ Ok y → next y ≡ Ok x → P) → P
 unfolding on_factor
-factor_first (Refused r) next e go = not_refused e
-factor_first (Factor y) next e go = go y refl e
+factor_first (Err r) next e go = not_refused e
+factor_first (Ok y) next e go = go y refl e
 
-same_next : (a : FactorAnswer) (m n : Float → FactorAnswer) → ((y : Float) → m y ≡ n y) → on_factor a m ≡ on_factor a n
+same_next : (a : Result Float Refusal) (m n : Float → Result Float Refusal) → ((y : Float) → m y ≡ n y) → on_factor a m ≡ on_factor a n
 unfolding on_factor
-same_next (Refused r) m n e = refl
-same_next (Factor y) m n e = e y
+same_next (Err r) m n e = refl
+same_next (Ok y) m n e = e y
 
-next_falls : (a b : FactorAnswer) (m n : Float → FactorAnswer) → NoLargerAnswer a b
-    → ((x y : Float) → a ≡ Factor x → b ≡ Factor y → y ≼ x → NoLargerAnswer (m x) (n y)) → NoLargerAnswer (on_factor a m) (on_factor b n)
+next_falls : (a b : Result Float Refusal) (m n : Float → Result Float Refusal) → NoLargerAnswer a b
+    → ((x y : Float) → a ≡ Ok x → b ≡ Ok y → y ≼ x → NoLargerAnswer (m x) (n y)) → NoLargerAnswer (on_factor a m) (on_factor b n)
 unfolding on_factor NoLargerAnswer
-next_falls (Refused r) (Refused q) m n h go = h
-next_falls (Refused r) (Factor y) m n h go = absurd h
-next_falls (Factor x) (Refused q) m n h go = absurd h
-next_falls (Factor x) (Factor y) m n h go = go x y refl refl h
+next_falls (Err r) (Err q) m n h go = h
+next_falls (Err r) (Ok y) m n h go = absurd h
+next_falls (Ok x) (Err q) m n h go = absurd h
+next_falls (Ok x) (Ok y) m n h go = go x y refl refl h
 
 -- ---- over any answers of the strips
 
 -- every strip's factor is from 0 to 1
-abbrev pub AllBetween : (Surface → FactorAnswer) → List Surface → Type 0
-AllBetween f strips = (s : Surface) → Memᴰ s strips → (x : Float) → f s ≡ Factor x → Between (whole 1) x
+abbrev pub AllBetween : (Surface → Result Float Refusal) → List Surface → Type 0
+AllBetween f strips = (s : Surface) → Memᴰ s strips → (x : Float) → f s ≡ Ok x → Between (whole 1) x
 
-pub record HasFactor (answer : FactorAnswer) : Type 0 where
+pub record HasFactor (answer : Result Float Refusal) : Type 0 where
   pub value : Float
-  pub is : answer ≡ Factor value
+  pub is : answer ≡ Ok value
 
-module _ (f : Surface → FactorAnswer) where
+module _ (f : Surface → Result Float Refusal) where
   -- where the whole has a factor, every strip has one
-  pub all_factors : (strips : List Surface) (weighted total x : Float) → mean_from f weighted total strips ≡ Factor x → (s : Surface) → Memᴰ s strips → HasFactor (f s)
+  pub all_factors : (strips : List Surface) (weighted total x : Float) → mean_from f weighted total strips ≡ Ok x → (s : Surface) → Memᴰ s strips → HasFactor (f s)
   unfolding mean_from
   all_factors [] weighted total x e s m = absurd (Memᴰ.not-nil m)
   all_factors (strip ∷ above) weighted total x e s m =
@@ -166,7 +165,7 @@ module _ (f : Surface → FactorAnswer) where
 
   -- from 0 to 1 where all are
   pub mean_between : (strips : List Surface) {base weighted total : Float} → Stacked base strips → Sums base weighted total → (strips ≡ [] → decimal 1 3 ≼ total)
-      → AllBetween f strips → (x : Float) → mean_from f weighted total strips ≡ Factor x → Between (whole 1) x
+      → AllBetween f strips → (x : Float) → mean_from f weighted total strips ≡ Ok x → Between (whole 1) x
   unfolding mean_from Stacked
   mean_between [] k s p each x e = subst (Between (whole 1)) (same_factor e) (quotient_between s (p refl))
   mean_between (strip ∷ above) k s p each x e =
@@ -175,20 +174,20 @@ module _ (f : Surface → FactorAnswer) where
 
   -- 1 where all are
   pub mean_one : (strips : List Surface) {base total : Float} → Stacked base strips → Sums base total total → (strips ≡ [] → decimal 1 3 ≼ total)
-      → ((s : Surface) → Memᴰ s strips → f s ≡ Factor (whole 1)) → mean_from f total total strips ≡ Factor (whole 1)
+      → ((s : Surface) → Memᴰ s strips → f s ≡ Ok (whole 1)) → mean_from f total total strips ≡ Ok (whole 1)
   unfolding mean_from on_factor Stacked
-  mean_one [] k s p each = ap Factor (quotient_one s (p refl))
+  mean_one [] k s p each = ap Ok (quotient_one s (p refl))
   mean_one (strip ∷ above) {base} {total} k s p each =
       let same = one_times k.0.height.double in
       let next = subst (λ (z : Float). Sums (base ⊕ strip.height) (total ⊕ z) (total ⊕ strip.height)) same (sums_next s k.0 (whole 1) one_between) in
       rw (each strip (Memᴰ.head refl), same) (mean_one above k.1 next (λ _. total_positive s k.0) (λ t m. each t (Memᴰ.tail m)))
 
   -- refused where the lowest is
-  pub mean_refused : (r : Refusal) (strip : Surface) (above : List Surface) (weighted total : Float) → f strip ≡ Refused r → mean_from f weighted total (strip ∷ above) ≡ Refused r
+  pub mean_refused : (r : Refusal) (strip : Surface) (above : List Surface) (weighted total : Float) → f strip ≡ Err r → mean_from f weighted total (strip ∷ above) ≡ Err r
   unfolding mean_from on_factor
   mean_refused r strip above weighted total e = rw e refl
 
-module _ (f g : Surface → FactorAnswer) where
+module _ (f g : Surface → Result Float Refusal) where
   -- the same where all are
   pub mean_same : (strips : List Surface) (weighted total : Float) → ((s : Surface) → Memᴰ s strips → f s ≡ g s) → mean_from f weighted total strips ≡ mean_from g weighted total strips
   unfolding mean_from

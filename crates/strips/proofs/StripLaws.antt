@@ -1,4 +1,5 @@
 -- The laws of strips, proved: the mean of factor calls, refused alike, and the laws of the factor strip by strip. Assumes nothing.
+use Rattle.std.specs.Prelude.{Err, Float, Ok, Result}
 use mathlib.Core.Path.{◌≡◌, refl, sym, ap, ◌∙◌}
 use mathlib.Core.Bool.{Bool, true, false, cond, ◌&&◌}
 use mathlib.Core.List.{List, [], Memᴰ}
@@ -17,15 +18,13 @@ use Rattle.words.specs.Lists.{PlaceByPlace}
 use Rattle.objects.specs.declared.surface.Surface.{Surface}
 use Rattle.objects.specs.declared.answers.Refusal.{Refusal}
 use Rattle.objects.specs.declared.answers.Refusal.TheVariants as refusal
-use Rattle.objects.specs.declared.answers.FactorAnswer.{FactorAnswer}
-use Rattle.objects.specs.declared.answers.FactorAnswer.TheVariants.{Factor, Refused}
 use Rattle.objects.specs.Objects.{counted}
 use Rattle.objects.specs.Records.{sectors_of, window_objects_of}
 use Rattle.objects.specs.Surface.{surface_fine}
 use Rattle.object_checks.specs.Checks.{sectors_fine, window_fine}
 use Rattle.beam.specs.Beam.{outside_solar_beam}
 use Rattle.fins.specs.Fins.{edition_fine}
-use Rattle.segments.specs.Segments.{Segment, found, gap, turned, no_sector, segment_of}
+use Rattle.segments.specs.Segments.{segment_of}
 use Rattle.segments.proofs.SameWalks.{found_has}
 use Rattle.shading.specs.Factor.{sun_on, has_reveal, factor_in, shading_factor}
 use Rattle.shading.specs.Call.{sun_fine, factor_call}
@@ -34,6 +33,7 @@ use Rattle.shading_laws.specs.Sizes.{NoLargerAnswer}
 use Rattle.shading_laws.proofs.Answers.{not_refused, same_factor, answer_nonneg, answer_le_one, answer_no_objects, answers_more_objects, answers_same_objects}
 use Rattle.shading_laws.proofs.Accepted.{accepted_surface, accepted_near}
 use Rattle.shading_laws.proofs.SizeLaws.{sizes_in_calls}
+use Rattle.objects.specs.declared.sectors.ShadingSegment.{ShadingSegment}
 use Rattle.strips.specs.declared.glazing.TallGlazing.{TallGlazing}
 use Rattle.strips.specs.Strips.{strip_of, heights_of, strips_of, strips_fine, mean_factor, strips_factor, strips_call}
 use Rattle.strips.specs.Laws.{ByFactorCalls, RefusedAlike, NoNanInStrips, NoObjects, Lawful, StripsCompared, SizesInStrips}
@@ -49,9 +49,9 @@ and-true false = refl
 
 module _ (edition : ℕ) (altitude azimuth : Float) (l w : List ℕ) where
   -- what the checks before the step leave of an answer
-  checked : FactorAnswer → FactorAnswer
+  checked : Result Float Refusal → Result Float Refusal
   checked answer =
-      cond (edition_fine edition) (cond (sun_fine altitude azimuth) (cond (sectors_fine l && window_fine w) answer (Refused refusal.Object)) (Refused refusal.Surface)) (Refused refusal.Edition)
+      cond (edition_fine edition) (cond (sun_fine altitude azimuth) (cond (sectors_fine l && window_fine w) answer (Err refusal.Object)) (Err refusal.Surface)) (Err refusal.Edition)
 
   call_checked : (s : Surface) → T (surface_fine s) → factor_call edition altitude azimuth s l w ≡ checked (shading_factor edition s altitude azimuth (sectors_of l) (window_objects_of w))
   unfolding checked factor_call
@@ -65,14 +65,14 @@ module _ (edition : ℕ) (altitude azimuth : Float) (l w : List ℕ) where
   -- an accepted one: the window list has passed its check, and the factor is that of the step
   record AcceptedCall (s : Surface) (x : Float) : Type 0 where
     window : T (window_fine w)
-    factor : shading_factor edition s altitude azimuth (sectors_of l) (window_objects_of w) ≡ Factor x
+    factor : shading_factor edition s altitude azimuth (sectors_of l) (window_objects_of w) ≡ Ok x
 
-  accepted_call : (s : Surface) (x : Float) → T (surface_fine s) → factor_call edition altitude azimuth s l w ≡ Factor x → AcceptedCall s x
+  accepted_call : (s : Surface) (x : Float) → T (surface_fine s) → factor_call edition altitude azimuth s l w ≡ Ok x → AcceptedCall s x
   unfolding checked
   accepted_call s x t e = go (edition_fine edition) (sun_fine altitude azimuth) (sectors_fine l && window_fine w) refl (sym (call_checked s t) ∙ e)
     where
       go : (a b c : Bool) → sectors_fine l && window_fine w ≡ c
-          → cond a (cond b (cond c (shading_factor edition s altitude azimuth (sectors_of l) (window_objects_of w)) (Refused refusal.Object)) (Refused refusal.Surface)) (Refused refusal.Edition) ≡ Factor x
+          → cond a (cond b (cond c (shading_factor edition s altitude azimuth (sectors_of l) (window_objects_of w)) (Err refusal.Object)) (Err refusal.Surface)) (Err refusal.Edition) ≡ Ok x
           → AcceptedCall s x
       go false b c k e = not_refused e
       go true false c k e = not_refused e
@@ -87,16 +87,16 @@ by_factor_calls edition altitude azimuth glazing heights l w t =
     strips_checked edition altitude azimuth l w glazing heights t
     ∙ go (edition_fine edition) (sun_fine altitude azimuth) (sectors_fine l && window_fine w) (λ s m. call_checked edition altitude azimuth l w s (all_fine_lem (strips_of glazing heights) (strips_all_fine glazing heights t) s m))
   where
-    step : Surface → FactorAnswer
+    step : Surface → Result Float Refusal
     step s = shading_factor edition s altitude azimuth (sectors_of l) (window_objects_of w)
 
-    refused : (r : Refusal) → ((s : Surface) → Memᴰ s (strips_of glazing heights) → factor_call edition altitude azimuth s l w ≡ Refused r)
-        → Refused r ≡ mean_factor (λ strip. factor_call edition altitude azimuth strip l w) (strips_of glazing heights)
+    refused : (r : Refusal) → ((s : Surface) → Memᴰ s (strips_of glazing heights) → factor_call edition altitude azimuth s l w ≡ Err r)
+        → Err r ≡ mean_factor (λ strip. factor_call edition altitude azimuth strip l w) (strips_of glazing heights)
     refused r each = lowest_refused glazing heights t (λ strip. factor_call edition altitude azimuth strip l w) r (each _ (lowest_member glazing heights t))
 
     go : (a b c : Bool)
-        → ((s : Surface) → Memᴰ s (strips_of glazing heights) → factor_call edition altitude azimuth s l w ≡ cond a (cond b (cond c (step s) (Refused refusal.Object)) (Refused refusal.Surface)) (Refused refusal.Edition))
-        → cond a (cond b (cond c (mean_factor step (strips_of glazing heights)) (Refused refusal.Object)) (Refused refusal.Surface)) (Refused refusal.Edition)
+        → ((s : Surface) → Memᴰ s (strips_of glazing heights) → factor_call edition altitude azimuth s l w ≡ cond a (cond b (cond c (step s) (Err refusal.Object)) (Err refusal.Surface)) (Err refusal.Edition))
+        → cond a (cond b (cond c (mean_factor step (strips_of glazing heights)) (Err refusal.Object)) (Err refusal.Surface)) (Err refusal.Edition)
         ≡ mean_factor (λ strip. factor_call edition altitude azimuth strip l w) (strips_of glazing heights)
     go false b c each = refused refusal.Edition each
     go true false c each = refused refusal.Surface each
@@ -107,23 +107,21 @@ by_factor_calls edition altitude azimuth glazing heights l w t =
 
 -- a step is refused by its walk and its window list, whatever the strip's base and height
 step_alike : (edition : ℕ) (altitude azimuth : Float) (l w : List ℕ) (glazing : TallGlazing) (a b c d : Float) (r : Refusal)
-    → shading_factor edition (strip_of glazing a b) altitude azimuth (sectors_of l) (window_objects_of w) ≡ Refused r
-    → shading_factor edition (strip_of glazing c d) altitude azimuth (sectors_of l) (window_objects_of w) ≡ Refused r
+    → shading_factor edition (strip_of glazing a b) altitude azimuth (sectors_of l) (window_objects_of w) ≡ Err r
+    → shading_factor edition (strip_of glazing c d) altitude azimuth (sectors_of l) (window_objects_of w) ≡ Err r
 unfolding shading_factor factor_in strip_of
 step_alike edition altitude azimuth l w glazing a b c d r e =
     go (outside_solar_beam glazing.tilt glazing.orientation altitude azimuth) (segment_of azimuth (sectors_of l)) (has_reveal (window_objects_of w)) refl e
   where
-    answer : Float → Float → Bool → Segment → FactorAnswer
+    answer : Float → Float → Bool → Result ShadingSegment Refusal → Result Float Refusal
     answer base height outside there =
-        cond outside (Factor (whole 1)) (factor_in (strip_of glazing base height) (sun_on edition (strip_of glazing base height) altitude azimuth) (window_objects_of w) there)
+        cond outside (Ok (whole 1)) (factor_in (strip_of glazing base height) (sun_on edition (strip_of glazing base height) altitude azimuth) (window_objects_of w) there)
 
-    go : (o : Bool) (s : Segment) (v : Bool) → has_reveal (window_objects_of w) ≡ v → answer a b o s ≡ Refused r → answer c d o s ≡ Refused r
+    go : (o : Bool) (s : Result ShadingSegment Refusal) (v : Bool) → has_reveal (window_objects_of w) ≡ v → answer a b o s ≡ Err r → answer c d o s ≡ Err r
     go true s v k e = not_refused (sym e)
-    go false gap v k e = e
-    go false turned v k e = e
-    go false no_sector v k e = e
-    go false (found s) true k e = rw k (rw k at e)
-    go false (found s) false k e = not_refused (sym (rw k at e))
+    go false (Err r) v k e = e
+    go false (Ok s) true k e = rw k (rw k at e)
+    go false (Ok s) false k e = not_refused (sym (rw k at e))
 
 pub refused_alike : RefusedAlike
 unfolding checked strips_of
@@ -131,17 +129,17 @@ refused_alike edition altitude azimuth glazing heights l w t s u m n r e =
     let fine = all_fine_lem (strips_of glazing heights) (strips_all_fine glazing heights t) in
     call_checked edition altitude azimuth l w u (fine u n)
     ∙ go (edition_fine edition) (sun_fine altitude azimuth) (sectors_fine l && window_fine w)
-    (strip_has glazing (λ z. step z ≡ Refused r → step u ≡ Refused r)
-    (λ a b. strip_has glazing (λ z. step (strip_of glazing a b) ≡ Refused r → step z ≡ Refused r) (λ c d. step_alike edition altitude azimuth l w glazing a b c d r) (heights_of heights) glazing.base_height u n)
+    (strip_has glazing (λ z. step z ≡ Err r → step u ≡ Err r)
+    (λ a b. strip_has glazing (λ z. step (strip_of glazing a b) ≡ Err r → step z ≡ Err r) (λ c d. step_alike edition altitude azimuth l w glazing a b c d r) (heights_of heights) glazing.base_height u n)
     (heights_of heights) glazing.base_height s m)
     (sym (call_checked edition altitude azimuth l w s (fine s m)) ∙ e)
   where
-    step : Surface → FactorAnswer
+    step : Surface → Result Float Refusal
     step z = shading_factor edition z altitude azimuth (sectors_of l) (window_objects_of w)
 
-    go : (a b c : Bool) → (step s ≡ Refused r → step u ≡ Refused r)
-        → cond a (cond b (cond c (step s) (Refused refusal.Object)) (Refused refusal.Surface)) (Refused refusal.Edition) ≡ Refused r
-        → cond a (cond b (cond c (step u) (Refused refusal.Object)) (Refused refusal.Surface)) (Refused refusal.Edition) ≡ Refused r
+    go : (a b c : Bool) → (step s ≡ Err r → step u ≡ Err r)
+        → cond a (cond b (cond c (step s) (Err refusal.Object)) (Err refusal.Surface)) (Err refusal.Edition) ≡ Err r
+        → cond a (cond b (cond c (step u) (Err refusal.Object)) (Err refusal.Surface)) (Err refusal.Edition) ≡ Err r
     go false b c h e = e
     go true false c h e = e
     go true true false h e = e
@@ -150,18 +148,18 @@ refused_alike edition altitude azimuth glazing heights l w t s u m n r e =
 -- ---- the laws of the factor, strip by strip
 
 -- where there is a factor the strips have passed their check
-strips_passed : (edition : ℕ) (altitude azimuth : Float) (glazing : TallGlazing) (heights l w : List ℕ) (x : Float) → strips_call edition altitude azimuth glazing heights l w ≡ Factor x
+strips_passed : (edition : ℕ) (altitude azimuth : Float) (glazing : TallGlazing) (heights l w : List ℕ) (x : Float) → strips_call edition altitude azimuth glazing heights l w ≡ Ok x
     → T (strips_fine glazing heights)
 unfolding strips_call
 strips_passed edition altitude azimuth glazing heights l w x e = go (edition_fine edition) (sun_fine altitude azimuth) (strips_fine glazing heights) _ e
   where
-    go : (a b c : Bool) (answer : FactorAnswer) → cond a (cond (b && c) answer (Refused refusal.Surface)) (Refused refusal.Edition) ≡ Factor x → T c
+    go : (a b c : Bool) (answer : Result Float Refusal) → cond a (cond (b && c) answer (Err refusal.Surface)) (Err refusal.Edition) ≡ Ok x → T c
     go a b true answer e = tt
     go false b false answer e = not_refused e
     go true true false answer e = not_refused e
     go true false false answer e = not_refused e
 
-no_larger : {a b : FactorAnswer} {x y : Float} → a ≡ Factor x → b ≡ Factor y → NoLargerAnswer a b → y ≼ x
+no_larger : {a b : Result Float Refusal} {x y : Float} → a ≡ Ok x → b ≡ Ok y → NoLargerAnswer a b → y ≼ x
 unfolding NoLargerAnswer
 no_larger e f h = rw (e, f) at h
 
@@ -183,7 +181,7 @@ module _ (edition : ℕ) (altitude azimuth : Float) (glazing : TallGlazing) (hei
   accepted s m = accepted_surface s (fine s m) (doubles s m)
 
   module _ (l w : List ℕ) (n : NoNanInStrips edition altitude azimuth strips l w) where
-    abbrev calls : Surface → FactorAnswer
+    abbrev calls : Surface → Result Float Refusal
     calls s = factor_call edition altitude azimuth s l w
 
     calls_between : AllBetween calls strips
@@ -192,7 +190,7 @@ module _ (edition : ℕ) (altitude azimuth : Float) (glazing : TallGlazing) (hei
         let near = accepted_near w a.window in
         record { low = answer_nonneg (accepted s m) (n s m) near x a.factor; high = answer_le_one (accepted s m) (n s m) near x a.factor }
 
-    module _ (x : Float) (e : mean_factor calls strips ≡ Factor x) where
+    module _ (x : Float) (e : mean_factor calls strips ≡ Ok x) where
       has : (s : Surface) → Memᴰ s strips → HasFactor (calls s)
       unfolding mean_factor
       has = all_factors calls strips (whole 0) (whole 0) x e
@@ -209,7 +207,7 @@ module _ (edition : ℕ) (altitude azimuth : Float) (glazing : TallGlazing) (hei
           (λ s m.
           let a = accepted_call edition altitude azimuth l w s (has s m).value (fine s m) (has s m).is in
           (has s m).is
-          ∙ ap Factor (answer_no_objects edition altitude azimuth (sectors_of l) (accepted s m)
+          ∙ ap Ok (answer_no_objects edition altitude azimuth (sectors_of l) (accepted s m)
           (found_has (λ z. counted z ≡ []) azimuth (sectors_of l) o.in_sectors) (has s m).value
           (ap (shading_factor edition s altitude azimuth (sectors_of l)) (sym o.at_window) ∙ a.factor))))
 
@@ -224,7 +222,7 @@ module _ (edition : ℕ) (altitude azimuth : Float) (glazing : TallGlazing) (hei
         mean_falls (calls l w n) (calls m v k) strips (whole 0) (strips_stacked glazing heights t) (no_sums (lowest_base glazing heights t)) (le_refl zero_number) (le_refl zero_number)
         (not_none glazing heights t) each (calls_between l w n) (calls_between m v k)
 
-    module _ (x y : Float) (e : mean_factor (calls l w n) strips ≡ Factor x) (f : mean_factor (calls m v k) strips ≡ Factor y) where
+    module _ (x y : Float) (e : mean_factor (calls l w n) strips ≡ Ok x) (f : mean_factor (calls m v k) strips ≡ Ok y) where
       -- both calls of a strip
       first : (s : Surface) (i : Memᴰ s strips) → AcceptedCall edition altitude azimuth l w s (has l w n x e s i).value
       first s i = accepted_call edition altitude azimuth l w s (has l w n x e s i).value (fine s i) (has l w n x e s i).is
@@ -239,7 +237,7 @@ module _ (edition : ℕ) (altitude azimuth : Float) (glazing : TallGlazing) (hei
           ∙ mean_same (calls l w n) (calls m v k) strips (whole 0) (whole 0)
           (λ s i.
           (has l w n x e s i).is
-          ∙ ap Factor (answers_same_objects (accepted s i) (n s i) (k s i) (accepted_near w (first s i).window) (accepted_near v (second s i).window) _ _ (first s i).factor (second s i).factor p h g)
+          ∙ ap Ok (answers_same_objects (accepted s i) (n s i) (k s i) (accepted_near w (first s i).window) (accepted_near v (second s i).window) _ _ (first s i).factor (second s i).factor p h g)
           ∙ sym (has m v k y f s i).is)
           ∙ f)
 
@@ -266,8 +264,8 @@ pub sizes_in_strips : SizesInStrips
 unfolding strips_call NoLargerAnswer
 sizes_in_strips edition altitude azimuth glazing heights l m w v d e n k p q = go (strips_fine glazing heights) refl
   where
-    refused : (a b : Bool) (x y : FactorAnswer)
-        → NoLargerAnswer (cond a (cond (b && false) x (Refused refusal.Surface)) (Refused refusal.Edition)) (cond a (cond (b && false) y (Refused refusal.Surface)) (Refused refusal.Edition))
+    refused : (a b : Bool) (x y : Result Float Refusal)
+        → NoLargerAnswer (cond a (cond (b && false) x (Err refusal.Surface)) (Err refusal.Edition)) (cond a (cond (b && false) y (Err refusal.Surface)) (Err refusal.Edition))
     refused false b x y = refl
     refused true true x y = refl
     refused true false x y = refl

@@ -1,5 +1,7 @@
 -- Two claims that are false of strips, computed by the checker: that one strip has the plain factor, and that the answer lies between the
 -- least and the largest of the strips' own. The glazing is upright, faces south and stands on the ground; the sun is at altitude 0.
+use Rattle.std.specs.Prelude.{Float, Result}
+use Rattle.objects.specs.declared.answers.Refusal.{Refusal}
 use mathlib.Core.Path.{◌≡◌, refl}
 use mathlib.Core.Bool.{Bool, true, ◌&&◌}
 use mathlib.Core.List.{List, [], ◌∷◌}
@@ -11,7 +13,6 @@ use Rattle.orientation.specs.Orientation.{orientation180, wrapped_once}
 use Rattle.extents.specs.Extents.{obstacle_height}
 use Rattle.fins.specs.Fins.{right_fin1, left_fin1, fins_of}
 use Rattle.objects.specs.declared.window.WindowShadingType.TheVariants.{Obstacle}
-use Rattle.objects.specs.declared.answers.FactorAnswer.{FactorAnswer}
 use Rattle.objects.specs.Objects.{counted}
 use Rattle.beam.specs.Beam.{outside_solar_beam}
 use Rattle.segments.specs.Segments.{segment_of}
@@ -24,17 +25,17 @@ unfoldable pub upright : Float → TallGlazing
 upright width = record { tilt = whole 90; orientation = whole 180; base_height = whole 0; width = width }
 
 -- 0.7 m wide, behind a distant obstacle of 0.01 m: in strips, and as one surface
-unfoldable pub kerb_in_strips : List Float → FactorAnswer
+unfoldable pub kerb_in_strips : List Float → Result Float Refusal
 kerb_in_strips heights = strips_factor 1 (whole 0) (whole 0) (strips_from (upright (decimal 7 1)) (whole 0) heights) (around 1 (wall (decimal 1 2) (whole 10) ∷ [])) []
 
-unfoldable pub kerb : Float → FactorAnswer
+unfoldable pub kerb : Float → Result Float Refusal
 kerb height = shading_factor 1 (strip_of (upright (decimal 7 1)) (whole 0) height) (whole 0) (whole 0) (around 1 (wall (decimal 1 2) (whole 10) ∷ [])) []
 
 -- 1 m wide, behind a near obstacle of 10 m that lets a tenth through: in strips, and one strip by itself
-unfoldable pub hedge_in_strips : List Float → FactorAnswer
+unfoldable pub hedge_in_strips : List Float → Result Float Refusal
 hedge_in_strips heights = strips_factor 1 (whole 0) (whole 0) (strips_from (upright (whole 1)) (whole 0) heights) (around 0 []) (part Obstacle (whole 10) (decimal 1 1) ∷ [])
 
-unfoldable pub hedge : Float → Float → FactorAnswer
+unfoldable pub hedge : Float → Float → Result Float Refusal
 hedge base height = shading_factor 1 (strip_of (upright (whole 1)) base height) (whole 0) (whole 0) (around 0 []) (part Obstacle (whole 10) (decimal 1 1) ∷ [])
 
 unfoldable pub false_of_strips : Bool

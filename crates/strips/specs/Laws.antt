@@ -1,6 +1,6 @@
 -- What is promised of the factor of glazing in strips, beside its definition: how it comes from factor calls, and the laws of the
 -- factor, which it keeps. Proofs are in proofs/StripLaws.
-use Rattle.std.specs.Prelude.{◌≡◌, ◌&&◌, ℕ, T, Float}
+use Rattle.std.specs.Prelude.{◌≡◌, ◌&&◌, ℕ, T, Float, Err, Ok}
 use mathlib.Core.List.{List, [], Memᴰ}
 use Rattle.doubles.specs.Arithmetic.{whole}
 use Rattle.doubles.specs.Order.{◌≼◌, Fits}
@@ -8,7 +8,6 @@ use Rattle.words.specs.Lists.{PlaceByPlace}
 use Rattle.objects.specs.declared.surface.Surface.{Surface}
 use Rattle.objects.specs.declared.sectors.ShadingSegment.{ShadingSegment}
 use Rattle.objects.specs.declared.answers.Refusal.{Refusal}
-use Rattle.objects.specs.declared.answers.FactorAnswer.TheVariants.{Factor, Refused}
 use Rattle.objects.specs.Objects.{counted}
 use Rattle.objects.specs.Records.{sectors_of, window_objects_of}
 use Rattle.object_checks.specs.Checks.{sectors_fine, window_fine}
@@ -33,7 +32,7 @@ abbrev pub RefusedAlike : Type 0
 RefusedAlike =
     (edition : ℕ) (altitude azimuth : Float) (glazing : TallGlazing) (heights sectors window : List ℕ) → T (strips_fine glazing heights)
     → (s t : Surface) → Memᴰ s (strips_of glazing heights) → Memᴰ t (strips_of glazing heights)
-    → (r : Refusal) → factor_call edition altitude azimuth s sectors window ≡ Refused r → factor_call edition altitude azimuth t sectors window ≡ Refused r
+    → (r : Refusal) → factor_call edition altitude azimuth s sectors window ≡ Err r → factor_call edition altitude azimuth t sectors window ≡ Err r
 
 -- ---- two calls compared, alike in all but their lists of objects
 
@@ -66,7 +65,7 @@ abbrev pub StripsCompared : Type 0
 StripsCompared =
     (edition : ℕ) (altitude azimuth : Float) (glazing : TallGlazing) (heights l m w v : List ℕ) (x y : Float)
     → Fits glazing.width
-    → strips_call edition altitude azimuth glazing heights l w ≡ Factor x → strips_call edition altitude azimuth glazing heights m v ≡ Factor y
+    → strips_call edition altitude azimuth glazing heights l w ≡ Ok x → strips_call edition altitude azimuth glazing heights m v ≡ Ok y
     → NoNanInStrips edition altitude azimuth (strips_of glazing heights) l w → NoNanInStrips edition altitude azimuth (strips_of glazing heights) m v
     → Compared l m w v x y
 

@@ -1,13 +1,12 @@
 -- Tall glazing cut into strips: the strips, their check, and the factor of the whole.
-use Rattle.std.specs.Prelude.{Bool, true, cond, ◌&&◌, List, [], ◌∷◌, ℕ, ◌%◌, eqb, leb, length, Float}
+use Rattle.std.specs.Prelude.{Bool, true, cond, ◌&&◌, List, [], ◌∷◌, ℕ, ◌%◌, eqb, leb, length, Float, Err, Ok, Result}
+use Rattle.objects.specs.declared.answers.Refusal.{Refusal}
 use Rattle.doubles.specs.Arithmetic.{◌⊕◌, ◌⊗◌, ◌⊘◌, whole}
 use Rattle.words.specs.Words.{word_count, double_at}
 use Rattle.objects.specs.declared.surface.Surface.{Surface}
 use Rattle.objects.specs.declared.sectors.ShadingSegment.{ShadingSegment}
 use Rattle.objects.specs.declared.window.WindowShadingObject.{WindowShadingObject}
 use Rattle.objects.specs.declared.answers.Refusal.TheVariants as refusal
-use Rattle.objects.specs.declared.answers.FactorAnswer.{FactorAnswer}
-use Rattle.objects.specs.declared.answers.FactorAnswer.TheVariants.{Factor, Refused}
 use Rattle.objects.specs.Records.{records_from, sectors_of, window_objects_of}
 use Rattle.objects.specs.Surface.{surface_fine}
 use Rattle.object_checks.specs.Checks.{sectors_fine, window_fine}
@@ -52,33 +51,33 @@ strips_fine glazing heights = count_fine heights && all_fine (strips_of glazing 
 -- ---- the factor of the whole
 
 -- what follows from a strip's factor; a strip that is refused ends it (`refused_alike`: the others are refused likewise)
-unfoldable pub on_factor : FactorAnswer → (Float → FactorAnswer) → FactorAnswer
-on_factor (Factor x) next = next x
-on_factor (Refused r) next = Refused r
+unfoldable pub on_factor : Result Float Refusal → (Float → Result Float Refusal) → Result Float Refusal
+on_factor (Ok x) next = next x
+on_factor (Err r) next = Err r
 
 -- (Σ factor ⊗ height) ⊘ (Σ height), from the bottom up, of the sums over the strips below and of those that follow
-unfoldable pub mean_from : (Surface → FactorAnswer) → Float → Float → List Surface → FactorAnswer
-mean_from factor_of weighted heights [] = Factor (weighted ⊘ heights)
+unfoldable pub mean_from : (Surface → Result Float Refusal) → Float → Float → List Surface → Result Float Refusal
+mean_from factor_of weighted heights [] = Ok (weighted ⊘ heights)
 mean_from factor_of weighted heights (strip ∷ above) =
     on_factor (factor_of strip) (λ factor. mean_from factor_of (weighted ⊕ factor ⊗ strip.height) (heights ⊕ strip.height) above)
 
 -- both sums from 0
-unfoldable pub mean_factor : (Surface → FactorAnswer) → List Surface → FactorAnswer
+unfoldable pub mean_factor : (Surface → Result Float Refusal) → List Surface → Result Float Refusal
 unfolding whole
 mean_factor factor_of strips = mean_from factor_of (whole 0) (whole 0) strips
 
-unfoldable pub strips_factor : ℕ → Float → Float → List Surface → List ShadingSegment → List WindowShadingObject → FactorAnswer
+unfoldable pub strips_factor : ℕ → Float → Float → List Surface → List ShadingSegment → List WindowShadingObject → Result Float Refusal
 strips_factor edition altitude azimuth strips sectors window =
     mean_factor (λ strip. shading_factor edition strip altitude azimuth sectors window) strips
 
 -- ---- the call: the edition is tried first (14), then angles and strips (3), then the lists (4), then the step itself (8 to 11)
 
-unfoldable pub strips_call : ℕ → Float → Float → TallGlazing → List ℕ → List ℕ → List ℕ → FactorAnswer
+unfoldable pub strips_call : ℕ → Float → Float → TallGlazing → List ℕ → List ℕ → List ℕ → Result Float Refusal
 strips_call edition altitude azimuth glazing heights sectors window =
     cond (edition_fine edition)
     (cond (sun_fine altitude azimuth && strips_fine glazing heights)
     (cond (sectors_fine sectors && window_fine window)
     (strips_factor edition altitude azimuth (strips_of glazing heights) (sectors_of sectors) (window_objects_of window))
-    (Refused refusal.Object))
-    (Refused refusal.Surface))
-    (Refused refusal.Edition)
+    (Err refusal.Object))
+    (Err refusal.Surface))
+    (Err refusal.Edition)

@@ -22,7 +22,7 @@ pub fn strip_of(glazing: TallGlazing, base: f64, height: f64) -> Surface
         tilt: glazing.tilt,
         orientation: glazing.orientation,
         base_height: base,
-        height: height,
+        height,
         width: glazing.width,
     }
 }
@@ -43,15 +43,12 @@ pub fn strips_fine(glazing: TallGlazing, heights: &[u8]) -> bool
     if !count_fine(heights) {
         return false;
     }
-    let n = word_count(heights);
     let mut base = glazing.base_height;
     let mut fine = true;
-    let mut i: usize = 0;
-    while i < n {
+    for i in 0..word_count(heights) {
         let height = double_at(heights, i);
         fine = fine & surface_fine(strip_of(glazing, base, height));
-        base = base + height;
-        i += 1;
+        base += height;
     }
     fine
 }

@@ -77,14 +77,15 @@ fn azimuth_branch(sin_aux1: f64, cos_aux1: f64, aux2: f64) -> f64
 {
     if (sin_aux1 >= 0.0) & (cos_aux1 > 0.0) {
         if aux2 > 180.0 {
-            return aux2 - 180.0;
+            aux2 - 180.0
+        } else {
+            180.0 - aux2
         }
-        return 180.0 - aux2;
+    } else if cos_aux1 < 0.0 {
+        aux2
+    } else {
+        -(180.0 + aux2)
     }
-    if cos_aux1 < 0.0 {
-        return aux2;
-    }
-    -(180.0 + aux2)
 }
 
 // By latitude l, declination d and 180 less the hour angle, w. The arcsine is that of d.cos * w.sin.
@@ -125,9 +126,10 @@ fn air_mass_by(altitude: f64, sin_altitude: f64) -> f64
     ensures { result ≡ air_mass_by altitude sin_altitude }
 {
     if altitude >= 10.0 {
-        return 1.0 / sin_altitude;
+        1.0 / sin_altitude
+    } else {
+        1.0 / (sin_altitude + 0.15 * powers::pow_minus_1_253(altitude + 3.885))
     }
-    1.0 / (sin_altitude + 0.15 * powers::pow_minus_1_253(altitude + 3.885))
 }
 
 // How far the sun's beam goes through the air, in thicknesses of the atmosphere.
@@ -180,10 +182,10 @@ fn terms_by_day(altitude: f64, numerator: f64) -> TermsAndArcsine
     let zenith = init_solar_zenith_angle(altitude);
     TermsAndArcsine {
         terms: AltitudeTerms {
-            altitude: altitude,
-            sin: sin,
+            altitude,
+            sin,
             azimuth_denominator: angles::cos(arcsines.second),
-            zenith: zenith,
+            zenith,
             cos_zenith: angles::cos(doubles::to_radians(zenith)),
             air_mass: air_mass_by(altitude, sin),
         },
@@ -232,8 +234,8 @@ pub fn hour_angles_by(equation_of_time: f64, time_shift: f64, hour_of_day: u32) 
     let hour_angle = sin_cos_of_degrees(angle);
     let supplement = sin_cos_of_degrees(180.0 - angle);
     HourAngles {
-        hour_angle: hour_angle,
-        supplement: supplement,
+        hour_angle,
+        supplement,
     }
 }
 
@@ -261,9 +263,9 @@ pub fn hour_from(
         terms.azimuth_denominator,
     );
     Hour {
-        hour_angle: hour_angle,
+        hour_angle,
         altitude: terms.altitude,
-        azimuth: azimuth,
+        azimuth,
         sin_altitude: terms.sin,
         zenith: terms.zenith,
         cos_zenith: terms.cos_zenith,

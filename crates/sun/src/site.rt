@@ -4,7 +4,7 @@ ghost use Rattle.std.specs.Prelude.{◌≡◌};
 ghost use Rattle.sun.specs.Site.{site_fine, leaf_days_fine, hours_in_year};
 
 // Latitude and longitude in degrees, north and east positive; timezone and series step in hours; days count from 0.
-// leap_year and direct_beam_conversion are 0 or 1.
+// leap_year and direct_beam_conversion are 0 or 1, and numbers as in the C struct, since a job with another one is refused.
 #[derive(Clone, Copy)]
 pub struct Site {
     pub latitude: f64,

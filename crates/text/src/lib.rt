@@ -1,62 +1,29 @@
 // Pieces of text.
 #![tactic(auto)]
 
-ghost use Rattle.std.specs.Prelude.{◌≡◌, ◌-◌, min, length};
-ghost use Rattle.text.specs.Text.{same_text, filled, used_after, line_end};
+ghost use Rattle.std.specs.Prelude.{◌≡◌, ◌++◌, take};
+ghost use Rattle.text.specs.Text.{same_text, line_end};
 
-// The place of the first line feed from place `from` on, and the piece's length where there is none.
-pub fn line_end(piece: &[u8], from: usize) -> usize
-    ensures { result ≡ line_end piece.now from (length piece.now - from) }
+use arrayvec::ArrayVec;
+
+// The place of the first line feed.
+pub fn line_end(piece: &[u8]) -> Option<usize>
+    ensures { result ≡ line_end piece.now }
 {
-    let mut i = from;
-    while i < piece.len() {
-        if piece[i] == 10 {
-            return i;
-        }
-        i += 1;
-    }
-    i
+    piece.iter().position(|b| *b == b'\n')
 }
 
-// The smaller of two.
-pub fn least(a: usize, b: usize) -> usize
-    ensures { result ≡ min a b }
+// Puts as much of a part behind what a list holds as there is room for.
+pub fn append<const N: usize>(list: &mut ArrayVec<u8, N>, part: &[u8])
+    ensures { list.new.items ≡ take N (list.old.items ++ part.now) }
 {
-    if a < b {
-        return a;
-    }
-    b
-}
-
-// Puts as much of a part behind the first `count` bytes of a list as there is room for. Answers how many there are then.
-pub fn append(list: &mut [u8], count: usize, part: &[u8]) -> usize
-    ensures { (result ≡ used_after list.old count part.now)
-        × (list.new ≡ filled list.old count part.now) }
-{
-    if list.len() <= count {
-        return count;
-    }
-    let n = least(part.len(), list.len() - count);
-    let mut i = 0;
-    while i < n {
-        list[count + i] = part[i];
-        i += 1;
-    }
-    count + n
+    let n = part.len().min(list.remaining_capacity());
+    let _ = list.try_extend_from_slice(&part[..n]);
 }
 
 // As many bytes, and the same.
 pub fn same_text(a: &[u8], b: &[u8]) -> bool
     ensures { result ≡ same_text a.now b.now }
 {
-    if a.len() != b.len() {
-        return false;
-    }
-    let mut same = true;
-    let mut i = 0;
-    while i < a.len() {
-        same = (a[i] == b[i]) & same;
-        i += 1;
-    }
-    same
+    a == b
 }

@@ -60,10 +60,8 @@ pub fn empty_totals(totals: &mut [u8], leap: bool)
         largest: 0.0 / 0.0,
         sum: 0.0,
     };
-    let mut k: u32 = 0;
-    while k < count {
+    for k in 0..count {
         store_totals(totals, k as usize, none);
-        k += 1;
     }
 }
 
@@ -79,7 +77,7 @@ pub fn parts_of(leap: bool, day: u32) -> Parts
     ensures { result ≡ parts_of leap day }
 {
     Parts {
-        day: day,
+        day,
         month: days_in_year(leap) + date_of(leap, day).month - 1,
     }
 }
@@ -93,39 +91,36 @@ pub struct KeptTotals {
     pub month: Totals,
 }
 
-pub fn read_totals(totals: &[u8], leap: bool, day: u32) -> KeptTotals
-    requires { day < days_in_year leap }
-    ensures { result ≡ kept_totals leap day totals.now }
-{
-    let parts = parts_of(leap, day);
-    KeptTotals {
-        parts: parts,
-        day: totals_at(totals, parts.day as usize),
-        month: totals_at(totals, parts.month as usize),
+impl KeptTotals {
+    // Those of a day and its month, as they stand in the list.
+    pub fn read(totals: &[u8], leap: bool, day: u32) -> KeptTotals
+        requires { day < days_in_year leap }
+        ensures { result ≡ kept_totals leap day totals.now }
+    {
+        let parts = parts_of(leap, day);
+        KeptTotals {
+            parts,
+            day: totals_at(totals, parts.day as usize),
+            month: totals_at(totals, parts.month as usize),
+        }
     }
-}
 
-// A step's row, added to the totals of its day and to those of its month.
-pub fn add_row(kept: KeptTotals, step: f64, row: Row) -> KeptTotals
-    requires { (kept.day.count < 35137) × (kept.month.count < 35137) }
-    ensures { result ≡ with_row_added step row kept }
-{
-    let parts = kept.parts;
-    let day = with_step(step, kept.day, row);
-    let month = with_step(step, kept.month, row);
-    KeptTotals {
-        parts: parts,
-        day: day,
-        month: month,
+    // Adds a step's row to the totals of its day and to those of its month.
+    pub fn add_row(&mut self, step: f64, row: Row)
+        requires day_bound { self.old.day.count < 35137 }
+        requires month_bound { self.old.month.count < 35137 }
+        ensures { self.new ≡ with_row_added step row self.old }
+    {
+        self.day = with_step(step, self.day, row);
+        self.month = with_step(step, self.month, row);
     }
-}
 
-// Stores both records.
-pub fn store_kept(totals: &mut [u8], kept: KeptTotals)
-    requires { HasRecords totals.old kept.parts }
-    ensures { totals.new ≡ put_kept totals.old kept }
-{
-    let parts = kept.parts;
-    store_totals(totals, parts.day as usize, kept.day);
-    store_totals(totals, parts.month as usize, kept.month);
+    // Stores both records.
+    pub fn store(self, totals: &mut [u8])
+        requires { HasRecords totals.old self.parts }
+        ensures { totals.new ≡ put_kept totals.old self }
+    {
+        store_totals(totals, self.parts.day as usize, self.day);
+        store_totals(totals, self.parts.month as usize, self.month);
+    }
 }

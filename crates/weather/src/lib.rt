@@ -24,23 +24,32 @@ pub fn reading_fine(reading: Reading) -> bool
     diffuse & direct & reflectivity
 }
 
-// Refusal 5: whether all three series have a value at an index.
-pub fn in_series(diffuse: &[u8], direct: &[u8], reflectivity: &[u8], i: usize) -> bool
-    ensures { result ≡ in_series diffuse.now direct.now reflectivity.now i }
-{
-    (i < word_count(diffuse)) & (i < word_count(direct)) & (i < word_count(reflectivity))
+// The three series as they are lent: lists of words, a value in each.
+#[derive(Clone, Copy)]
+pub struct Series<'a> {
+    pub diffuse: &'a [u8],
+    pub direct: &'a [u8],
+    pub reflectivity: &'a [u8],
 }
 
-// The values of all three series at an index; past the end a value is 0.
-pub fn read_series(diffuse: &[u8], direct: &[u8], reflectivity: &[u8], i: usize) -> Reading
-    ensures { result ≡ read_series diffuse.now direct.now reflectivity.now i }
-{
-    let diffuse = double_at(diffuse, i);
-    let direct = double_at(direct, i);
-    let reflectivity = double_at(reflectivity, i);
-    Reading {
-        diffuse: diffuse,
-        direct: direct,
-        reflectivity: reflectivity,
+impl Series<'_> {
+    // Refusal 5: whether all three have a value at an index.
+    pub fn has_value_at(self, i: usize) -> bool
+        ensures { result ≡ in_series self.entry.diffuse.now self.entry.direct.now self.entry.reflectivity.now i }
+    {
+        (i < word_count(self.diffuse))
+            & (i < word_count(self.direct))
+            & (i < word_count(self.reflectivity))
+    }
+
+    // The values of all three at an index; past the end a value is 0.
+    pub fn reading_at(self, i: usize) -> Reading
+        ensures { result ≡ read_series self.entry.diffuse.now self.entry.direct.now self.entry.reflectivity.now i }
+    {
+        Reading {
+            diffuse: double_at(self.diffuse, i),
+            direct: double_at(self.direct, i),
+            reflectivity: double_at(self.reflectivity, i),
+        }
     }
 }

@@ -70,7 +70,7 @@ module _ (l : List ℕ) (k : ℕ) where
   put_word_out w h = rw (le-ltb _ _ h)
 
 -- a word that is there has all its bytes
-room : (l : List ℕ) (k : ℕ) → k < word_count l → 8 * k + 8 ≤ length l
+pub room : (l : List ℕ) (k : ℕ) → k < word_count l → 8 * k + 8 ≤ length l
 unfolding word_count
 room l k h = omega arith
 

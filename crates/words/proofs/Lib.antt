@@ -2,6 +2,7 @@
 pub mod Bases
 pub mod Stores
 pub mod Patterns
+mod Chunks
 pub mod Laws
 pub mod DoubleStores
 pub mod Lists

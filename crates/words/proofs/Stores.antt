@@ -4,8 +4,10 @@ use mathlib.Core.Bool.{Bool, true, false, cond}
 use mathlib.Core.List.{List, [], ◌∷◌, ◌++◌}
 use Prim.Native.Nat.{ℕ, suc, ◌+◌, ◌≤◌, ◌<◌}
 use native.Mathlib.Omega.{arith}
-use lib.ListN.{length, get_or, set}
-use lib.Seq.{sets, length-sets, set-set, set_comm, get_or-set_other}
+use borrow.Rule.Slice.PartMut.{put_mid}
+use lib.ListN.{length, get_or, set, take, drop}
+use Rattle.std.proofs.Common.{append_assoc}
+use lib.Seq.{sets, sets-eq, drop-drop, length-sets, set-set, set_comm, get_or-set_other}
 
 -- a store before the run may be made first
 pub set_sets : (l : List ℕ) (j i : ℕ) (vs : List ℕ) (a : ℕ) → j < i → set (sets l i vs) j a ≡ sets (set l j a) i vs
@@ -38,6 +40,12 @@ sets_again l i (v ∷ vs) [] e = absurd (omega (arith, e))
 sets_again l i (v ∷ vs) (w ∷ ws) e =
     ap (λ (m : List ℕ). sets m (suc i) ws) (set_sets (set l i v) i (suc i) vs w (omega arith) ∙ ap (λ (m : List ℕ). sets m (suc i) vs) (set-set l i v w))
     ∙ sets_again (set l i w) (suc i) vs ws (omega (arith, e))
+
+-- a copy over a part of a list is the run of stores from its first place on
+pub stored_part : (l : List ℕ) (a n : ℕ) (ys vs : List ℕ) → a + length vs ≤ length l → n ≡ length vs → ys ≡ vs → put_mid a n l ys ≡ sets l a vs
+stored_part l a n ys vs h e f =
+    let d : drop (length vs) (drop a l) ≡ drop (a + length vs) l = drop-drop (length vs) a l in
+    rw (e, f, sets-eq vs l a h, d) (sym (append_assoc (take a l) vs (drop (a + length vs) l)))
 
 -- two runs apart from each other, in either order
 pub sets_comm : (l : List ℕ) (i j : ℕ) (vs ws : List ℕ) → i + length vs ≤ j → sets (sets l i vs) j ws ≡ sets (sets l j ws) i vs

@@ -1,5 +1,7 @@
 -- The specification's values at the edges: those it asks to be proved, all together, computed by the checker from the definitions.
 -- Doubles are compared by their bits, so that −0.0 is not 0.
+use Rattle.std.specs.Prelude.{Err, Float, Ok, Result}
+use Rattle.objects.specs.declared.answers.Refusal.{Refusal}
 use mathlib.Core.Path.{◌≡◌, refl}
 use mathlib.Core.Bool.{Bool, true, false, ◌&&◌}
 use mathlib.Core.List.{List, [], ◌∷◌}
@@ -21,8 +23,6 @@ use Rattle.objects.specs.declared.sectors.ShadingObjectType.TheVariants as dista
 use Rattle.objects.specs.declared.sectors.ShadingSegment.{ShadingSegment}
 use Rattle.objects.specs.declared.window.WindowShadingObject.{WindowShadingObject}
 use Rattle.objects.specs.declared.window.WindowShadingType.TheVariants as near
-use Rattle.objects.specs.declared.answers.FactorAnswer.{FactorAnswer}
-use Rattle.objects.specs.declared.answers.FactorAnswer.TheVariants.{Factor, Refused}
 use Rattle.objects.specs.Objects.{counted}
 use Rattle.beam.specs.Beam.{outside_solar_beam}
 use Rattle.segments.specs.Segments.{segment_of}
@@ -56,16 +56,16 @@ reveal = record { object_type = near.Reveal; size = decimal 2 1; distance = deci
 unfoldable pub same : Float → Float → Bool
 same x y = eqb (to_bits binary64 x) (to_bits binary64 y)
 
-unfoldable pub is_factor : Float → FactorAnswer → Bool
-is_factor x (Factor f) = same f x
-is_factor x (Refused r) = false
+unfoldable pub is_factor : Float → Result Float Refusal → Bool
+is_factor x (Ok f) = same f x
+is_factor x (Err r) = false
 
 -- the factor at altitude 0, the sun in the south
-unfoldable pub inside : List ShadingObject → List WindowShadingObject → FactorAnswer
+unfoldable pub inside : List ShadingObject → List WindowShadingObject → Result Float Refusal
 inside objects window = shading_factor 1 surface (whole 0) (whole 0) (horizon objects) window
 
 -- and the sun in the north
-unfoldable pub outside : List ShadingObject → List WindowShadingObject → FactorAnswer
+unfoldable pub outside : List ShadingObject → List WindowShadingObject → Result Float Refusal
 outside objects window = shading_factor 1 surface (whole 0) (whole 180) (horizon objects) window
 
 unfoldable pub edge_values : Bool

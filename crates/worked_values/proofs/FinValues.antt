@@ -1,5 +1,7 @@
 -- Fins in both editions, and where the overhang's cosine would tell that its difference is wrapped: computed by the checker from the
 -- definitions.
+use Rattle.std.specs.Prelude.{Float, Result}
+use Rattle.objects.specs.declared.answers.Refusal.{Refusal}
 use mathlib.Core.Path.{◌≡◌, refl}
 use mathlib.Core.Bool.{Bool, true, ◌&&◌}
 use mathlib.Core.List.{[], ◌∷◌}
@@ -15,7 +17,6 @@ use Rattle.objects.specs.declared.surface.Surface.{Surface}
 use Rattle.objects.specs.declared.window.WindowShadingObject.{WindowShadingObject}
 use Rattle.objects.specs.declared.window.WindowShadingType.{WindowShadingType}
 use Rattle.objects.specs.declared.window.WindowShadingType.TheVariants.{Overhang, SideFinRight, SideFinLeft}
-use Rattle.objects.specs.declared.answers.FactorAnswer.{FactorAnswer}
 use Rattle.objects.specs.Objects.{counted}
 use Rattle.beam.specs.Beam.{outside_solar_beam}
 use Rattle.segments.specs.Segments.{segment_of}
@@ -40,7 +41,7 @@ unfolding square part same is_factor horizon
 factors = 0
 
 -- the factor of an upright window at altitude 0
-unfoldable pub finned : ℕ → WindowShadingType → Float → Float → FactorAnswer
+unfoldable pub finned : ℕ → WindowShadingType → Float → Float → Result Float Refusal
 finned edition kind orientation azimuth = shading_factor edition (square (whole 90) orientation) (whole 0) azimuth (horizon []) (part kind ∷ [])
 
 -- 1 less half the tangent of 30 degrees: 0.7113248654051871

@@ -2,6 +2,8 @@
 -- the second is summer. `bare` has no objects; `built` has a distant obstacle, in summer a distant overhang too, an overhang at the window
 -- and a right fin; `mixed` has these in another order and some twice, and its sectors start at −0.0. All premises are met, computed by the
 -- checker from the definitions. So are the totals that `built` leaves. `dragged` is `built` with four of its objects changed in one measure.
+use Rattle.std.specs.Prelude.{Err, Float, Ok, Result, ℕ}
+use Rattle.objects.specs.declared.answers.Refusal.{Refusal}
 use mathlib.Core.Path.{◌≡◌, refl, sym, subst, ap, ◌∙◌}
 use mathlib.Core.Logic.{inl, inr}
 use mathlib.Core.Bool.{Bool, true, false, not, ◌&&◌}
@@ -31,8 +33,6 @@ use Rattle.simulation_time.specs.Steps.{run_fine, goes_on, steps_from, step_coun
 use Rattle.simulation_time.specs.Timestep.{current_hour, series_index}
 use Rattle.simulation_time.specs.RunChecks.{hour_fine, hours_fine, run_accepted}
 use Rattle.objects.specs.declared.sectors.ShadingSegment.{ShadingSegment}
-use Rattle.objects.specs.declared.answers.FactorAnswer.{FactorAnswer}
-use Rattle.objects.specs.declared.answers.FactorAnswer.TheVariants as factor
 use Rattle.words.specs.Lists.{first_fine, none, and_then}
 use Rattle.objects.specs.Surface.{surface_fine}
 use Rattle.object_checks.specs.Checks.{records_fine, window_values_fine, window_record_fine, window_fine, object_values_fine, object_fine, object_unused, triple_fine, bounds_fine, sector_record_fine, sectors_fine}
@@ -40,15 +40,13 @@ use Rattle.objects.specs.Records.{records_from, distant_kind, object_at, objects
 use Rattle.beam.specs.Beam.{within90, outside_solar_beam}
 use Rattle.extents.specs.Extents.{obstacle_height, overhang_height, window_overhang_height}
 use Rattle.fins.specs.Fins.{edition_fine, fin_width, right_fin1, left_fin1, right_fin2, left_fin2, fins_of}
-use Rattle.segments.specs.Segments.{found, between_ends, holds_azimuth, visit, place_from, place_of, sector_at, segment_in, segment_of}
+use Rattle.segments.specs.Segments.{between_ends, holds_azimuth, visit, place_from, place_of, sector_at, segment_in, segment_of}
 use Rattle.objects.specs.declared.window.WindowShadingType.TheVariants.{Obstacle}
 use Rattle.objects.specs.Objects.{is_obstacle, is_overhang, kind_number, of_kind, counted}
 use Rattle.shading.specs.declared.sun_on_surface.SunOnSurface.{SunOnSurface}
 use Rattle.shading.specs.Factor.{extents, sun_on, near_obstacle_height, obstacle_extents, overhang_extents, window_overhang_extents, right_fin_extents, left_fin_extents, overhang_shade, sunlit_between, sunlit_height, sunlit_width, sunlit_part, least_of, reduction_factor, has_reveal, factor_in, shading_factor}
 use Rattle.shading_laws.specs.Premises.{Doubles, AllNumbers, NoNanExtent, Holds}
 use Rattle.shading_laws.specs.Sizes.{taller_obstacle, lower_overhang, deeper, overhang, right_fin}
-use Rattle.jobs.specs.declared.answers.Checked.{Checked}
-use Rattle.jobs.specs.declared.answers.Checked.TheVariants as check
 use Rattle.weather.specs.Weather.{in_series, read_series, reading_fine}
 use Rattle.irradiance.specs.Table.{limits, first_above, table_row, coefficients, coefficients_at}
 use Rattle.irradiance.specs.Sky.{direct_beam, altitude_term, clearness, sky_brightness, brightness_of, brightness_in, brightness, cut_brightness, circumsolar_brightness, horizontal_brightness, sky_of}
@@ -188,28 +186,28 @@ shade = 0
 
 -- ---- they are accepted
 
-is_below : Float → FactorAnswer → Bool
-is_below x (factor.Factor f) = lt f x
-is_below x (factor.Refused r) = false
+is_below : Float → Result Float Refusal → Bool
+is_below x (Ok f) = lt f x
+is_below x (Err r) = false
 
-is_factor : FactorAnswer → Bool
-is_factor (factor.Factor f) = true
-is_factor (factor.Refused r) = false
+is_factor : Result Float Refusal → Bool
+is_factor (Ok f) = true
+is_factor (Err r) = false
 
 -- a step's factor
-answered : Job → Float → FactorAnswer
+answered : Job → Float → Result Float Refusal
 answered job time = shading_at job.edition job.surface (sun_at job.site time) (job_sectors job time) job.window
 
-two_steps : (job : Job) → checked job (room_for job room) ≡ check.Steps 2 → T (is_factor (answered job job.run.start))
+two_steps : (job : Job) → checked job (room_for job room) ≡ Ok 2 → T (is_factor (answered job job.run.start))
     → T (is_factor (answered job (job.run.start ⊕ job.run.step))) → IsAccepted (run_of job room).ran
 unfolding answered run_of
 two_steps job c t u = go (answered job job.run.start) (answered job (job.run.start ⊕ job.run.step)) refl refl t u
   where
-    go : (a b : FactorAnswer) → answered job job.run.start ≡ a → answered job (job.run.start ⊕ job.run.step) ≡ b
+    go : (a b : Result Float Refusal) → answered job job.run.start ≡ a → answered job (job.run.start ⊕ job.run.step) ≡ b
         → T (is_factor a) → T (is_factor b) → IsAccepted (run_of job room).ran
-    go (factor.Refused r) b e d t u = unfold is_factor in absurd t
-    go (factor.Factor f) (factor.Refused r) e d t u = unfold is_factor in absurd u
-    go (factor.Factor f) (factor.Factor g) e d t u = unfold run_checked run_from on_row step_at step_with row_with number_for in rw (c, e, d)
+    go (Err r) b e d t u = unfold is_factor in absurd t
+    go (Ok f) (Err r) e d t u = unfold is_factor in absurd u
+    go (Ok f) (Ok g) e d t u = unfold run_checked run_from on_row step_at step_with row_with number_for in rw (c, e, d)
 
 bare_accepted : IsAccepted (run_of bare room).ran
 unfolding answered is_factor checks shade
@@ -232,9 +230,9 @@ built_shaded : T (is_below (whole 1) (answered built (whole 13)) && is_below (wh
 unfolding answered is_below shade
 built_shaded = tt
 
-is_lower : FactorAnswer → FactorAnswer → Bool
-is_lower (factor.Factor f) a = is_below f a
-is_lower (factor.Refused r) a = false
+is_lower : Result Float Refusal → Result Float Refusal → Bool
+is_lower (Ok f) a = is_below f a
+is_lower (Err r) a = false
 
 -- and larger ones more
 dragged_shaded : T (is_lower (answered built (whole 13)) (answered dragged (whole 13)) && is_lower (answered built (whole 37)) (answered dragged (whole 37)))
@@ -312,7 +310,7 @@ no_nan job c d e f g = record { at_step = λ i h. record { at_found = λ k s m. 
     Fine : ℕ → ShadingSegment → Type 0
     Fine i s = NoNanExtent job.surface (sun_then job i) (counted s) (window_objects_of job.window)
 
-    found_fine : (i : ℕ) → OneSector job i → FineAt job i → (s : ShadingSegment) → segment_of (sun_at job.site (time_at job.run i)).azimuth (sectors_of (job_sectors job (time_at job.run i))) ≡ found s → Fine i s
+    found_fine : (i : ℕ) → OneSector job i → FineAt job i → (s : ShadingSegment) → segment_of (sun_at job.site (time_at job.run i)).azimuth (sectors_of (job_sectors job (time_at job.run i))) ≡ Ok s → Fine i s
     found_fine i o t = found_has (Fine i) (sun_at job.site (time_at job.run i)).azimuth (sectors_of (job_sectors job (time_at job.run i))) (λ s m.
         elim (Memᴰ.cases_cons (subst (Memᴰ s) o m)) [
           | inl q ↦ subst (Fine i) (sym q) t
@@ -504,13 +502,13 @@ unfolding run totals_at_part totals_of no_totals with_step in_part month_part da
 totals = 0
 
 -- after two steps a record is the totals of its part
-part_left : (job : Job) (k : ℕ) → checked job (room_for job room) ≡ check.Steps 2 → rows_stored (run_of job room).ran.answer ≡ 2 → k < totals_count (leap_year_of job.site)
+part_left : (job : Job) (k : ℕ) → checked job (room_for job room) ≡ Ok 2 → rows_stored (run_of job room).ran.answer ≡ 2 → k < totals_count (leap_year_of job.site)
     → totals_at (run_of job room).totals k ≡ totals_at_part (leap_year_of job.site) job.run (run_of job room).ran.results 2 k
 unfolding run_of totals_left
 part_left job k c e h =
     let ran : Ran = (run_of job room).ran in
     let leap = leap_year_of job.site in
-    ap (λ (s : Checked). totals_at (totals_left s job ran room.totals) k) c
+    ap (λ (s : Result ℕ Refusal). totals_at (totals_left s job ran room.totals) k) c
     ∙ ap (λ (n : ℕ). totals_at (with_totals leap job.run ran.results n room.totals) k) e
     ∙ totals_read leap job.run ran.results 2 room.totals (omega arith) k h
 

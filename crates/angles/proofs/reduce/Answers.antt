@@ -1,9 +1,9 @@
 -- Each way of `reduce` is one lemma of `Reduction`: above 0, at a whole number, and between two.
 use Rattle.std.proofs.Common.{◌≤◌, arith}
-use lib.Ieee.{of_bits, neg, div}
+use lib.Ieee.{of_bits, neg}
 use Rattle.doubles.specs.Arithmetic.{whole}
 use Rattle.angles.specs.Sine.{is_angle}
-use Rattle.angles.proofs.Reduction.{unfloored, ask_up, ask_down, up_le, down_le, reduced_up, reduced_level, reduced_down}
+use Rattle.angles.proofs.Reduction.{unfloored, ask_up, ask_down, up_le, down_le, reduced_up, reduced_level, reduced_down, reduced_none}
 use Rattle.angles.proofs.reduce.Goals as goal
 
 pub truncating_f64_to_u64-n-requires : goal.truncating_f64_to_u64-n-requires
@@ -18,8 +18,7 @@ overflow_cast-n c =
 
 pub returns-then-v : goal.returns-then-v
 unfolding is_angle unfloored whole of_bits neg
-returns-then-v c =
-    reduced_up c.if-a.true c.if-v.true c.truncating_f64_to_u64-n.ensures c.left_over.ensures.0 c.left_over.ensures.1
+returns-then-v c = reduced_up c.args.a c.left_over.result c.if-a.true c.if-v.true c.truncating_f64_to_u64-n.ensures c.left_over.ensures
 
 pub truncating_f64_to_u64-n-requires-then-a : goal.truncating_f64_to_u64-n-requires-then-a
 unfolding is_angle unfloored whole of_bits neg
@@ -40,14 +39,13 @@ overflow_cast-n-else-n-v c =
 pub returns-then-n-v : goal.returns-then-n-v
 unfolding is_angle unfloored whole of_bits neg
 returns-then-n-v c =
-    reduced_level c.if-a.true c.if-v.false c.truncating_f64_to_u64-n-then-a.ensures c.if-n-v.true c.left_over-then-n-v.ensures.0 c.left_over-then-n-v.ensures.1
+    reduced_level c.args.a c.left_over-then-n-v.result c.if-a.true c.if-v.false c.truncating_f64_to_u64-n-then-a.ensures c.if-n-v.true c.left_over-then-n-v.ensures
 
 pub returns-else-n-v : goal.returns-else-n-v
 unfolding is_angle unfloored whole of_bits neg
 returns-else-n-v c =
-    reduced_down c.if-a.true c.if-v.false c.truncating_f64_to_u64-n-then-a.ensures c.if-n-v.false c.left_over-else-n-v.ensures.0 c.left_over-else-n-v.ensures.1
+    reduced_down c.args.a c.left_over-else-n-v.result c.if-a.true c.if-v.false c.truncating_f64_to_u64-n-then-a.ensures c.if-n-v.false c.left_over-else-n-v.ensures
 
 pub returns-else-a : goal.returns-else-a
-unfolding is_angle unfloored whole of_bits neg div
-returns-else-a c =
-    record { turned = simp c.if-a.false; left = simp c.if-a.false }
+unfolding is_angle unfloored whole of_bits neg
+returns-else-a c = reduced_none c.args.a c.if-a.false

@@ -1,11 +1,10 @@
 use mathlib.Core.Path.{◌≡◌, ap}
 use mathlib.Core.Bool.{true}
-use Prim.Native.Nat.{ℕ, suc, ◌-◌, ◌<◌, ◌^◌}
+use Prim.Native.Nat.{ℕ, suc, ◌-◌, ◌<◌}
 use native.Mathlib.Omega.{arith}
 use borrow.Author.Tests.{le-leb, lt-leb}
-use lib.Dec.{le→leb}
 use lib.IntN.{pos}
-use lib.Ieee.{binary64, neg, round, of_int, in_float}
+use lib.Ieee.{binary64, neg, round, of_int}
 use Rattle.doubles.proofs.Rounding.{round-neg}
 use Rattle.days.specs.Day.{days_from}
 use Rattle.days.proofs.days_from.Goals as goal
@@ -18,18 +17,10 @@ below k n l = rw (lt-leb k n l, ← (round-neg (k - n) 1)) (ap (λ (x : ℕ). ro
     back : (k n : ℕ) → n < k → k - n ≡ suc (k - suc n)
     back k n l = omega arith
 
-pub int_to_float-result : goal.int_to_float-result
-unfolding in_float
-int_to_float-result c = let a = c.args in le→leb (a.n - a.k) (2 ^ 53) (omega arith)
-
 pub returns-then-k-n : goal.returns-then-k-n
 unfolding days_from
 returns-then-k-n c = let a = c.args in rw (le-leb a.k a.n (omega arith))
 
-pub int_to_float-result-2 : goal.int_to_float-result-2
-unfolding in_float
-int_to_float-result-2 c = let a = c.args in le→leb (a.k - a.n) (2 ^ 53) (omega arith)
-
-pub returns : goal.returns
+pub returns-else-k-n : goal.returns-else-k-n
 unfolding days_from of_int
-returns c = let a = c.args in below a.k a.n (omega arith)
+returns-else-k-n c = let a = c.args in below a.k a.n (omega arith)

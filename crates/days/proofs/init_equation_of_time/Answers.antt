@@ -1,14 +1,9 @@
-use Prim.Native.Nat.{◌+◌, ◌^◌}
+use Prim.Native.Nat.{◌+◌}
 use native.Mathlib.Omega.{arith}
 use borrow.Author.Tests.{lt-ltb, le-ltb}
-use lib.Dec.{le→leb}
-use lib.Ieee.{of_bits, in_float, div}
+use lib.Ieee.{of_bits}
 use Rattle.days.specs.Day.{equation_of_time_on}
 use Rattle.days.proofs.init_equation_of_time.Goals as goal
-
-pub int_to_float-result : goal.int_to_float-result
-unfolding in_float
-int_to_float-result c = le→leb (c.args.current_day + 1) (2 ^ 53) (omega arith)
 
 pub returns-in-0-to-20 : goal.returns-in-0-to-20
 unfolding equation_of_time_on of_bits
@@ -41,7 +36,7 @@ returns-in-336-to-366 c =
     rw (le-ltb n 21 (omega arith), le-ltb n 136 (omega arith), le-ltb n 241 (omega arith), le-ltb n 336 (omega arith), lt-ltb n 367 (omega arith), c.days_from-in-336-to-366.ensures)
 
 pub returns-in_default : goal.returns-in_default
-unfolding equation_of_time_on of_bits div
+unfolding equation_of_time_on of_bits
 returns-in_default c =
     let n = c.args.current_day + 1 in
     rw (le-ltb n 21 (omega arith), le-ltb n 136 (omega arith), le-ltb n 241 (omega arith), le-ltb n 336 (omega arith), le-ltb n 367 (omega arith))

@@ -10,6 +10,6 @@ pub returns-then-angle-2 : goal.returns-then-angle-2
 unfolding wrapped_once of_bits neg
 returns-then-angle-2 c = rw (c.if-angle.false, c.if-angle-2.true)
 
-pub returns : goal.returns
+pub returns-else-angle-2 : goal.returns-else-angle-2
 unfolding wrapped_once of_bits neg
-returns c = rw (c.if-angle.false, c.if-angle-2.false)
+returns-else-angle-2 c = rw (c.if-angle.false, c.if-angle-2.false)

@@ -3,7 +3,6 @@ use mathlib.Core.Path.{◌∙◌, ap}
 use mir.Facts.{to_z-of_z}
 use Rattle.single_steps.specs.Single.{single_number}
 use Rattle.pilgartze.specs.CallAnswers.{call_leaves}
-use borrow.Author.Rules.{rules}
 use Rattle.pilgartze.proofs.pilgartze_irradiance.Goals as goal
 
 pub returns : goal.returns

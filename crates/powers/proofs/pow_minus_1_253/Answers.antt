@@ -1,4 +1,4 @@
-use lib.Ieee.{of_bits, div}
+use lib.Ieee.{of_bits}
 use Rattle.powers.specs.Power.{pow_minus1253, power_by}
 use Rattle.powers.proofs.pow_minus_1_253.Goals as goal
 
@@ -15,5 +15,5 @@ unfolding pow_minus1253 power_by of_bits
 returns-else-u-3 c = simp (c.if-u.true, c.if-u-2.false, c.if-u-3.false, c.logarithm-else-u-3.ensures, c.power-else-u-3.ensures)
 
 pub returns-else-u : goal.returns-else-u
-unfolding pow_minus1253 power_by of_bits div
+unfolding pow_minus1253 power_by of_bits
 returns-else-u c = simp c.if-u.false

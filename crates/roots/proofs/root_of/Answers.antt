@@ -28,9 +28,6 @@ digits c =
 pub overflow_mul-m : goal.overflow_mul-m
 overflow_mul-m c = omega (arith, scaled_in c.args.m c.args.f c.requires.from_digits c.requires.to_digits)
 
-pub nearest_root-r-requires : goal.nearest_root-r-requires
-nearest_root-r-requires c = record { h_bound = omega (arith, scaled_in c.args.m c.args.f c.requires.from_digits c.requires.to_digits); g_bound = c.guess.ensures }
-
 pub overflow_add-result-2 : goal.overflow_add-result-2
 overflow_add-result-2 c = omega (arith, digits c)
 

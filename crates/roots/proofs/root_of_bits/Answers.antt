@@ -4,7 +4,6 @@ use mathlib.Core.Bool.{false}
 use Prim.Native.Nat.{ℕ, ◌+◌, ◌*◌, ◌-◌, ◌/◌, ◌%◌, ◌^◌, ◌<◌}
 use native.Mathlib.Nat.{mod-eq_of_lt, lt_trans}
 use native.Mathlib.Omega.{arith}
-use lib.Count.{leading_le}
 use lib.Dec.{lit<}
 use lib.Ieee.{binary64, odd, of_bits}
 use Rattle.roots.specs.Root.{nearest_root}
@@ -29,17 +28,8 @@ returns-then-field-gt0 c =
     let b = c.args.b in
     c.root_of.ensures ∙ sym (root_is (of_bits binary64 b) (hidden + b % hidden) (b / hidden + 53) (normal_scaled b (omega arith) c.requires.finite))
 
-pub overflow_cast-lift : goal.overflow_cast-lift
-overflow_cast-lift c = omega (arith, leading_le 64 c.args.b)
-
 pub overflow_sub-lift : goal.overflow_sub-lift
 overflow_sub-lift c = (lift_in c.args.b c.requires.positive (low c)).0
-
-pub overflow_shl-b : goal.overflow_shl-b
-overflow_shl-b c = omega (arith, lift_in c.args.b c.requires.positive (low c))
-
-pub overflow_sub-lift-2 : goal.overflow_sub-lift-2
-overflow_sub-lift-2 c = omega (arith, lift_in c.args.b c.requires.positive (low c))
 
 pub root_of-requires-2 : goal.root_of-requires-2
 root_of-requires-2 c = rw (kept c) (record { from_digits = (shape c).lo; to_digits = (shape c).hi; f_bound = omega arith })

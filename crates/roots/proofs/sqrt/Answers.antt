@@ -1,11 +1,11 @@
 -- `roots::sqrt` meets its contract, by the tests that it makes (`Cases`). Assumes nothing.
-use mathlib.Core.Path.{◌≡◌, refl, sym, ap, ◌∙◌, subst}
+use mathlib.Core.Path.{◌≡◌, sym, ap, ◌∙◌, subst}
 use mathlib.Core.Bool.{Bool}
 use lib.Dec.{T}
-use lib.Ieee.{Float, nan, binary64, fits, of_bits, lt, eq, div}
+use lib.Ieee.{Float, binary64, fits, of_bits, lt, eq}
 use lib.Ieee.Bits.{of_bits-to_bits}
 use Rattle.roots.specs.Root.{square_root}
-use Rattle.roots.proofs.Pattern.{above_number, positive_bits}
+use Rattle.roots.proofs.Pattern.{positive_bits}
 use Rattle.roots.proofs.Cases.{none, none_is, below_infinity, at_infinity, at_zero, elsewhere}
 use Rattle.roots.proofs.sqrt.Goals as goal
 use Rattle.roots.proofs.sqrt.Goals.{Start}
@@ -20,13 +20,6 @@ is_above x h = ap (λ (z : Float). lt z x) (sym none_is) ∙ h
 
 is_zero : (x : Float) {b : Bool} → eq x (of_bits binary64 0) ≡ b → eq x none ≡ b
 is_zero x h = ap (eq x) (sym none_is) ∙ h
-
-no_number : div binary64 (of_bits binary64 0) (of_bits binary64 0) ≡ nan
-unfolding div of_bits
-no_number = refl
-
-pub float_to_bits-b : goal.float_to_bits-b
-float_to_bits-b c = above_number (of_bits binary64 0) c.args.x c.if-x.true
 
 pub root_of_bits-requires : goal.root_of_bits-requires
 root_of_bits-requires c =
@@ -45,4 +38,5 @@ pub returns-then-x-2 : goal.returns-then-x-2
 returns-then-x-2 c = at_zero c.args.x (is_zero c.args.x c.if-x-2.true)
 
 pub returns : goal.returns
-returns c = no_number ∙ elsewhere c.args.x (is_above c.args.x c.if-x.false) (is_zero c.args.x c.if-x-2.false)
+unfolding of_bits
+returns c = elsewhere c.args.x (is_above c.args.x c.if-x.false) (is_zero c.args.x c.if-x-2.false)

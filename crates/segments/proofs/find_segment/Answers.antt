@@ -1,69 +1,37 @@
--- `find_segment` meets its contract. The loop's invariant: the sectors so far stand in their places.
-use mathlib.Core.Path.{◌≡◌, refl, sym, ap, subst, ◌∙◌}
-use mathlib.Core.List.{[]}
-use Prim.Native.Nat.{ℕ, ◌≤◌, ◌<◌}
-use native.Mathlib.Omega.{arith}
-use Rattle.objects.specs.Records.{records_from, segment_at, sectors_of, no_segment, sector_places}
-use Rattle.objects.proofs.Places.{none_filled, one_filled}
-use Rattle.segments.specs.Segments.{place_of}
-use Rattle.segments.specs.FoundSegment.{place_index, segment_found}
-use Rattle.segments.proofs.Places.{index_taken, found_in_table}
+-- `find_segment` meets its contract: the table holds the list's sectors, and the walk along it ends at one of them or says why not.
+use Rattle.std.proofs.Common.{◌≡◌, ◌<◌, ◌≤◌, sym, ap, ◌∙◌, arith}
+use Rattle.std.proofs.lemmas.Result.{err_from_is_err_and}
+use Rattle.objects.specs.Records.{no_segment, segment_at, sector_places, sectors_of}
+use Rattle.objects.proofs.Places.{none_filled, one_filled, sectors_taken}
+use Rattle.segments.specs.Segments.{place_of, segment_in, segment_of}
+use Rattle.segments.proofs.Places.{found_in_table}
 use Rattle.segments.proofs.find_segment.Goals as goal
-
-pub returns-then-n-eq0 : goal.returns-then-n-eq0
-unfolding segment_found sectors_of records_from place_of place_index
-returns-then-n-eq0 c =
-    let l = c.args.sectors.now in
-    let none : sectors_of l ≡ [] = ap (records_from (segment_at l) 0) (sym c.sector_count-n.ensures ∙ c.if-n-eq0.true) in
-    rw (none, c.no_segment.ensures) refl
+use Rattle.segments.proofs.find_segment.Goals.{After-from_residual, In_ok-place}
 
 pub loop-i-init : goal.loop-i-init
 unfolding sector_places
-loop-i-init c =
-    let s = c.before.before.before.before in
-    let count = c.sector_count-n.ensures in
-    (omega arith, subst (λ (n : ℕ). n ≤ 36) (sym count) s.requires.few, count, c.no_sectors-places.ensures ∙ none_filled (segment_at s.args.sectors.now) no_segment 36)
-
-pub segment_at-requires : goal.segment_at-requires
-segment_at-requires c = let count = c.loop-i.invariant.2 in record { readable = c.requires; i_bound = omega (arith, count) }
-
-pub offset_bounds-places-i : goal.offset_bounds-places-i
-offset_bounds-places-i c = omega arith
-
-pub bounds-places-i : goal.bounds-places-i
-bounds-places-i c = omega arith
-
-pub overflow_add-i : goal.overflow_add-i
-overflow_add-i c = omega arith
-
-pub loop-i-smaller : goal.loop-i-smaller
-loop-i-smaller c = omega arith
+loop-i-init c = c.no_sectors-places.ensures ∙ none_filled (segment_at c.args.sectors.bytes.now) no_segment 36
 
 pub loop-i-preserved : goal.loop-i-preserved
 unfolding sector_places
 loop-i-preserved c =
-    let q = c.loop-i in
-    let l = c.args.sectors.now in
-    let few : q.i < 36 = omega arith in
-    (omega arith, q.invariant.1, q.invariant.2, rw (q.invariant.3, c.segment_at.ensures) (one_filled (segment_at l) no_segment 36 q.i few))
+    let few : c.count-n.result ≤ 36 = c.count-n.ensures.few in
+    let fits : c.loop-i.i < 36 = omega arith in
+    rw (c.loop-i.invariant, c.at.ensures) (one_filled (segment_at c.args.sectors.bytes.now) no_segment 36 c.loop-i.i fits)
 
-pub segment_in-ends_at-requires : goal.segment_in-ends_at-requires
-segment_in-ends_at-requires c = c.loop-i.invariant.1
-
-fits : (c : goal.After-place_index-index) → c.place_index-index.result < 36
-fits c =
-    let q = c.loop-i in
-    subst (λ (i : ℕ). i < 36) (sym (c.place_index-index.ensures ∙ ap place_index c.segment_in-ends_at.ensures)) (index_taken _ _ 36 q.places q.invariant.1 (omega arith))
-
-pub offset_bounds-places-index : goal.offset_bounds-places-index
-offset_bounds-places-index c = let h = fits c in omega (arith, h)
-
-pub bounds-places-index : goal.bounds-places-index
-bounds-places-index c = fits c
+pub returns-in_err-place : goal.returns-in_err-place
+unfolding segment_of segment_in
+returns-in_err-place c =
+    let l = c.args.sectors.bytes.now in
+    let all : c.loop-i.i ≡ c.count-n.result = omega arith in
+    let table = sectors_taken l c.count-n.result c.loop-i.places c.count-n.ensures.count c.count-n.ensures.few (c.loop-i.invariant ∙ ap (sector_places l) all) in
+    let place = sym c.in_err-place.was ∙ c.get_segment.ensures.place ∙ ap (place_of c.args.azimuth) table in
+    let p = err_from_is_err_and c.from_residual.result c.from_residual.ensures.1 in
+    rw (p.1, p.2) (ap (segment_in (sectors_of l)) place)
 
 pub returns : goal.returns
 returns c =
-    let q = c.loop-i in
-    let l = c.args.sectors.now in
-    let all : q.i ≡ c.sector_count-n.result = omega arith in
-    found_in_table _ l _ _ q.places _ _ q.invariant.2 q.invariant.1 (q.invariant.3 ∙ ap (sector_places l) all) c.segment_in-ends_at.ensures c.place_index-index.ensures
+    let l = c.args.sectors.bytes.now in
+    let all : c.loop-i.i ≡ c.count-n.result = omega arith in
+    sym (found_in_table c.args.azimuth l c.count-n.result c.in_ok-place.place c.loop-i.places _ c.count-n.ensures.count c.count-n.ensures.few
+    (c.loop-i.invariant ∙ ap (sector_places l) all) (sym c.get_segment.ensures.place ∙ c.in_ok-place.was))

@@ -5,11 +5,11 @@ use Rattle.doubles.specs.Arithmetic.{whole}
 use Rattle.edges.specs.Shades.{three_hours}
 use Rattle.edges.proofs.shades.three_hours.Goals as goal
 
-pub slice_bounds-run_job-end-4 : goal.slice_bounds-run_job-end-4
-slice_bounds-run_job-end-4 c = c.whole_horizon-sectors.ensures.1
+pub slice_bounds-job-end-4 : goal.slice_bounds-job-end-4
+slice_bounds-job-end-4 c = c.whole_horizon-sectors.ensures.1
 
-pub slice_bounds-run_job-end-5 : goal.slice_bounds-run_job-end-5
-slice_bounds-run_job-end-5 c = c.whole_horizon-sectors.ensures.1
+pub slice_bounds-job-end-5 : goal.slice_bounds-job-end-5
+slice_bounds-job-end-5 c = c.whole_horizon-sectors.ensures.1
 
 pub returns : goal.returns
 unfolding three_hours of_bits whole

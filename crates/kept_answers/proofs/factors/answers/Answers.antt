@@ -4,10 +4,10 @@ use Rattle.doubles.specs.Arithmetic.{whole}
 use Rattle.kept_answers.specs.Differs.{factor_kept}
 use Rattle.kept_answers.proofs.factors.answers.Goals as goal
 
-pub returns-in-Factor : goal.returns-in-Factor
+pub returns-in-Ok : goal.returns-in-Ok
 unfolding factor_kept
-returns-in-Factor c = rw (c.is_answer.ensures, c.in-Factor.is)
+returns-in-Ok c = rw (c.is_answer.ensures, c.in-Ok.is)
 
-pub returns-in-Refused : goal.returns-in-Refused
+pub returns-in-Err : goal.returns-in-Err
 unfolding factor_kept of_bits whole
-returns-in-Refused c = rw (c.is_answer-in-Refused.ensures, c.number_of.ensures, c.in-Refused.is)
+returns-in-Err c = rw (c.is_answer-in-Err.ensures, c.from.ensures, c.in-Err.is)

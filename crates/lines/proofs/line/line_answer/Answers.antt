@@ -1,14 +1,14 @@
--- `line_answer` meets its contract.
-use mathlib.Core.Path.{refl, ◌∙◌, sym}
+use mathlib.Core.Path.{refl, sym, ◌∙◌}
 use Rattle.lines.specs.Line.{line_answer}
+use Rattle.lines.proofs.Values.{found, not_found}
 use Rattle.lines.proofs.line.line_answer.Goals as goal
 
-pub returns-then-not-line_fine : goal.returns-then-not-line_fine
+pub returns-in_default : goal.returns-in_default
 unfolding line_answer
-returns-then-not-line_fine c = rw (sym c.line_fine.ensures ∙ c.if-not-line_fine.true) refl
+returns-in_default c = rw (not_found c.args.line.now (sym c.in_default.ensures)) refl
 
 pub returns : goal.returns
 unfolding line_answer
 returns c =
-    let fine = sym c.line_fine.ensures ∙ c.if-not-line_fine.false in
-    c.listed_factor.ensures ∙ rw (fine, c.value_at.ensures, c.value_at-2.ensures, c.value_at-3.ensures, c.value_at-4.ensures, c.value_at-5.ensures, c.value_at-6.ensures, c.value_at-7.ensures, c.value_at-8.ensures, c.value_at-9.ensures, c.value_at-10.ensures) refl
+    let p = found c.args.line.now c.in-Some.values (sym c.in-Some.ensures) in
+    c.listed_factor.ensures ∙ rw (p.0, ← p.1) refl

@@ -1,11 +1,8 @@
--- `sectors_of` meets its contract. The loop's invariant: the sectors so far stand in their places.
+-- The loop's invariant: the sectors so far stand in their places.
 use mathlib.Core.Path.{◌≡◌}
-use Prim.Native.Nat.{◌-◌, ◌≤◌}
+use Prim.Native.Nat.{◌≤◌}
 use Rattle.objects.specs.Records.{sector_places}
 use Rattle.objects.proofs.records.sectors_of.Given as goal
 
 abbrev pub invariant-loop-i : goal.invariant-loop-i
-invariant-loop-i l = (l.i ≤ l.n) × (l.n ≤ 36) × (l.places ≡ sector_places l.bytes l.i)
-
-abbrev pub decreases-loop-i : goal.decreases-loop-i
-decreases-loop-i l = l.n - l.i
+invariant-loop-i l = (l.n ≤ 36) × (l.places ≡ sector_places l.bytes l.i)

@@ -6,7 +6,7 @@ use Rattle.objects.proofs.records.window_object_at.Goals as goal
 pub returns : goal.returns
 unfolding window_object_at
 returns c =
-    let kind = c.window_kind-object_type.ensures ∙ ap window_kind c.word_at.ensures in
+    let kind = c.from-object_type.ensures ∙ ap window_kind c.word_at.ensures in
     let size = c.double_at-size.ensures in
     let distance = c.double_at-distance.ensures in
     let transparency = c.double_at-transparency.ensures in

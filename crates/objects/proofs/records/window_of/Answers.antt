@@ -1,4 +1,4 @@
--- `window_of` meets its contract. The loop's invariant: the objects so far stand in their places.
+-- `window_of` meets its contract.
 use mathlib.Core.Path.{◌≡◌, refl, sym, ap, ◌∙◌, subst}
 use Prim.Native.Nat.{ℕ, ◌/◌, ◌≤◌, ◌<◌}
 use native.Mathlib.Omega.{arith}
@@ -8,35 +8,18 @@ use Rattle.objects.proofs.records.window_of.Goals as goal
 
 pub loop-i-init : goal.loop-i-init
 unfolding window_count
-loop-i-init c =
-    let s = c.before.before.before in (
-      omega arith,
-      subst (λ (n : ℕ). n / 4 ≤ 16) (sym c.word_count-n.ensures) s.requires,
-      refl,
-      c.no_window_objects-blanks.ensures ∙ none_filled (window_object_at s.args.bytes.now) no_window_object 16,
-    )
-
-pub window_object_at-requires : goal.window_object_at-requires
-window_object_at-requires c = omega arith
-
-pub offset_bounds-window-i : goal.offset_bounds-window-i
-offset_bounds-window-i c = omega arith
-
-pub bounds-window-i : goal.bounds-window-i
-bounds-window-i c = omega arith
-
-pub overflow_add-i : goal.overflow_add-i
-overflow_add-i c = omega arith
-
-pub loop-i-smaller : goal.loop-i-smaller
-loop-i-smaller c = omega arith
+loop-i-init c = (
+  subst (λ (n : ℕ). n / 4 ≤ 16) (sym c.word_count-n.ensures) c.requires,
+  refl,
+  c.no_window_objects.ensures ∙ none_filled (window_object_at c.args.bytes.now) no_window_object 16,
+)
 
 pub loop-i-preserved : goal.loop-i-preserved
 loop-i-preserved c =
     let q = c.loop-i in
     let l = c.args.bytes.now in
     let few : q.i < 16 = omega arith in
-    (omega arith, q.invariant.1, q.invariant.2, rw (q.invariant.3, c.window_object_at.ensures) (one_filled (window_object_at l) no_window_object 16 q.i few))
+    (q.invariant.0, q.invariant.1, rw (q.invariant.2, c.window_object_at.ensures) (one_filled (window_object_at l) no_window_object 16 q.i few))
 
 pub returns : goal.returns
 unfolding window_of window_count
@@ -45,4 +28,4 @@ returns c =
     let l = c.args.bytes.now in
     let e = ap (λ (n : ℕ). n / 4) c.word_count-n.ensures in
     let all : q.i ≡ window_count l = omega (arith, e) in
-    λ k. record { count = (q.invariant.2 ∙ e) k; objects = (q.invariant.3 ∙ ap (filled (window_object_at l) no_window_object 16) all) k }
+    λ k. record { count = (q.invariant.1 ∙ e) k; objects = (q.invariant.2 ∙ ap (filled (window_object_at l) no_window_object 16) all) k }

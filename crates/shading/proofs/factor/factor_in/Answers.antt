@@ -1,22 +1,23 @@
+use Rattle.std.specs.Prelude.{Ok}
 use mathlib.Core.Path.{◌≡◌, ap}
-use Rattle.objects.specs.declared.answers.FactorAnswer.TheVariants.{Factor}
-use Rattle.objects.specs.Objects.{counted, placed}
+use Rattle.objects.specs.Objects.{counted}
 use Rattle.shading.specs.Factor.{factor_in, reduction_factor, overhang_shade, sunlit_height, sunlit_width}
 use Rattle.doubles.proofs.Lists.{largest_append}
 use Rattle.shading.proofs.factor.factor_in.Goals as goal
 
-pub returns-then-reveal : goal.returns-then-reveal
+pub returns-then-near : goal.returns-then-near
 unfolding factor_in
-returns-then-reveal c = rw (← c.window_shades-near.ensures.3, c.if-reveal.true)
+returns-then-near c = rw (← c.window_shades-near.ensures.3, c.if-near.true)
 
 -- the factor, part by part
-reduced : (c : goal.After-least_factor-factor) → c.least_factor-factor.result ≡ reduction_factor c.args.surface c.args.sun (counted c.args.segment) (placed c.args.window)
+reduced : (c : goal.After-least_factor-factor) → c.least_factor-factor.result ≡ reduction_factor c.args.surface c.args.sun (counted c.args.segment.now) c.args.window.now
 unfolding reduction_factor overhang_shade sunlit_height sunlit_width
 reduced c =
     let w = c.window_shades-near.ensures in
     let d = c.distant_shades-distant.ensures in
     rw (
       largest_append,
+      ← c.objects.ensures,
       ← d.0,
       ← d.1,
       ← w.0,
@@ -34,4 +35,4 @@ reduced c =
 
 pub returns : goal.returns
 unfolding factor_in
-returns c = rw (← c.window_shades-near.ensures.3, c.if-reveal.false) (ap Factor (reduced c))
+returns c = rw (← c.window_shades-near.ensures.3, c.if-near.false) (ap Ok (reduced c))

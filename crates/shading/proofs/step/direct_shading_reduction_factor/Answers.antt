@@ -1,33 +1,25 @@
-use mathlib.Core.Path.{sym, ap, subst, ◌∙◌}
-use lib.Dec.{T}
+use Rattle.std.proofs.Common.{subst, sym, ap, ◌∙◌, T}
+use Rattle.std.proofs.lemmas.Result.{err_from_is_err_and}
 use lib.Ieee.{of_bits}
 use Rattle.doubles.specs.Arithmetic.{whole}
 use Rattle.objects.specs.Objects.{placed}
-use Rattle.objects.specs.Records.{sectors_of}
-use Rattle.object_checks.proofs.ReadableSectors.{readable}
-use Rattle.object_checks.proofs.AcceptedWindow.{window_count_lem, window_places}
-use Rattle.shading.specs.Factor.{shading_factor}
-use Rattle.shading.proofs.SunPlaces.{factor_by_found}
+use Rattle.object_checks.proofs.AcceptedWindow.{window_places}
+use Rattle.shading.specs.Factor.{factor_in, shading_factor}
 use Rattle.shading.proofs.step.direct_shading_reduction_factor.Goals as goal
 
 pub returns-then-outside_solar_beam : goal.returns-then-outside_solar_beam
 unfolding shading_factor whole of_bits
 returns-then-outside_solar_beam c = rw (← c.outside_solar_beam.ensures, c.if-outside_solar_beam.true)
 
-pub find_segment-found-requires : goal.find_segment-found-requires
-find_segment-found-requires c = let s = c.before.before.before.before in readable s.args.sectors.now (subst T (sym s.requires.sectors_value) tt)
-
-pub window_of-objects-requires : goal.window_of-objects-requires
-window_of-objects-requires c = let s = c.before.before.before.before.before.before in window_count_lem s.args.window.now (subst T (sym s.requires.window_value) tt)
+pub returns-in_err-segment : goal.returns-in_err-segment
+unfolding shading_factor factor_in
+returns-in_err-segment c =
+    let p = err_from_is_err_and c.from_residual.result c.from_residual.ensures.1 in
+    rw (p.1, p.2, ← c.outside_solar_beam.ensures, c.if-outside_solar_beam.false, ← c.find_segment.ensures, c.in_err-segment.was)
 
 pub returns : goal.returns
-unfolding placed
+unfolding shading_factor placed
 returns c =
-    let s = c.before.before.before.before.before.before.before.before in
-    let a = s.args in
-    let objects = ap placed c.window_of-objects.ensures ∙ window_places a.window.now (subst T (sym s.requires.window_value) tt) in
-    c.factor_at.ensures
-    ∙ factor_by_found a.edition a.surface a.altitude a.azimuth (sectors_of a.sectors.now) _
-    (sym c.outside_solar_beam.ensures ∙ c.if-outside_solar_beam.false) _
-    c.find_segment-found.ensures
-    ∙ ap (shading_factor a.edition a.surface a.altitude a.azimuth (sectors_of a.sectors.now)) objects
+    let w = c.args.window in
+    let objects = c.objects-2.ensures ∙ ap placed c.objects.ensures ∙ window_places w.bytes.now (subst T (sym w.fine) tt) in
+    rw (← c.outside_solar_beam.ensures, c.if-outside_solar_beam.false, ← c.find_segment.ensures, c.in_ok-segment.was, ← c.sun_on-sun.ensures, ← objects) c.factor_in.ensures

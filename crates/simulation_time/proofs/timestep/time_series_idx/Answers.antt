@@ -11,4 +11,4 @@ int_to_float-start_day c = let day = c.args.start_day in le→leb (day * 24) (2 
 
 pub returns : goal.returns
 unfolding whole
-returns c = c.as_usize.ensures ∙ sym (index_is c.args.time c.args.start_day c.args.time_series_step)
+returns c = c.saturating_f64_to_usize.ensures ∙ sym (index_is c.args.time c.args.start_day c.args.time_series_step)

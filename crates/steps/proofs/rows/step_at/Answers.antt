@@ -5,4 +5,4 @@ use Rattle.steps.proofs.rows.step_at.Goals as goal
 
 pub returns : goal.returns
 unfolding step_kept
-returns c = rw (c.step_row.ensures, c.read_series-reading.ensures, c.time_series_idx-index.ensures) refl
+returns c = rw (c.step_row.ensures, c.reading_at-reading.ensures, c.time_series_idx-index.ensures) refl

@@ -1,12 +1,15 @@
 -- `step_row` meets its contract.
-use mathlib.Core.Path.{refl}
+use Rattle.std.proofs.Common.{refl}
+use Rattle.std.proofs.lemmas.Result.{err_from_is_err_and}
 use Rattle.jobs.specs.Step.{row_with}
 use Rattle.steps.proofs.rows.step_row.Goals as goal
 
-pub returns-in-Refused : goal.returns-in-Refused
+pub returns-in_err-factor : goal.returns-in_err-factor
 unfolding row_with
-returns-in-Refused c = rw c.in-Refused.is refl
+returns-in_err-factor c =
+    let p = err_from_is_err_and c.from_residual.result c.from_residual.ensures.1 in
+    rw (p.1, p.2, c.in_err-factor.was) refl
 
-pub returns-in-Factor : goal.returns-in-Factor
+pub returns : goal.returns
 unfolding row_with
-returns-in-Factor c = rw (c.irradiance_kept-parts.ensures, c.in-Factor.is) refl
+returns c = rw (c.irradiance_kept-parts.ensures, c.in_ok-factor.was) refl

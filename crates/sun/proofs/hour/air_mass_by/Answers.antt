@@ -6,6 +6,6 @@ pub returns-then-altitude : goal.returns-then-altitude
 unfolding air_mass_by of_bits
 returns-then-altitude c = rw c.if-altitude.true
 
-pub returns : goal.returns
+pub returns-else-altitude : goal.returns-else-altitude
 unfolding air_mass_by of_bits
-returns c = rw (c.if-altitude.false, c.pow_minus_1_253.ensures)
+returns-else-altitude c = rw (c.if-altitude.false, c.pow_minus_1_253.ensures)

@@ -1,7 +1,0 @@
--- `add_row` meets its contract.
-use Rattle.totals.specs.Kept.{with_row_added}
-use Rattle.totals.proofs.add_row.Goals as goal
-
-pub returns : goal.returns
-unfolding with_row_added
-returns c = rw (c.with_step-day.ensures, c.with_step-month.ensures)

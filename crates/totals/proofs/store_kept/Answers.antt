@@ -1,7 +1,0 @@
--- `store_kept` meets its contract.
-use Rattle.totals.specs.Kept.{put_kept}
-use Rattle.totals.proofs.store_kept.Goals as goal
-
-pub returns : goal.returns
-unfolding put_kept
-returns c = rw (c.store_totals-2.ensures, c.store_totals.ensures)
