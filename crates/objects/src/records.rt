@@ -42,8 +42,8 @@ impl From<u64> for ShadingObjectType {
     }
 }
 
-// The triple from word k on. `Readable` and the bounds of a place stand at the leaves only: callers go by `Sectors` of `object_checks`,
-// whose invariant gives them.
+// The triple from word k on. `Readable` and the bounds of a place stand at the leaves and in `find_segment`: others go by `Sectors` of
+// `object_checks`, whose invariant gives them.
 #[tactic(auto, unfolding(words::specs::Words::word_count))]
 fn object_at(bytes: &[u8], k: usize) -> ShadingObject
     requires readable { Readable bytes.now }

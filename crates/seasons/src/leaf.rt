@@ -5,8 +5,8 @@ ghost use Rattle.object_checks.specs.Checks.{sectors_fine};
 ghost use Rattle.seasons.specs.Seasons.{in_leaf, sectors_for};
 ghost use Rattle.seasons.specs.Table.{season_table};
 
-use crate::in_leaf;
 use crate::table::SeasonTable;
+use crate::{in_leaf, sectors_for};
 use object_checks::lists::Sectors;
 use objects::answers::Refusal;
 
@@ -49,14 +49,13 @@ impl<'a> Seasons<'a> {
         in_leaf(self.first, self.last, day)
     }
 
-    // The list for a day.
+    // The list for a day: a part of the summer list or of the winter list.
     pub fn sectors(self, day: u64) -> Sectors<'a>
         ensures { result.bytes.now ≡ sectors_for self.entry.summer.bytes.now self.entry.winter.bytes.now self.entry.first self.entry.last day }
     {
-        if self.in_leaf(day) {
-            return self.summer;
-        }
-        self.winter
+        let (summer, winter) = (self.summer.bytes, self.winter.bytes);
+        let bytes = sectors_for(summer, winter, self.first, self.last, day);
+        Sectors { bytes }
     }
 
     // The table for a day.

@@ -1,11 +1,16 @@
--- `sectors` meets its contract: an accepted list has whole records only.
-use Rattle.std.proofs.Common.{sym, ◌∙◌, subst, true, false}
+-- `sectors` meets its contract: of two accepted lists the part for a day is one.
+use Rattle.std.proofs.Common.{◌≡◌, List, ℕ, sym, ◌∙◌, ap, subst, true}
 use lib.Dec.{T}
-use Rattle.seasons.proofs.Parts.{list_of_day}
+use Rattle.object_checks.specs.Checks.{sectors_fine}
+use Rattle.seasons.proofs.Parts.{of_day_lem}
 use Rattle.seasons.proofs.leaf.Seasons.sectors.Goals as goal
 
-pub returns-then-in_leaf : goal.returns-then-in_leaf
-returns-then-in_leaf c = list_of_day _ _ (subst T (sym c.args.self.summer.fine) tt) (subst T (sym c.args.self.winter.fine) tt) _ _ _ true (sym c.in_leaf.ensures ∙ c.if-in_leaf.true)
-
-pub returns : goal.returns
-returns c = list_of_day _ _ (subst T (sym c.args.self.summer.fine) tt) (subst T (sym c.args.self.winter.fine) tt) _ _ _ false (sym c.in_leaf.ensures ∙ c.if-in_leaf.false)
+pub invariant_of-result : goal.invariant_of-result
+invariant_of-result c =
+    let summer = c.args.self.summer.fine in
+    let winter = c.args.self.winter.fine in
+    record {
+      fine = ap sectors_fine c.sectors_for-bytes.ensures
+          ∙ of_day_lem _ _ (subst T (sym summer) tt) (subst T (sym winter) tt) (λ (l : List ℕ). sectors_fine l ≡ true) summer winter
+          c.args.self.first c.args.self.last c.args.day;
+    }
