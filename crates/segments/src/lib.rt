@@ -2,10 +2,10 @@
 #![tactic(auto)]
 
 ghost use Rattle.std.specs.Prelude.{◌≡◌, ◌<◌, length, IfOk};
-ghost use Rattle.objects.specs.Records.{sectors_of};
-ghost use Rattle.segments.specs.Segments.{between_ends, place_of, segment_of};
+ghost use Rattle.objects.specs.Records.{Readable, sectors_of};
+ghost use Rattle.segments.specs.Segments.{between_ends, place_of};
+ghost use Rattle.segments.specs.FoundSegment.{segment_found};
 
-use object_checks::lists::Sectors;
 use objects::answers::Refusal;
 use objects::records;
 use objects::sectors::ShadingSegment;
@@ -40,16 +40,28 @@ pub fn get_segment(azimuth: f64, sectors: &[ShadingSegment]) -> Result<usize, Re
     Err(Refusal::NoSector)
 }
 
-// The sector with the sun in an accepted list, or why there is none, for a single sun. The table is filled here, since one that comes
-// from a function is copied once more.
-pub fn find_segment(azimuth: f64, sectors: Sectors) -> Result<ShadingSegment, Refusal>
-    ensures { result ≡ segment_of azimuth (sectors_of sectors.entry.bytes.now) }
+// The sector with the sun, and its place.
+#[derive(Clone, Copy)]
+pub struct FoundSegment {
+    pub place: usize,
+    pub segment: ShadingSegment,
+}
+
+// The sector with the sun in a checked list, or why there is none, for a single sun. The table is filled here, since one that comes
+// from a function is copied once more. A list without a sector is turned down before it, since to clear the table takes about 100 ns.
+pub fn find_segment(azimuth: f64, sectors: &[u8]) -> Result<FoundSegment, Refusal>
+    requires { Readable sectors.now }
+    ensures { result ≡ segment_found azimuth (sectors_of sectors.now) }
 {
-    let n = sectors.count();
+    let n = records::sector_count(sectors);
+    if n == 0 {
+        return Err(Refusal::NoSector);
+    }
     let mut places = records::no_sectors();
     for i in 0..n {
-        places[i] = sectors.at(i);
+        places[i] = records::segment_at(sectors, i);
     }
     let place = get_segment(azimuth, &places[..n])?;
-    Ok(places[place])
+    let segment = places[place];
+    Ok(FoundSegment { place, segment })
 }

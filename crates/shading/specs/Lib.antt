@@ -1,3 +1,4 @@
 pub mod Factor
 pub mod ObjectSteps
+pub mod SunPlaces
 pub mod Call

@@ -48,9 +48,9 @@ pub fn direct_shading_reduction_factor(
     if outside_solar_beam(surface.tilt, surface.orientation, altitude, azimuth) {
         return Ok(1.0);
     }
-    let segment = find_segment(azimuth, sectors)?;
+    let found = find_segment(azimuth, sectors.bytes)?;
     let sun = sun_on(edition, surface, altitude, azimuth);
-    factor_in(surface, sun, &segment, window.objects().objects())
+    factor_in(surface, sun, &found.segment, window.objects().objects())
 }
 
 // Whether a sun that is named in a call is in its range.

@@ -16,6 +16,7 @@ use Rattle.beam.specs.Beam.{outside_solar_beam}
 use Rattle.segments.specs.Segments.{segment_of}
 use Rattle.shading.specs.declared.sun_on_surface.SunOnSurface.{SunOnSurface}
 use Rattle.shading.specs.Factor.{sun_on, factor_in, shading_factor}
+use Rattle.shading.proofs.SunPlaces.{inside_by_sector}
 use Rattle.strips.specs.declared.glazing.TallGlazing.{TallGlazing}
 use Rattle.strips.specs.Strips.{strip_of, heights_of, strips_of, strips_fine, mean_factor, strips_factor}
 use Rattle.strips.proofs.Means.{no_sums, mean_one, mean_refused, mean_same}
@@ -39,16 +40,23 @@ module _ (glazing : TallGlazing) (heights : List ℕ) (t : T (strips_fine glazin
         (strip_has glazing (λ s. shading_factor edition s altitude azimuth sectors window ≡ Ok (whole 1)) (λ base height. rw e refl) (heights_of heights) glazing.base_height)
 
     module _ (inside : outside_solar_beam glazing.tilt glazing.orientation altitude azimuth ≡ false) where
+      -- at a strip, by the sector that has the sun, or why there is none
+      strip_there : (r : Result ShadingSegment Refusal) → segment_of azimuth sectors ≡ r → (base height : Float)
+          → factor_in (strip_of glazing base height) (sun_on edition (strip_of glazing base height) altitude azimuth) window r
+          ≡ shading_factor edition (strip_of glazing base height) altitude azimuth sectors window
+      unfolding strip_of
+      strip_there r e base height = inside_by_sector edition (strip_of glazing base height) altitude azimuth window inside sectors r e
+
       -- a walk that comes to no sector turns every strip down alike
       pub walk_refused : (r : Refusal) → segment_of azimuth sectors ≡ Err r → Err r ≡ strips_factor edition altitude azimuth (strips_of glazing heights) sectors window
-      unfolding strips_factor shading_factor factor_in strip_of
-      walk_refused r e = lowest_refused (λ strip. shading_factor edition strip altitude azimuth sectors window) r (rw (inside, e) refl)
+      unfolding strips_factor factor_in
+      walk_refused r e = lowest_refused (λ strip. shading_factor edition strip altitude azimuth sectors window) r (sym (strip_there (Err r) e _ _))
 
       -- the sun is the same to every strip
       pub found_mean : (s : ShadingSegment) → segment_of azimuth sectors ≡ Ok s → (sun : SunOnSurface) (base height : Float) → sun ≡ sun_on edition (strip_of glazing base height) altitude azimuth
           → mean_factor (λ strip. factor_in strip sun window (Ok s)) (strips_of glazing heights) ≡ strips_factor edition altitude azimuth (strips_of glazing heights) sectors window
-      unfolding strips_factor mean_factor shading_factor sun_on strip_of strips_of
+      unfolding strips_factor mean_factor sun_on strip_of strips_of
       found_mean s e sun base height k =
           mean_same (λ strip. factor_in strip sun window (Ok s)) (λ strip. shading_factor edition strip altitude azimuth sectors window) (strips_of glazing heights) (whole 0) (whole 0)
           (strip_has glazing (λ strip. factor_in strip sun window (Ok s) ≡ shading_factor edition strip altitude azimuth sectors window)
-          (λ b h. rw (k, inside, e) refl) (heights_of heights) glazing.base_height)
+          (λ b h. rw k (strip_there (Ok s) e b h)) (heights_of heights) glazing.base_height)

@@ -56,10 +56,16 @@ pub fn strips_factor(
     if outside_solar_beam(glazing.tilt, glazing.orientation, altitude, azimuth) {
         return Ok(1.0);
     }
-    let segment = find_segment(azimuth, sectors)?;
+    let found = find_segment(azimuth, sectors.bytes)?;
     let lowest = strip_of(glazing, glazing.base_height, double_at(heights, 0));
     let sun = sun_on(edition, lowest, altitude, azimuth);
-    mean_in(glazing, heights, sun, &segment, window.objects().objects())
+    mean_in(
+        glazing,
+        heights,
+        sun,
+        &found.segment,
+        window.objects().objects(),
+    )
 }
 
 // The factor for any edition, sun, glazing, strips and lists, each checked here. Altitude and azimuth, from south, are in degrees.

@@ -1,11 +1,11 @@
-use Rattle.std.proofs.Common.{[], sym, ◌∙◌}
+use Rattle.std.proofs.Common.{ℕ, [], get_or, sym, ◌∙◌}
 use Rattle.std.proofs.lemmas.Result.{err_from_is_err_and}
 use lib.Ieee.{of_bits, nan}
 use Rattle.objects.specs.declared.sectors.ShadingSegment.{ShadingSegment}
 use Rattle.doubles.specs.Arithmetic.{whole}
-use Rattle.segments.specs.Segments.{segment_in, segment_of}
 use Rattle.segments.proofs.Places.{place_record}
 use Rattle.shading.specs.Factor.{factor_in, shading_factor}
+use Rattle.shading.proofs.SunPlaces.{inside_by_place}
 use Rattle.shading.proofs.step.factor_of.Goals as goal
 
 -- what a place outside the list stands for
@@ -17,14 +17,20 @@ unfolding shading_factor whole of_bits
 returns-then-outside_solar_beam c = rw (← c.outside_solar_beam.ensures, c.if-outside_solar_beam.true)
 
 pub returns-in_err-place : goal.returns-in_err-place
-unfolding shading_factor factor_in segment_of segment_in
+unfolding factor_in
 returns-in_err-place c =
+    let a = c.args in
+    let l = a.sectors.now in
     let p = err_from_is_err_and c.from_residual.result c.from_residual.ensures.1 in
-    rw (p.1, p.2, ← c.outside_solar_beam.ensures, c.if-outside_solar_beam.false, ← c.get_segment.ensures.place, c.in_err-place.was)
+    rw (p.1, p.2)
+    (inside_by_place a.edition a.surface a.altitude a.azimuth a.window.now (sym c.outside_solar_beam.ensures ∙ c.if-outside_solar_beam.false) l
+    (λ (i : ℕ). get_or l i blank) (λ i there. place_record a.azimuth l i blank there) _ (sym c.in_err-place.was ∙ c.get_segment.ensures.place))
 
 pub returns : goal.returns
-unfolding shading_factor
 returns c =
     let a = c.args in
-    let there = place_record a.azimuth a.sectors.now c.in_ok-place.place blank (sym c.get_segment.ensures.place ∙ c.in_ok-place.was) in
-    rw (← c.outside_solar_beam.ensures, c.if-outside_solar_beam.false, there, ← c.sun_on-sun.ensures) c.factor_in.ensures
+    let l = a.sectors.now in
+    c.factor_in.ensures
+    ∙ rw c.sun_on-sun.ensures
+    (inside_by_place a.edition a.surface a.altitude a.azimuth a.window.now (sym c.outside_solar_beam.ensures ∙ c.if-outside_solar_beam.false) l
+    (λ (i : ℕ). get_or l i blank) (λ i there. place_record a.azimuth l i blank there) _ (sym c.in_ok-place.was ∙ c.get_segment.ensures.place))
