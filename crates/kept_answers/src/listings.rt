@@ -3,7 +3,6 @@ ghost use Rattle.std.specs.Prelude.{◌≡◌};
 ghost use Rattle.kept_answers.specs.Differs.{is_answered_by, listing_differs};
 
 use crate::parts::list_end;
-use arrayvec::ArrayVec;
 use listing::reader::answer_text;
 use text::same_text;
 use words::word_at;
@@ -12,9 +11,9 @@ use words::word_at;
 fn is_answered_by(text: &[u8], lines: &[u8]) -> bool
     ensures { result ≡ is_answered_by text.now lines.now }
 {
-    let mut out: ArrayVec<u8, 65536> = ArrayVec::new();
-    answer_text(text, &mut out);
-    same_text(out.as_slice(), lines)
+    let mut out = [0u8; 65536];
+    let used = answer_text(text, &mut out);
+    same_text(&out[..used], lines)
 }
 
 // Whether a listing comes out otherwise than its record says.

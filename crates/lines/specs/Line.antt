@@ -1,7 +1,7 @@
 -- A line of the shade listing: ten values in, a number and a factor out.
 use Rattle.std.specs.Prelude.{Err, Float, Ok, Result}
 use Rattle.objects.specs.declared.answers.Refusal.{Refusal}
-use Rattle.std.specs.Prelude.{Bool, cond, ◌&&◌, List, [], ◌∷◌, ◌++◌, ℕ, ◌+◌, ◌*◌, ◌/◌, ◌%◌, eqb, ltb, length, get_or, replicate, map, Float, Option, Some, None}
+use Rattle.std.specs.Prelude.{Bool, cond, ◌&&◌, List, [], ◌∷◌, ◌++◌, ℕ, ◌+◌, ◌*◌, ◌/◌, ◌%◌, eqb, ltb, length, get_or, take, replicate, map, Float, Option, Some, None}
 use Rattle.std.specs.Option.{is_some, unwrap_or}
 use Rattle.std.specs.Float.{binary64}
 use Rattle.std.specs.Float.Ieee.{of_bits, to_bits}
@@ -14,6 +14,7 @@ use Rattle.std.specs.List.{list_all, range_with_len}
 use Rattle.objects.specs.Refusals.{number_of}
 use Rattle.shading.specs.Call.{factor_call}
 use Rattle.text.specs.Text.{ascii}
+use Rattle.lines.specs.declared.output.OutputLine.{OutputLine}
 
 -- ---- the values
 
@@ -70,3 +71,7 @@ numeral n = cond (ltb n 10) (digit n ∷ []) (digit (n / 10) ∷ digit (n % 10) 
 unfoldable pub output_line : Result Float Refusal → List ℕ
 output_line (Ok x) = ascii "0 " ++ (digits_of (to_bits binary64 x) ++ ascii "\n")
 output_line (Err r) = numeral (number_of r) ++ ascii " -\n"
+
+-- the code's record: its first `count` bytes
+abbrev pub bytes_of : OutputLine → List ℕ
+bytes_of o = take o.count o.bytes

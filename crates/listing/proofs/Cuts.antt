@@ -22,11 +22,6 @@ take_again zero l p = refl
 take_again (suc n) [] p = refl
 take_again (suc n) (a ∷ l) p = ap (λ (m : List ℕ). a ∷ m) (take_again n l p)
 
-pub take_twice : (n : ℕ) (l : List ℕ) → take n (take n l) ≡ take n l
-take_twice zero l = refl
-take_twice (suc n) [] = refl
-take_twice (suc n) (a ∷ l) = ap (λ (m : List ℕ). a ∷ m) (take_twice n l)
-
 -- what is the same for all texts from 170 bytes on is told by the first 170 bytes
 cut_same : {A : Type 0} (f : List ℕ → A) (x : A) → ((l : List ℕ) → 170 ≤ length l → f l ≡ x) → (l : List ℕ) → f (take 170 l) ≡ f l
 cut_same {A} f x long l = go (leb (length l) 170) refl

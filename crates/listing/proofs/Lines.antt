@@ -1,21 +1,22 @@
 -- A piece of a listing, line by line: what the loop over its lines keeps.
 use mathlib.Core.Path.{◌≡◌, refl, sym, ◌∙◌, ap}
 use mathlib.Core.Bool.{Bool, true, false, cond, not}
-use mathlib.Core.List.{List, [], ◌∷◌, ◌++◌, append-nil, append_assoc}
+use mathlib.Core.List.{List, [], ◌∷◌, ◌++◌, append-nil}
 use Prim.Native.Nat.{ℕ, suc, ◌+◌, ◌≤◌, ◌<◌}
 use native.Mathlib.Omega.{arith}
 use native.Mathlib.Numerals.{add-one}
 use borrow.Author.Tests.{eqb-true, eqb-false, ltb-false}
 use lib.Dec.{eqb, ltb}
-use lib.ListN.{length, get_or, take, drop, take-append-drop, length-drop}
+use lib.ListN.{length, get_or, take, drop, take-append-drop, length-drop, length-take}
 use lib.Seq.{drop-cons, take_all}
 use Rattle.std.proofs.Common.{Some, None}
 use Rattle.std.proofs.lemmas.List.Quantifiers.{position-Some}
 use Rattle.std.proofs.lemmas.Option.{cond_some, none-some}
 use Rattle.std.specs.List.{position_or_len}
-use Rattle.text.specs.Text.{line_end}
-use Rattle.listing.specs.Reading.{Reading, with_part, line_over, line_start, printed, read_on, printed_on}
-use Rattle.listing.proofs.Cuts.{take_again, take_twice}
+use Rattle.text.specs.Text.{filled, used_after, line_end}
+use Rattle.listing.specs.declared.reader.Reader.{Reader}
+use Rattle.listing.specs.Reading.{Reading, reading_of, with_part, line_over, line_start, printed, read_on, printed_on}
+use Rattle.text.proofs.Pieces.{length_filled, nothing_filled, used_twice, filled_twice}
 use Rattle.listing.proofs.Readings.{Unbroken, none, and_then, Passes, part_read, read_on_passes, printed_on_passes}
 
 -- ---- a line of a piece
@@ -61,17 +62,21 @@ module _ (l : List ℕ) where
 -- ---- the loop
 
 -- from a place of a piece on, all comes to the same as from its start
-pub record Goes (piece : List ℕ) (n : ℕ) (r₀ : Reading) (list : List ℕ) (r : Reading) (rest : List ℕ) : Type 0 where
+pub record Goes (piece list₀ : List ℕ) (used : ℕ) (r₀ : Reading) (list : List ℕ) (count : ℕ) (r : Reading) (rest : List ℕ) : Type 0 where
   pub inside : length rest ≤ length piece
   pub held : length r.held ≤ 170
-  pub few : list ≡ take n list
   pub reading : read_on r rest ≡ read_on r₀ piece
-  pub all : take n (list ++ printed_on r rest) ≡ take n (printed_on r₀ piece)
+  pub count_after : used_after list count (printed_on r rest) ≡ used_after list₀ used (printed_on r₀ piece)
+  pub list_after : filled list count (printed_on r rest) ≡ filled list₀ used (printed_on r₀ piece)
 
-pub starts : (piece : List ℕ) (n : ℕ) (r : Reading) → length r.held ≤ 170 → Goes piece n r [] r piece
-starts piece n r h = record { inside = omega arith; held = h; few = sym (take_all n [] (omega arith)); reading = refl; all = refl }
+-- a reader's 170 places hold no more
+pub held_few : (r : Reader) → length r.line ≡ 170 → length (reading_of r).held ≤ 170
+held_few r h = let z = length-take r.count r.line in omega (arith, z, h)
 
-module _ {piece : List ℕ} {n : ℕ} {r₀ : Reading} {list : List ℕ} {r : Reading} {rest : List ℕ} (g : Goes piece n r₀ list r rest) where
+pub starts : (piece list : List ℕ) (used : ℕ) (r : Reading) → length r.held ≤ 170 → Goes piece list used r list used r piece
+starts piece list used r h = record { inside = omega arith; held = h; reading = refl; count_after = refl; list_after = refl }
+
+module _ {piece list₀ : List ℕ} {used : ℕ} {r₀ : Reading} {list : List ℕ} {count : ℕ} {r : Reading} {rest : List ℕ} (g : Goes piece list₀ used r₀ list count r rest) where
   module _ (e : ℕ) (ends : line_end rest ≡ Some e) where
     abbrev part : List ℕ
     part = take e rest
@@ -91,19 +96,19 @@ module _ {piece : List ℕ} {n : ℕ} {r₀ : Reading} {list : List ℕ} {r : Re
     printed_line = sym (to_end printed_on_passes)
 
     -- a line has ended
-    pub line_ends : (r' r'' : Reading) (out list' : List ℕ) → r' ≡ with_part r (take e rest) → r'' ≡ line_over r' → out ≡ printed r'.stage r'.held
-        → list' ≡ take n (list ++ out) → Goes piece n r₀ list' r'' (drop (e + 1) rest)
+    pub line_ends : (r' r'' : Reading) (out list' : List ℕ) (count' : ℕ) → r' ≡ with_part r (take e rest) → r'' ≡ line_over r' → out ≡ printed r'.stage r'.held
+        → count' ≡ used_after list count out → list' ≡ filled list count out → Goes piece list₀ used r₀ list' count' r'' (drop (e + 1) rest)
     unfolding line_over line_start
-    line_ends r' r'' out list' p q o m =
+    line_ends r' r'' out list' count' p q o n m =
         let over : r'' ≡ line_over (with_part r part) = q ∙ ap line_over p in
         let says : out ≡ printed (with_part r part).stage (with_part r part).held = o ∙ ap (λ (z : Reading). printed z.stage z.held) p in
         let all : out ++ printed_on r'' next ≡ printed_on r rest = rw (says, over) printed_line in
         record {
           inside = omega (arith, g.inside, length-drop (e + 1) rest);
           held = rw over (omega arith);
-          few = rw m (sym (take_twice n (list ++ out)));
           reading = rw over (read_line ∙ g.reading);
-          all = rw m (take_again n (list ++ out) (printed_on r'' next) ∙ ap (take n) (append_assoc list out (printed_on r'' next) ∙ ap (λ (l : List ℕ). list ++ l) all) ∙ g.all);
+          count_after = rw (n, m) (used_twice list count out (printed_on r'' next) ∙ ap (used_after list count) all ∙ g.count_after);
+          list_after = rw (n, m) (filled_twice list count out (printed_on r'' next) ∙ ap (filled list count) all ∙ g.list_after);
         }
 
   -- the piece ends before the line does
@@ -115,6 +120,16 @@ module _ {piece : List ℕ} {n : ℕ} {r₀ : Reading} {list : List ℕ} {r : Re
     unfolding read_on
     ends_reading r' p = p ∙ sym (goes_on read_on_passes) ∙ g.reading
 
-    pub ends_list : list ≡ take n (printed_on r₀ piece)
+    pub ends_count : count ≡ used_after list₀ used (printed_on r₀ piece)
     unfolding printed_on
-    ends_list = g.few ∙ ap (take n) (sym (append-nil list) ∙ ap (λ (l : List ℕ). list ++ l) (sym (goes_on printed_on_passes))) ∙ g.all
+    ends_count =
+        let z : used_after list count [] ≡ used_after list₀ used (printed_on r₀ piece) = sym (ap (used_after list count) (goes_on printed_on_passes)) ∙ g.count_after in
+        omega (arith, z)
+
+    pub ends_list : list ≡ filled list₀ used (printed_on r₀ piece)
+    unfolding printed_on
+    ends_list = sym (ap (filled list count) (goes_on printed_on_passes) ∙ nothing_filled list count) ∙ g.list_after
+
+    -- the list stays as long as it was
+    pub ends_long : length list ≡ length list₀
+    ends_long = ap length ends_list ∙ length_filled list₀ used (printed_on r₀ piece)

@@ -64,6 +64,6 @@ unfoldable pub printed_on : Reading → List ℕ → List ℕ
 printed_on r [] = []
 printed_on r (b ∷ rest) = cond (eqb b 10) (printed r.stage r.held ++ printed_on (line_over r) rest) (printed_on (with_part r (b ∷ [])) rest)
 
--- a reader stands for a reading, by the first 170 bytes of its line, which has no more
+-- a reader stands for a reading: the first `count` bytes of its line are kept
 abbrev pub reading_of : Reader → Reading
-reading_of r = record { stage = r.stage; held = take 170 r.line.items }
+reading_of r = record { stage = r.stage; held = take r.count r.line }

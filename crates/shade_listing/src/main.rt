@@ -2,9 +2,9 @@
 #![tactic(auto)]
 
 ghost use Rattle.std.specs.Prelude.{◌≡◌, true, [], IfOk, MatchResult};
+ghost use Rattle.lines.specs.Line.{bytes_of};
 ghost use Rattle.listing.specs.Reading.{wants_more, last_printed, reading_of};
 
-use arrayvec::ArrayVec;
 use lines::output::OutputLine;
 use listing::reader::{Reader, Stage};
 use std::io;
@@ -29,9 +29,9 @@ fn write_out(rt: &(impl Print + Eprint), bytes: &[u8]) -> io::Result<()> {
 fn print_answers(rt: &(impl Print + Eprint), reader: &mut Reader, piece: &[u8]) -> io::Result<bool>
     ensures { IfOk result (λ going. going ≡ wants_more reader.new.stage) }
 {
-    let mut out: ArrayVec<u8, 65536> = ArrayVec::new();
-    reader.answer_piece(piece, &mut out);
-    write_out(rt, out.as_slice())?;
+    let mut out = [0u8; 65536];
+    let used = reader.answer_piece(piece, &mut out, 0);
+    write_out(rt, &out[..used])?;
     Ok(reader.wants_more())
 }
 
@@ -71,11 +71,11 @@ fn read_all(
 // What the end of the input prints. Where a read or a write has failed the listing is over: what was read of the last line may be cut
 // short, and is not answered.
 fn last_line(outcome: io::Result<()>, reader: Reader) -> OutputLine
-    ensures { MatchResult outcome (λ _. result.items ≡ last_printed reader.stage (reading_of reader).held) (λ _. result.items ≡ []) }
+    ensures { MatchResult outcome (λ _. bytes_of result ≡ last_printed reader.stage (reading_of reader).held) (λ _. bytes_of result ≡ []) }
 {
     match outcome {
         Ok(()) => reader.input_over(),
-        Err(_error) => ArrayVec::new(),
+        Err(_error) => OutputLine::nothing(),
     }
 }
 

@@ -1,8 +1,9 @@
 -- Texts as lists of bytes.
-use Rattle.std.specs.Prelude.{Bool, cond, List, [], ◌∷◌, ◌++◌, ℕ, eqb, Option, position}
+use Rattle.std.specs.Prelude.{Bool, cond, List, [], ◌∷◌, ◌++◌, ℕ, ◌+◌, ◌-◌, min, eqb, length, Option, position}
 use Rattle.std.specs.Str.{bytes_eq}
 use Prim.Native.Char.{code}
 use Prim.Native.String as string
+use Rattle.std.proofs.Math.Seq.{paste}
 
 -- the bytes of an ASCII text
 unfoldable pub ascii : string.String → List ℕ
@@ -28,3 +29,14 @@ lines_of text = lines_from [] text
 -- the place of the first line feed
 abbrev pub line_end : List ℕ → Option ℕ
 line_end = position (λ (b : ℕ). eqb b 10)
+
+-- a part put behind the first `used` bytes of a list, as far as there is room: how many bytes of it, the list afterwards, and how many
+-- of the list's bytes are used then
+abbrev pub moved : List ℕ → ℕ → List ℕ → ℕ
+moved list used part = min (length part) (length list - used)
+
+abbrev pub filled : List ℕ → ℕ → List ℕ → List ℕ
+filled list used part = paste list used part (moved list used part)
+
+abbrev pub used_after : List ℕ → ℕ → List ℕ → ℕ
+used_after list used part = used + moved list used part

@@ -1,10 +1,8 @@
 // Pieces of text.
 #![tactic(auto)]
 
-ghost use Rattle.std.specs.Prelude.{◌≡◌, ◌++◌, take};
-ghost use Rattle.text.specs.Text.{same_text, line_end};
-
-use arrayvec::ArrayVec;
+ghost use Rattle.std.specs.Prelude.{◌≡◌};
+ghost use Rattle.text.specs.Text.{same_text, filled, used_after, line_end};
 
 // The place of the first line feed.
 pub fn line_end(piece: &[u8]) -> Option<usize>
@@ -13,12 +11,17 @@ pub fn line_end(piece: &[u8]) -> Option<usize>
     piece.iter().position(|b| *b == b'\n')
 }
 
-// Puts as much of a part behind what a list holds as there is room for.
-pub fn append<const N: usize>(list: &mut ArrayVec<u8, N>, part: &[u8])
-    ensures { list.new.items ≡ take N (list.old.items ++ part.now) }
+// Puts as much of a part behind the first `count` bytes of a list as there is room for. Answers how many there are then.
+pub fn append(list: &mut [u8], count: usize, part: &[u8]) -> usize
+    ensures { (result ≡ used_after list.old count part.now)
+        × (list.new ≡ filled list.old count part.now) }
 {
-    let n = part.len().min(list.remaining_capacity());
-    let _ = list.try_extend_from_slice(&part[..n]);
+    if list.len() <= count {
+        return count;
+    }
+    let n = part.len().min(list.len() - count);
+    list[count..count + n].copy_from_slice(&part[..n]);
+    count + n
 }
 
 // As many bytes, and the same.

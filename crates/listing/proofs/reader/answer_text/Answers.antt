@@ -1,16 +1,17 @@
-use mathlib.Core.Path.{ap, ◌∙◌}
-use lib.ListN.{take}
+use mathlib.Core.Path.{◌∙◌}
 use Rattle.listing.specs.Reading.{reading_of, printed_on}
-use Rattle.listing.proofs.Cuts.{take_again}
+use Rattle.text.proofs.Pieces.{both_filled}
 use Rattle.listing.proofs.Readings.{text_answered}
 use Rattle.listing.proofs.reader.answer_text.Goals as goal
 
 pub returns : goal.returns
-returns g c =
-    let text = c.args.text.now in
-    let first = reading_of c.line_start-reader.result in
-    let last = reading_of c.answer_piece.new.self in
-    let out = c.input_over.result.items in
-    c.append.ensures
-    ∙ rw (c.answer_piece.ensures.1, c.as_slice.ensures.value) (take_again g.row.N (printed_on first text) out)
-    ∙ ap (take g.row.N) (text_answered text first last out c.line_start-reader.ensures c.answer_piece.ensures.0 c.input_over.ensures)
+returns c =
+    let a = c.args in
+    let first = c.line_start-reader in
+    let whole = c.answer_piece-used in
+    let done = c.append in
+    let r = reading_of first.result in
+    let out = c.as_slice.result.now in
+    let all = text_answered a.text.now r (reading_of whole.new.self) out first.ensures whole.ensures.0 (c.as_slice.ensures ∙ c.input_over.ensures) in
+    both_filled a.list.now 0 (printed_on r a.text.now) out _ whole.new.list done.new.list whole.result done.result whole.ensures.1 whole.ensures.2 done.ensures.0
+    done.ensures.1 all

@@ -1,10 +1,11 @@
 use mathlib.Core.Path.{◌≡◌, sym, ◌∙◌}
 use mathlib.Core.Logic.{◌≢◌}
 use native.Mathlib.Omega.{arith}
-use lib.ListN.{length, length-take}
+use lib.ListN.{length}
 use Rattle.listing.specs.declared.reader.Stage.TheVariants.{Names, Values, Over}
 use Rattle.std.proofs.Common.{inl, inr}
 use Rattle.std.proofs.lemmas.Bool.Decides.{nat_tests}
+use Rattle.listing.specs.Reading.{reading_of}
 use Rattle.listing.proofs.Readings.{last_is_printed, none_printed}
 use Rattle.listing.proofs.reader.Reader.input_over.Goals as goal
 
@@ -16,15 +17,13 @@ apart' e = cc
 
 pub returns-then-is_empty : goal.returns-then-is_empty
 returns-then-is_empty c =
-    let l = c.args.self.line.items in
-    let none : length l ≡ 0 = grind (arith, nat_tests) in
-    c.new.ensures ∙ none_printed c.args.self.stage _ c.in-Values.is (omega (arith, none, length-take 170 l))
+    let none : length (reading_of c.args.self).held ≡ 0 = grind (arith, nat_tests) in
+    c.nothing.ensures ∙ none_printed c.args.self.stage _ c.in-Values.is none
 
 pub returns-else-is_empty : goal.returns-else-is_empty
 returns-else-is_empty c =
-    let l = c.args.self.line.items in
-    let some : length l ≢ 0 = grind (arith, nat_tests) in
-    c.line_over.ensures.1 ∙ last_is_printed c.args.self.stage _ (λ _ h. some (omega (arith, h, length-take 170 l)))
+    let some : length (reading_of c.args.self).held ≢ 0 = grind (arith, nat_tests) in
+    c.line_over.ensures.1 ∙ last_is_printed c.args.self.stage _ (λ _ h. some h)
 
 pub returns-in-Names : goal.returns-in-Names
 returns-in-Names c =
