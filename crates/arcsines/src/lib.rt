@@ -6,7 +6,7 @@ ghost use Rattle.std.specs.Prelude.{◌≡◌};
 ghost use Rattle.arcsines.specs.Arcsine.{arcsine_series, complement, upward_by, arcsine, arccosine};
 ghost use Rattle.arcsines.specs.ArcsineParts.{both, magnitude, series_argument, arcsine_by};
 
-use std::f64::consts::PI;
+use doubles::PI;
 
 // Two numbers at once.
 #[derive(Clone, Copy)]

@@ -4,6 +4,9 @@
 ghost use Rattle.std.specs.Prelude.{◌≡◌};
 ghost use Rattle.doubles.specs.Functions.{min_of2, max_of2, float_min, float_max, clamp, floor_of, cube_of, to_radians, to_degrees};
 
+// The double nearest to PI, for every crate.
+pub const PI: f64 = std::f64::consts::PI;
+
 // Not the library's `min` and `max`: of two zeros these may give either, and here the definitions say which. The pairs differ in a comparison;
 // one function for both, with the comparison as a parameter, is no plainer.
 

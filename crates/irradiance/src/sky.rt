@@ -4,7 +4,7 @@ ghost use Rattle.irradiance.specs.Sky.{direct_beam, altitude_term, clearness, sk
 ghost use Rattle.irradiance.specs.Sky.{brightness_in, cut_brightness, circumsolar_brightness, horizontal_brightness, sky_of};
 
 use crate::table::coefficients_at;
-use std::f64::consts::PI;
+use doubles::PI;
 use sun::hour::Hour;
 
 // The beam at normal incidence, in W/m², by the series' value in W/m² and the sine of the sun's altitude.
