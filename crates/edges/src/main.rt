@@ -9,6 +9,7 @@ mod values;
 
 use objects::answers::Refusal;
 use simulation_time::run::Run;
+use simulation_time::steps::check_run;
 use simulation_time::timestep::{current_hour, time_series_idx};
 use std::io;
 use values::{Value, double_value, factor_value, run_value, same_value};
@@ -20,7 +21,7 @@ fn write_out(rt: &impl Print, text: &[u8]) -> io::Result<()> {
 fn write_value(rt: &impl Print, value: Value) -> io::Result<()> {
     match value {
         Ok(word) => print!(rt; "{word:016X}"),
-        Err(refusal) => print!(rt; "refused {}", u64::from(refusal)),
+        Err(number) => print!(rt; "refused {number}"),
     }
 }
 
@@ -219,13 +220,13 @@ fn editions(rt: &impl Print) -> io::Result<()> {
         rt,
         b"edition 0 refused 14",
         shades::part_factor(0, 2, 0.5, -30.0),
-        Err(Refusal::Edition),
+        Err(14),
     )?;
     compare_factor(
         rt,
         b"edition 3 and azimuth 400 refused 14",
         shades::part_factor(3, 2, 0.5, 400.0),
-        Err(Refusal::Edition),
+        Err(14),
     )
 }
 
@@ -240,13 +241,13 @@ fn sectors(rt: &impl Print) -> io::Result<()> {
         rt,
         b"sectors 0..180, 190..360: azimuth -20 refused 8",
         shades::two_sectors_factor(190.0, -20.0),
-        Err(Refusal::Gap),
+        Err(8),
     )?;
     compare_factor(
         rt,
         b"sectors 0..180, 180..360: azimuth 0 refused 10",
         shades::two_sectors_factor(180.0, 0.0),
-        Err(Refusal::NoSector),
+        Err(10),
     )
 }
 
@@ -264,13 +265,13 @@ fn leaf_days(rt: &impl Print) -> io::Result<()> {
         rt,
         b"first leaf day 366 refused 15",
         run_value(shades::three_hours(366, 0)),
-        Err(Refusal::LeafDay),
+        Err(15),
     )?;
     compare(
         rt,
         b"last leaf day 366 refused 15",
         run_value(shades::three_hours(0, 366)),
-        Err(Refusal::LeafDay),
+        Err(15),
     )?;
     compare(
         rt,
@@ -358,13 +359,10 @@ fn always_summer(rt: &impl Print) -> io::Result<()> {
     )
 }
 
-// How many steps a run has.
+// How many steps a run has, in a year of 8760 hours.
 fn step_count(start: f64, end: f64, step: f64) -> Value {
     let run = Run { start, end, step };
-    match simulation_time::steps::step_count(run) {
-        Some(count) => Ok(count),
-        None => Err(Refusal::Run),
-    }
+    check_run(run, 8760).ok_or(u64::from(Refusal::Run))
 }
 
 fn step_counts(rt: &impl Print) -> io::Result<()> {

@@ -8,8 +8,8 @@ use jobs::answers::{Accepted, RefusedAt};
 use objects::answers::Refusal;
 use std::num::f64_to_bits_with_nan;
 
-// The bits of a double or a count, or why there is none.
-pub type Value = Result<u64, Refusal>;
+// The bits of a double or a count, or the number of the refusal.
+pub type Value = Result<u64, u64>;
 
 // A double, by its bits.
 pub fn double_value(x: f64) -> Value
@@ -18,7 +18,7 @@ pub fn double_value(x: f64) -> Value
     Ok(f64_to_bits_with_nan(x))
 }
 
-// A factor by its bits, or the refusal.
+// A factor by its bits, or the refusal's number.
 #[tactic(auto, unfolding(crate::specs::Values::factor_value))]
 pub fn factor_value(answer: Result<f64, Refusal>) -> Value
     ensures { result ≡ factor_value answer }
@@ -26,18 +26,18 @@ pub fn factor_value(answer: Result<f64, Refusal>) -> Value
     double_value(answer?)
 }
 
-// A run's count of steps, or the refusal.
+// A run's count of steps, or the refusal's number.
 #[tactic(auto, unfolding(crate::specs::Values::run_value))]
 pub fn run_value(answer: Result<Accepted, RefusedAt>) -> Value
     ensures { result ≡ run_value answer }
 {
     match answer {
         Ok(run) => Ok(run.count),
-        Err(fault) => Err(fault.refusal),
+        Err(fault) => Err(u64::from(fault.refusal)),
     }
 }
 
-// The same word, or the same refusal.
+// The same word, or the same number.
 pub fn same_value(a: Value, b: Value) -> bool
     ensures { IsTrue result ↔ a ≡ b }
 {

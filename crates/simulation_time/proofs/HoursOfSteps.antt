@@ -1,13 +1,15 @@
 -- The hours of a run's steps, and what the check of a run says. Assumes nothing.
-use Rattle.std.proofs.Common.{◌≡◌, ℕ, zero, suc, ◌+◌, ◌-◌, ◌<◌, ◌≤◌, Bool, true, false, ◌&&◌, ◌||◌, eqb, ltb, Some, None, refl, ap, ◌∙◌, arith, le-ltb, lt-ltb}
+use Rattle.std.proofs.Common.{◌≡◌, ℕ, zero, suc, ◌+◌, ◌-◌, ◌<◌, ◌≤◌, Bool, true, false, ◌&&◌, ◌||◌, T, eqb, ltb, Some, None, sym, refl, ap, ◌∙◌, subst, arith, le-ltb, lt-ltb}
 use mathlib.Core.Bool.{and-true, and-false}
 use native.Mathlib.Decide.{dec_lt}
 use lib.Dec.{eqb-suc-zero}
 use lib.Ieee.{Float, to_unsigned}
+use lib.Ieee.Bits.{is_true}
+use lib.Ieee.Fits.{and_l}
 use Rattle.doubles.specs.Order.{◌≼◌, Fits}
 use Rattle.std.specs.Bool.{then_some}
 use Rattle.simulation_time.specs.declared.run.Run.{Run}
-use Rattle.simulation_time.specs.Steps.{step_count, time_at, times_from, times, at_all}
+use Rattle.simulation_time.specs.Steps.{run_fine, step_count, time_at, times_from, times, at_all}
 use Rattle.simulation_time.specs.Timestep.{current_hour}
 use Rattle.simulation_time.specs.RunChecks.{hour_fine, hours_fine, run_accepted, checked_run}
 use Rattle.doubles.proofs.Casts.{cast_mono, cast_floor}
@@ -57,6 +59,12 @@ module _ {run : Run} (a : Accepted run) (hours : ℕ) where
           let z : 0 + n ≡ n = omega arith in
           let last : at_all (hour_fine hours) (times_from (suc n) run.step run.start) ≡ ltb (current_hour (time_at run (0 + n))) hours = unfold time_at in by_last n 0 (omega arith) in
           rw (eqb-suc-zero n, k) (last ∙ ap (λ (i : ℕ). ltb (current_hour (time_at run i)) hours) z)
+
+-- ---- refusal 2 does not hold
+
+pub fields_fine : (hours : ℕ) (run : Run) → run_accepted hours run ≡ true → run_fine run ≡ true
+unfolding run_accepted
+fields_fine hours run h = is_true (run_fine run) (and_l (run_fine run) (hours_fine hours run) (subst T (sym h) tt))
 
 -- ---- what the check hands out
 

@@ -71,6 +71,11 @@ unfolding with_totals
 over_emptied leap run results n totals =
     ap (λ (rest : List ℕ). totals_records (totals_at_part leap run results n) (totals_count leap) 0 ++ rest) (behind_emptied leap totals)
 
+-- stored, both leave the list as long as it was
+pub length_kept : (totals : List ℕ) (kept : KeptTotals) → length (put_kept totals kept) ≡ length totals
+unfolding put_kept
+length_kept totals kept = length_put_totals _ _ _ ∙ length_put_totals totals kept.parts.day kept.day
+
 -- stored over others of the same day and month, they are what stays
 pub kept_over : (totals : List ℕ) (old new : KeptTotals) → old.parts ≡ new.parts → old.parts.day < old.parts.month
     → 24 * old.parts.month + 24 ≤ length totals → put_kept (put_kept totals old) new ≡ put_kept totals new
