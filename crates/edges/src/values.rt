@@ -18,7 +18,7 @@ pub fn double_value(x: f64) -> Value
     Ok(f64_to_bits_with_nan(x))
 }
 
-// A factor by its bits, or the refusal's number.
+// A factor by its bits, or the refusal's number, which `?` makes of it.
 #[tactic(auto, unfolding(crate::specs::Values::factor_value))]
 pub fn factor_value(answer: Result<f64, Refusal>) -> Value
     ensures { result ≡ factor_value answer }

@@ -6,7 +6,7 @@ use objects::answers::Refusal;
 use std::num::f64_to_bits_with_nan;
 use text::append;
 
-// A line with its line feed, or none: the first `count` bytes.
+// A line with its line feed, or none: the first `count` bytes. An array and no `ArrayVec`, which cannot be copied.
 #[derive(Clone, Copy)]
 pub struct OutputLine {
     pub count: usize,

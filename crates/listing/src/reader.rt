@@ -18,7 +18,7 @@ pub enum Stage {
     Over,
 }
 
-// What is kept between two pieces: the first `count` bytes of a line.
+// What is kept between two pieces: the first `count` bytes of a line, in an array so that a reader can be copied.
 #[derive(Clone, Copy)]
 pub struct Reader {
     pub stage: Stage,
